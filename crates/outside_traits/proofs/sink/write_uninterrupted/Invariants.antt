@@ -1,0 +1,6 @@
+-- So far each write was interrupted.
+use Rattle.std.specs.Io.KnownBytes.{Keeps}
+use Rattle.outside_traits.proofs.sink.write_uninterrupted.Given as goal
+
+abbrev pub invariant-loop : goal.invariant-loop
+invariant-loop g l = Keeps (g.W.Write.contents l.initial.writer) (g.W.Write.contents l.writer)

@@ -1,0 +1,21 @@
+//! Want of memory, the one answer that may come to any call that asks for memory.
+
+use std::alloc::{AllocError, AllocFailed};
+use thiserror::Error;
+
+/// Memory was asked for and refused.
+#[derive(Clone, Copy, Debug, PartialEq, Eq, Error)]
+#[error("out of memory")]
+pub struct Memory;
+
+impl From<AllocError> for Memory {
+    fn from(_error: AllocError) -> Memory {
+        Memory
+    }
+}
+
+impl<T: Drop> From<AllocFailed<T>> for Memory {
+    fn from(_error: AllocFailed<T>) -> Memory {
+        Memory
+    }
+}
