@@ -14,16 +14,16 @@ pub record TakesSoFar (old now : Lines) (piece : List ℕ) (taken : ℕ) : Type 
   pub quiet : (before : List ℕ) → Stands old before → (k : ℕ) → k < taken → items (before ++ take k piece) ≡ []
 
 -- the rest of a piece
-rest_is : (piece : List ℕ) (taken : ℕ) → take (length piece - taken) (drop taken piece) ≡ drop taken piece
+pub rest_is : (piece : List ℕ) (taken : ℕ) → take (length piece - taken) (drop taken piece) ≡ drop taken piece
 rest_is piece taken = take_all (length piece - taken) (drop taken piece) (omega (arith, length-drop taken piece))
 
 -- the bytes so far, and the next
-next : (piece : List ℕ) (taken k : ℕ) → take taken piece ++ take k (take (length piece - taken) (drop taken piece)) ≡ take (taken + k) piece
-next piece taken k =
+pub taken_next : (piece : List ℕ) (taken k : ℕ) → take taken piece ++ take k (take (length piece - taken) (drop taken piece)) ≡ take (taken + k) piece
+taken_next piece taken k =
     ap (λ p. take taken piece ++ take k p) (rest_is piece taken) ∙ ap (λ p. take taken piece ++ p) (sym (drop-take taken k piece)) ∙ ap (λ p. p ++ drop taken (take (taken + k) piece)) (sym (take-take taken (taken + k) piece (omega arith))) ∙ take-append-drop taken (take (taken + k) piece)
 
 joined : (before piece : List ℕ) (taken k : ℕ) → (before ++ take taken piece) ++ take k (take (length piece - taken) (drop taken piece)) ≡ before ++ take (taken + k) piece
-joined before piece taken k = append_assoc before (take taken piece) (take k (take (length piece - taken) (drop taken piece))) ∙ ap (λ p. before ++ p) (next piece taken k)
+joined before piece taken k = append_assoc before (take taken piece) (take k (take (length piece - taken) (drop taken piece))) ∙ ap (λ p. before ++ p) (taken_next piece taken k)
 
 module _ (old now : Lines) (piece : List ℕ) (taken count : ℕ) (so_far : TakesSoFar old now piece taken) where
   abbrev part : List ℕ

@@ -1,5 +1,5 @@
 -- The text of an answer.
-use Rattle.std.specs.Prelude.{ℕ, Bool, false, List, [], ◌∷◌, ◌++◌, codes, decimal, flat_map}
+use Rattle.std.specs.Prelude.{ℕ, ◌≤◌, length, Bool, false, List, [], ◌∷◌, ◌++◌, codes, decimal, flat_map}
 use Rattle.script_text.specs.declared.answer.Answer.{Answer}
 use Rattle.script_text.specs.declared.answer.Answer.TheVariants.{Held, Refused}
 use Rattle.script_text.specs.declared.answer.Refusal.{Refusal}
@@ -17,6 +17,13 @@ answer_lines quiet (Refused refusal) = refusal_line refusal ∷ []
 -- a line with its LF
 abbrev pub printed_line : List ℕ → List ℕ
 printed_line line = line ++ 10 ∷ []
+
+-- the most bytes of a line of an answer, with its LF
+abbrev pub longest_printed_line : ℕ
+longest_printed_line = 65536
+
+abbrev pub IsShort : List ℕ → Type 0
+IsShort line = length (printed_line line) ≤ longest_printed_line
 
 -- the text of an answer
 abbrev pub answer_text : Answer → List ℕ

@@ -1,6 +1,6 @@
 //! What a command is answered, and the text of it.
-ghost use Rattle.std.specs.Prelude.{◌≡◌, ◌∷◌, ◌+◌, ◌<◌, ◌≤◌, ◌++◌, length, vec_len, vec_capacity, OnOk, OnErr, IsOk, slice_index_or, []};
-ghost use Rattle.script_text.specs.Answer.{answer_lines, printed_line};
+ghost use Rattle.std.specs.Prelude.{◌≡◌, ◌∷◌, ◌+◌, ◌<◌, ◌≤◌, ◌++◌, length, vec_len, vec_capacity, OnOk, OnErr, IsOk, slice_index_or, [], All};
+ghost use Rattle.script_text.specs.Answer.{IsShort, answer_lines, printed_line};
 
 use itoa::Buffer;
 use rows_core::Memory;
@@ -22,13 +22,16 @@ pub enum Answer {
     Refused(Refusal),
 }
 
-/// The number of lines of the answer's text. With `quiet` row lines don't count; no answer has one yet.
+/// The number of lines of the answer's text, each of at most 65,536 bytes with its LF. With `quiet` row lines don't
+/// count; no answer has one yet.
 pub fn line_count(answer: &Answer, quiet: bool) -> u64
-    ensures { result ≡ length (answer_lines quiet answer.now) }
+    ensures count { result ≡ length (answer_lines quiet answer.now) }
+    ensures short { All IsShort (answer_lines quiet answer.now) }
 {
     let _ = quiet;
-    match answer {
-        Answer::Held(_) | Answer::Refused(_) => 1,
+    match *answer {
+        Answer::Held(_rows) => 1,
+        Answer::Refused(_) => 1,
     }
 }
 
