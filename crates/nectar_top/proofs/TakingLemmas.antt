@@ -1,5 +1,5 @@
 -- The commands of a piece of the script, one after another.
-use Rattle.std.proofs.Common.{◌≡◌, ℕ, ◌+◌, ◌-◌, ◌<◌, ◌≤◌, List, [], ◌++◌, length, take, drop, Option, sym, ap, ◌∙◌, subst, append_assoc, append-nil, take-append-drop, length-take, length-drop, arith}
+use Rattle.std.proofs.Common.{ℕ, ◌+◌, ◌-◌, ◌≤◌, List, ◌++◌, length, take, drop, Option, sym, ap, ◌∙◌, subst, append_assoc, append-nil, take-append-drop, length-take, length-drop, arith}
 use Rattle.script_text.specs.Script.{items}
 use Rattle.script_text.specs.declared.lines.Lines.{Lines}
 use Rattle.script_text.proofs.TakeLemmas.{taken_next, rest_is}

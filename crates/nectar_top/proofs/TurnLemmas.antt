@@ -1,6 +1,6 @@
 -- A run of the program from one read of the source to the next, and to its exit.
-use Rattle.std.proofs.Common.{◌≡◌, ℕ, suc, zero, ◌+◌, ◌-◌, ◌^◌, ◌<◌, ◌≤◌, min, List, [], ◌∷◌, ◌++◌, length, take, get_or, Option, Some, None, refl, sym, ap, ◌∙◌, subst, append-nil, length-append, inl, inr, arith}
-use Rattle.std.specs.Io.KnownBytes.{Consumes, IsAtEnd, Appends}
+use Rattle.std.proofs.Common.{◌≡◌, ℕ, ◌+◌, ◌≤◌, List, [], ◌∷◌, ◌++◌, length, get_or, Option, Some, None, refl, subst, length-append, inl, inr, arith}
+use Rattle.std.specs.Io.KnownBytes.{Consumes, IsAtEnd}
 use Rattle.std.proofs.KnownBytes.{Consumes-nil, Consumes-trans}
 use Rattle.outside_traits.specs.Bytes.{KeepsOrForgets, Takes}
 use Rattle.outside_traits.specs.Counts.{Rose}

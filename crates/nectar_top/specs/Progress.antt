@@ -1,5 +1,5 @@
 -- How far a run of the program has come, between its commands and within one.
-use Rattle.std.specs.Prelude.{◌≡◌, ℕ, List, [], ◌∷◌, ◌++◌, Option}
+use Rattle.std.specs.Prelude.{◌≡◌, ℕ, List, [], ◌++◌, Option}
 use Rattle.std.specs.Io.KnownBytes.{Appends}
 use Rattle.script_text.specs.Answer.{answer_text}
 use Rattle.script_text.specs.Reader.{Stands}

@@ -1,5 +1,5 @@
 -- A run of the program between two reads of the source, and at its exit.
-use Rattle.std.specs.Prelude.{◌≡◌, ℕ, ◌≤◌, List, Option, ⊤}
+use Rattle.std.specs.Prelude.{ℕ, ◌≤◌, List, Option}
 use Rattle.std.specs.Io.KnownBytes.{Consumes}
 use Rattle.outside_traits.specs.Counts.{Rose}
 use Rattle.script_text.specs.declared.lines.Lines.{Lines}

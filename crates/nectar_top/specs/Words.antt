@@ -1,5 +1,5 @@
 -- Which words the program takes.
-use Rattle.std.specs.Prelude.{ℕ, Bool, true, false, ◌==◌, not, List, [], ◌∷◌, IsTrue}
+use Rattle.std.specs.Prelude.{ℕ, Bool, false, ◌==◌, not, List, [], ◌∷◌, IsTrue}
 use Rattle.std.specs.Borrow.{Bor}
 
 -- a folder's name: not empty, and no option

@@ -1,4 +1,3 @@
-use Rattle.std.proofs.Common.{◌≡◌, ◌≤◌, length}
 use Rattle.nectar_top.specs.Turns.{shown}
 use Rattle.nectar_top.proofs.TurnLemmas.{ReadSoFar}
 use Rattle.nectar_top.proofs.program.serve.Given as goal

@@ -1,4 +1,4 @@
-use Rattle.std.proofs.Common.{◌≡◌, length, take, rules, arith, length-take}
+use Rattle.std.proofs.Common.{take, arith, length-take}
 use Rattle.nectar_top.proofs.TurnLemmas.{Reading-more, IsUnwritten-failed, IsCutOff-failed}
 use Rattle.nectar_top.proofs.program.serve_piece.Goals as goal
 

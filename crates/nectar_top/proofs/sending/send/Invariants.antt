@@ -1,6 +1,4 @@
-use Rattle.std.proofs.Common.{◌≤◌, take, flat_map, false, vec_capacity}
-use Rattle.std.specs.Io.KnownBytes.{Appends}
-use Rattle.script_text.specs.Answer.{answer_lines, printed_line}
+use Rattle.std.proofs.Common.{vec_capacity}
 use Rattle.nectar_top.proofs.SendingLemmas.{SentLines}
 use Rattle.nectar_top.proofs.sending.send.Given as goal
 

@@ -1,5 +1,4 @@
-use Rattle.std.proofs.Common.{rules}
-use Rattle.nectar_top.proofs.SendingLemmas.{SentSoFar-more, SentInPart-failed}
+use Rattle.nectar_top.proofs.SendingLemmas.{SentSoFar-more}
 use Rattle.nectar_top.proofs.sending.write_all.Goals as goal
 
 pub loop-sent-preserved : goal.loop-sent-preserved

@@ -1,4 +1,4 @@
-use Rattle.std.proofs.Common.{◌≡◌, ℕ, ◌+◌, ◌^◌, ◌<◌, ◌≤◌, Bool, List, [], ◌∷◌, ◌++◌, length, codes, decimal, get_or, All, zero, suc, subst, sym, length-append, arith, rules}
+use Rattle.std.proofs.Common.{◌≡◌, ℕ, ◌^◌, ◌<◌, Bool, [], ◌∷◌, ◌++◌, codes, decimal, All, zero, suc, subst, sym, length-append, arith, rules}
 use Rattle.std.proofs.lemmas.Fmt.{length-decimal-le}
 use Rattle.script_text.specs.Answer.{IsShort, answer_lines}
 use Rattle.script_text.specs.declared.answer.Answer.{Answer}

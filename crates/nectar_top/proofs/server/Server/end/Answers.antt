@@ -1,4 +1,3 @@
-use Rattle.std.proofs.Common.{rules}
 use Rattle.nectar_top.proofs.ProgressLemmas.{Answered-last, AnsweredInPart-last}
 use Rattle.nectar_top.proofs.ResultLemmas.{OnOk-then, OnErr-then}
 use Rattle.nectar_top.proofs.server.Server.end.Goals as goal

@@ -1,4 +1,3 @@
-use Rattle.std.proofs.Common.{subst, sym}
 use Rattle.nectar_top.proofs.ProgressLemmas.{Progress-new}
 use Rattle.nectar_top.proofs.server.Server.new.Goals as goal
 

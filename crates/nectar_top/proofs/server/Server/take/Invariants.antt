@@ -1,5 +1,4 @@
-use Rattle.std.proofs.Common.{◌≡◌, ℕ, ◌-◌, ◌≤◌, List, ◌++◌, take, length, Option}
-use Rattle.nectar_top.specs.Progress.{Progress}
+use Rattle.std.proofs.Common.{◌-◌, length}
 use Rattle.nectar_top.proofs.TakingLemmas.{TakenSoFar}
 use Rattle.nectar_top.proofs.server.Server.take.Given as goal
 

@@ -1,4 +1,4 @@
-use Rattle.std.proofs.Common.{◌≡◌, ℕ, List, ◌++◌, take, drop, length, sym, ap, ◌∙◌, subst, append_assoc, take-append-drop, rules, arith}
+use Rattle.std.proofs.Common.{◌≡◌, ◌++◌, take, drop, sym, ap, ◌∙◌, subst, append_assoc, take-append-drop, arith}
 use Rattle.std.proofs.lemmas.List.{take_all}
 use Rattle.script_text.specs.Script.{items}
 use Rattle.script_text.specs.Reader.{Stands}

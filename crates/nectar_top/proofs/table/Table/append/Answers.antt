@@ -1,8 +1,5 @@
-use Rattle.std.proofs.Common.{◌≡◌, ℕ, ℤ, List, ap, sym, ◌∙◌, length, set, get_or, rules, arith, Some, None}
+use Rattle.std.proofs.Common.{ap, sym, ◌∙◌, length, rules, arith}
 use Rattle.std.proofs.lemmas.Grind.{common_steps}
-use Rattle.std.specs.List.{position}
-use Rattle.std.specs.Prelude.{bytes_eq}
-use Rattle.script_text.proofs.OptionLemmas.{at_some}
 use Rattle.nectar_top.specs.Machine.{rows_of}
 use Rattle.nectar_top.proofs.TableLemmas.{found, made}
 use Rattle.nectar_top.proofs.table.Table.append.Goals as goal
