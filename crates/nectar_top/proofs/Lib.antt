@@ -1,3 +1,4 @@
+pub mod Examples
 pub mod ProgressLemmas
 pub mod ResultLemmas
 pub mod SendingLemmas
