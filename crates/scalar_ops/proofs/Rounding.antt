@@ -7,7 +7,7 @@ use Rattle.std.proofs.lemmas.Bool.Decides.{nat_tests}
 use Rattle.std.proofs.Math.Nat.{div-le_self, zero-div, zero-mod, mod-lt}
 use Rattle.std.proofs.Math.IntN.{pred_ℤ, pred_ℤ-*ℤ, *ℤ_comm}
 use Rattle.std.specs.Int.RustNames.{int_div, int_rem, int_lt, unsigned_abs}
-use Rattle.scalar_ops.specs.Division.{floor_div, floor_mod, is_rounded_up}
+use Rattle.scalar_ops.specs.Division.{floor_div, floor_mod, is_rounded_up, IsRest}
 use borrow.Author.Tests.{eqb-true, eqb-false}
 use mathlib.Core.Bool.{beq, true≢false}
 use lib.Signed.{mag_rem}
@@ -138,3 +138,32 @@ pub floor_mod-same : (a b : ℤ) → b ≢ pos 0 → FitsSigned w64 a → is_rou
 floor_mod-same a b n in_a up =
     let in_rem : FitsSigned w64 (int_rem a b) = record { sfits = omega (arith, in_a.sfits, mag_rem a b) } in
     to_z-of_z w64 (int_rem a b) in_rem ∙ sym (floor_mod-by_rounding a b n ∙ ap (λ t. cond t (int_rem a b +ℤ b) (int_rem a b)) up)
+
+-- the rest lies between 0 and the divisor, so the quotient is the floor
+made_up-IsRest : (a b : ℤ) → b ≢ pos 0 → (up : Bool) → is_rounded_up a b ≡ up → IsRest b (cond up (int_rem a b +ℤ b) (int_rem a b))
+made_up-IsRest (pos a) (pos b) n true e = absurd (true≢false (sym e))
+made_up-IsRest (pos a) (pos b) n false e =
+    let small = mod-lt a {m = b} (above_zero b n) in
+    (omega (arith, ints), omega (arith, ints, small))
+made_up-IsRest (pos a) (negsuc b) n true e =
+    let small = mod-lt a {m = suc b} (omega arith) in
+    let some : 0 < a % suc b = grind (arith, nat_tests) in
+    (omega (arith, ints, small, some), omega (arith, ints, small, some))
+made_up-IsRest (pos a) (negsuc b) n false e =
+    let none : a % suc b ≡ 0 = grind (arith, nat_tests) in
+    (omega (arith, ints, none), omega (arith, ints, none))
+made_up-IsRest (negsuc a) (pos b) n true e =
+    let small = mod-lt (suc a) {m = b} (above_zero b n) in
+    let some : 0 < suc a % b = grind (arith, nat_tests) in
+    (omega (arith, ints, small, some), omega (arith, ints, small, some))
+made_up-IsRest (negsuc a) (pos b) n false e =
+    let none : suc a % b ≡ 0 = grind (arith, nat_tests) in
+    let positive = above_zero b n in
+    (omega (arith, ints, none, positive), omega (arith, ints, none, positive))
+made_up-IsRest (negsuc a) (negsuc b) n true e = absurd (true≢false (sym e))
+made_up-IsRest (negsuc a) (negsuc b) n false e =
+    let small = mod-lt (suc a) {m = suc b} (omega arith) in
+    (omega (arith, ints, small), omega (arith, ints, small))
+
+pub floor_mod-IsRest : (a b : ℤ) → b ≢ pos 0 → IsRest b (floor_mod a b)
+floor_mod-IsRest a b n = subst (IsRest b) (sym (floor_mod-by_rounding a b n)) (made_up-IsRest a b n (is_rounded_up a b) refl)

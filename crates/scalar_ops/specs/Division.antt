@@ -1,6 +1,6 @@
 -- Division whose quotient is the floor.
 use Prim.Native.Nat.{zero, suc}
-use Rattle.std.specs.Prelude.{Bool, false, not, ◌==◌, ◌/◌, ◌%◌, ℤ, pos, negsuc, ◌-ℤ◌, ◌*ℤ◌}
+use Rattle.std.specs.Prelude.{Bool, false, not, ◌==◌, ◌/◌, ◌%◌, ℤ, pos, negsuc, ◌-ℤ◌, ◌*ℤ◌, ◌≤ℤ◌, ◌<ℤ◌}
 
 -- the greatest whole number at or below a / b, where b isn't 0; `negsuc n` is -(n + 1)
 abbrev pub floor_div : ℤ → ℤ → ℤ
@@ -18,3 +18,8 @@ abbrev pub is_rounded_up : ℤ → ℤ → Bool
 is_rounded_up (pos a) (negsuc b) = not (a % suc b == 0)
 is_rounded_up (negsuc a) (pos b) = not (suc a % b == 0)
 is_rounded_up _ _ = false
+
+-- from 0 up to the divisor, which is left out
+abbrev pub IsRest : ℤ → ℤ → Type 0
+IsRest (pos b) rest = (pos 0 ≤ℤ rest) × (rest <ℤ pos b)
+IsRest (negsuc b) rest = (negsuc b <ℤ rest) × (rest ≤ℤ pos 0)

@@ -1,8 +1,8 @@
 //! Division whose quotient is the floor.
-ghost use Rattle.std.specs.Prelude.{◌≡◌, ◌≢◌, pos, FitsSigned};
+ghost use Rattle.std.specs.Prelude.{◌≡◌, ◌≢◌, ℤ, pos, FitsSigned};
 ghost use Rattle.std.specs.Int.{w64};
 ghost use Rattle.std.specs.Option.{SomeIff};
-ghost use Rattle.scalar_ops.specs.Division.{floor_div, floor_mod, is_rounded_up};
+ghost use Rattle.scalar_ops.specs.Division.{floor_div, floor_mod, is_rounded_up, IsRest};
 
 /// The greatest whole number at or below the quotient; `None` exactly where it is outside of i64.
 pub fn floor_div(a: i64, b: i64) -> Option<i64>
@@ -31,6 +31,11 @@ pub fn floor_mod(a: i64, b: i64) -> i64
         a % b
     }
 }
+
+/// What is left lies between 0 and the divisor, which is left out: so the quotient is the floor.
+pub fn rest_of_the_floor()
+    ensures { (a b : ℤ) → b ≢ pos 0 → IsRest b (floor_mod a b) }
+{}
 
 /// Whether the quotient that is cut off towards 0 is above the exact one.
 fn is_rounded_up(a: i64, b: i64) -> bool

@@ -1,0 +1,2 @@
+pub mod RowSpelling
+pub mod Fields
