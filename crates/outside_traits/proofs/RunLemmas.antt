@@ -1,5 +1,5 @@
 -- Calls that follow each other: from a run and one more call to a longer run, each by one line.
-use Rattle.std.proofs.Common.{◌≡◌, ◌≢◌, ◌⊎◌, inl, inr, ⊎_elim, ℕ, ◌<◌, ◌≤◌, Bool, true, false, cond, List, ◌∙◌, subst, sym, refl, arith}
+use Rattle.std.proofs.Common.{◌≡◌, ◌≢◌, ◌⊎◌, inl, inr, ℕ, ◌<◌, ◌≤◌, Bool, true, false, cond, List, ◌∙◌, subst, sym, refl, arith}
 use Rattle.std.proofs.lemmas.Bool.{cases_lt, cases_eq}
 use Rattle.outside_traits.specs.View.{View, Now, IsImageAt, LeftSince}
 use Rattle.outside_traits.specs.Calls.{Passes, Acts, Idles, Same}
