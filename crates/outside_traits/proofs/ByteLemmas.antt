@@ -25,7 +25,7 @@ overlaid_within xs old rest bytes at place same =
     let front : take at (xs ++ (old ++ rest)) ≡ xs = take_at xs (old ++ rest) at place in
     let regroup : xs ++ (old ++ rest) ≡ (xs ++ old) ++ rest = sym (append_assoc xs old rest) in
     let back : drop (at + length bytes) (xs ++ (old ++ rest)) ≡ rest =
-        ap (λ (l : List ℕ). drop (at + length bytes) l) regroup ∙ drop_at (xs ++ old) rest (at + length bytes) (omega (arith, length-append xs old)) in
+    ap (λ (l : List ℕ). drop (at + length bytes) l) regroup ∙ drop_at (xs ++ old) rest (at + length bytes) (omega (arith, length-append xs old)) in
     rw (front, no_gap, back) (ap (λ (l : List ℕ). (l ++ bytes) ++ rest) (append-nil xs) ∙ append_assoc xs bytes rest)
 
 -- what a write of n bytes that was cut short leaves in front of it
@@ -41,12 +41,12 @@ pub torn_within : (xs old rest x : List ℕ) (at n : ℕ) → length xs ≡ at �
 torn_within xs old rest x at n place same torn =
     let regroup : xs ++ (old ++ rest) ≡ (xs ++ old) ++ rest = sym (append_assoc xs old rest) in
     let back : drop (at + n) x ≡ rest =
-        torn.after ∙ ap (λ (l : List ℕ). drop (at + n) l) regroup ∙ drop_at (xs ++ old) rest (at + n) (omega (arith, length-append xs old)) in
+    torn.after ∙ ap (λ (l : List ℕ). drop (at + n) l) regroup ∙ drop_at (xs ++ old) rest (at + n) (omega (arith, length-append xs old)) in
     let back_at : drop n (drop at x) ≡ rest = drop-drop n at x ∙ back in
     let whole : drop at x ≡ take n (drop at x) ++ rest =
-        sym (take-append-drop n (drop at x)) ∙ ap (λ (l : List ℕ). take n (drop at x) ++ l) back_at in
+    sym (take-append-drop n (drop at x)) ∙ ap (λ (l : List ℕ). take n (drop at x) ++ l) back_at in
     let long : length xs + (length old + length rest) ≤ length x =
-        omega (arith, torn.no_shorter, length-append xs (old ++ rest), length-append old rest) in
+    omega (arith, torn.no_shorter, length-append xs (old ++ rest), length-append old rest) in
     let count : length (take n (drop at x)) ≡ n = omega (arith, length-take n (drop at x), length-drop at x) in
     (take n (drop at x), count, torn_front xs (old ++ rest) x at n place torn ∙ ap (λ (l : List ℕ). xs ++ l) whole)
 
@@ -72,10 +72,10 @@ torn_done xs bytes at =
     let back : List ℕ = drop (at + length bytes) xs in
     let size : length (take at xs ++ gap) ≡ at = omega (arith, length-append (take at xs) gap, length-take at xs, length-replicate {A = ℕ} (at - length xs) 0) in
     let front : take (min at (length xs)) (((take at xs ++ gap) ++ bytes) ++ back) ≡ take at xs =
-        ap (λ (l : List ℕ). take (min at (length xs)) l) (append_assoc (take at xs ++ gap) bytes back ∙ append_assoc (take at xs) gap (bytes ++ back))
-        ∙ take_at (take at xs) (gap ++ (bytes ++ back)) (min at (length xs)) (length-take at xs) in
+    ap (λ (l : List ℕ). take (min at (length xs)) l) (append_assoc (take at xs ++ gap) bytes back ∙ append_assoc (take at xs) gap (bytes ++ back))
+    ∙ take_at (take at xs) (gap ++ (bytes ++ back)) (min at (length xs)) (length-take at xs) in
     let whole : length (((take at xs ++ gap) ++ bytes) ++ back) ≡ (at + length bytes) + (length xs - (at + length bytes)) =
-        omega (arith, length-append ((take at xs ++ gap) ++ bytes) back, length-append (take at xs ++ gap) bytes, size, length-drop (at + length bytes) xs) in
+    omega (arith, length-append ((take at xs ++ gap) ++ bytes) back, length-append (take at xs ++ gap) bytes, size, length-drop (at + length bytes) xs) in
     record {
       before = front;
       after = drop_at ((take at xs ++ gap) ++ bytes) back (at + length bytes) (omega (arith, length-append (take at xs ++ gap) bytes, size));

@@ -55,8 +55,8 @@ pub narrows_on : (u v w : View) → Narrows u v → Narrows v w → Narrows u w
 narrows_on u v w first then = record {
   time = passes_on u v w first.time then.time;
   each = λ k g x low high left. by_parts u v w first.time then.time k g x left (Now u g x)
-    (λ le was. first.each k g x low le was)
-    (λ later. first.each v.moment g x first.time.later (omega arith) (then.each k g x (omega (arith, later)) high left));
+      (λ le was. first.each k g x low le was)
+      (λ later. first.each v.moment g x first.time.later (omega arith) (then.each k g x (omega (arith, later)) high left));
   same = λ g. then.same g ∙ first.same g;
   same_there = λ g. then.same_there g ∙ first.same_there g;
 }
@@ -86,13 +86,13 @@ sync_narrows file u v acts there = record {
   time = acts.time;
   each = λ k g x low high left. elim (cases_lt u.moment k) [
     | inl later ↦ elim (cases_eq g file) [
-        | inl mine ↦
-            let at_file = subst (λ (m : ℕ). v.left_at k m x) mine left in
-            let from = acts.here k x later high at_file in
-            let now : Now u file x = subst (λ (y : List ℕ). Now u file y) (sym from.2) from.1 in
-            subst (λ (m : ℕ). Now u m x) (sym mine) now
-        | inr other ↦ acts.others k g x later high other left
-      ]
+      | inl mine ↦
+          let at_file = subst (λ (m : ℕ). v.left_at k m x) mine left in
+          let from = acts.here k x later high at_file in
+          let now : Now u file x = subst (λ (y : List ℕ). Now u file y) (sym from.2) from.1 in
+          subst (λ (m : ℕ). Now u m x) (sym mine) now
+      | inr other ↦ acts.others k g x later high other left
+    ]
     | inr early ↦ left_then u v k g x acts.time low early left
   ];
   same = λ g. elim (cases_eq g file) [
@@ -123,11 +123,11 @@ module _ (file : ℕ) where
   joined P u v w first then = record {
     time = passes_on u v w first.time then.time;
     each = λ k x low high left. by_parts u v w first.time then.time k file x left (P x)
-      (λ le was. first.each k x low le was)
-      (λ later. then.each k x (omega (arith, later)) high left);
+        (λ le was. first.each k x low le was)
+        (λ later. then.each k x (omega (arith, later)) high left);
     others = λ k g x low high other left. by_parts u v w first.time then.time k g x left (Now u g x)
-      (λ le was. first.others k g x low le other was)
-      (λ later. first.others v.moment g x first.time.later (omega arith) other (then.others k g x (omega (arith, later)) high other left));
+        (λ le was. first.others k g x low le other was)
+        (λ later. first.others v.moment g x first.time.later (omega arith) other (then.others k g x (omega (arith, later)) high other left));
     same = λ g other. then.same g other ∙ first.same g other;
     same_there = λ g other. then.same_there g other ∙ first.same_there g other;
   }
@@ -206,7 +206,7 @@ pub spans_of : (file : ℕ) (P : List ℕ → Type 0) (mine : ℕ → Type 0) (Q
 spans_of file P mine Q u v run is_mine all = record {
   time = run.time;
   each = λ k image low high left. all image (run.each k (image file) low high (left file))
-    (λ g other. run.others k g (image g) low high other (left g));
+      (λ g other. run.others k g (image g) low high other (left g));
   others = λ k g x low high other left. run.others k g x low high (not_it g other) left;
   same = λ g other. run.same g (not_it g other);
   same_there = λ g other. run.same_there g (not_it g other);
@@ -223,8 +223,8 @@ spans_on mine Q u v w first then = record {
     | inr early ↦ first.each k image low early (λ g. then.time.no_more k g (image g) early (left g))
   ];
   others = λ k g x low high other left. by_parts u v w first.time then.time k g x left (Now u g x)
-    (λ le was. first.others k g x low le other was)
-    (λ later. first.others v.moment g x first.time.later (omega arith) other (then.others k g x (omega (arith, later)) high other left));
+      (λ le was. first.others k g x low le other was)
+      (λ later. first.others v.moment g x first.time.later (omega arith) other (then.others k g x (omega (arith, later)) high other left));
   same = λ g other. then.same g other ∙ first.same g other;
   same_there = λ g other. then.same_there g other ∙ first.same_there g other;
 }

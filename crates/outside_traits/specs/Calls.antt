@@ -42,7 +42,7 @@ pub record Acts (file : ℕ) (step : List ℕ → List ℕ → Type 0) (old new 
   pub same : (g : ℕ) → g ≢ file → new.files g ≡ old.files g
   pub same_there : (g : ℕ) → g ≢ file → new.there g ≡ old.there g
   pub here : (k : ℕ) (x : List ℕ) → old.moment < k → k ≤ new.moment → new.left_at k file x
-    → (d : List ℕ) × Now old file d × step d x
+      → (d : List ℕ) × Now old file d × step d x
   pub others : (k g : ℕ) (x : List ℕ) → old.moment < k → k ≤ new.moment → g ≢ file → new.left_at k g x → Now old g x
 
 -- A call that only looks: the files, and the images now, are as before.

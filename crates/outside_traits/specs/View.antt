@@ -1,5 +1,5 @@
 -- What a store shows: what its files read as, and what a crash may leave of each of them.
-use Rattle.std.specs.Prelude.{◌≡◌, ℕ, ◌≤◌, Bool, List}
+use Rattle.std.specs.Prelude.{◌≡◌, ℕ, ◌≤◌, Bool, true, List, []}
 
 -- What contracts see of a store. Outcomes stand by moment and by file, since a crash leaves each file by itself.
 pub record View : Type 1 where
@@ -38,3 +38,7 @@ pub record Counts : Type 0 where
   pub removes : ℕ
   -- bytes that reads gave
   pub taken : ℕ
+
+-- the view of a store that tells nothing
+abbrev pub untold : View
+untold = record { files = λ file. []; there = λ file. true; moment = 0; left_at = λ k file x. Unit {0} }

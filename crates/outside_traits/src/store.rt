@@ -3,7 +3,20 @@ ghost use Rattle.std.specs.Prelude.{◌≡◌, ◌⊎◌, ℕ, ◌+◌, ◌^◌,
 ghost use Rattle.outside_traits.specs.Counts.{Rose};
 ghost use Rattle.outside_traits.specs.View.{View, Counts, Now, Only};
 ghost use Rattle.outside_traits.specs.Calls.{
-    overlaid, Torn, Shortened, Same, Gone, Acts, Idles, StayGone, NextIs, IsRead, MayRaiseReads, MayRaiseWrites, MayRaiseRemoves, Takes,
+  overlaid,
+  Torn,
+  Shortened,
+  Same,
+  Gone,
+  Acts,
+  Idles,
+  StayGone,
+  NextIs,
+  IsRead,
+  MayRaiseReads,
+  MayRaiseWrites,
+  MayRaiseRemoves,
+  Takes,
 };
 
 use crate::failed::Failed;
