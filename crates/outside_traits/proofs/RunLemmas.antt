@@ -74,6 +74,16 @@ idles_narrow u v idle = record {
   same_there = idle.same_there;
 }
 
+-- two calls that only look, one after the other
+pub idles_on : (u v w : View) → Idles u v → Idles v w → Idles u w
+idles_on u v w first then = record {
+  time = passes_on u v w first.time then.time;
+  same = λ g. then.same g ∙ first.same g;
+  same_there = λ g. then.same_there g ∙ first.same_there g;
+  no_more = λ k g x low high left. (narrows_on u v w (idles_narrow u v first) (idles_narrow v w then)).each k g x (omega (arith, low)) high left;
+  kept = λ g x now. then.kept g x (first.kept g x now);
+}
+
 -- at the moment of a call's start, what is left is what was left before the call
 left_then : (u v : View) (k g : ℕ) (x : List ℕ) → Passes u v → u.moment ≤ k → k ≤ u.moment → v.left_at k g x → Now u g x
 left_then u v k g x time low high left =
