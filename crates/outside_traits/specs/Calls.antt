@@ -72,6 +72,7 @@ pub record MayRaiseReads (old new : Counts) : Type 0 where
   pub reads : old.reads ≤ new.reads
   pub writes : new.writes ≡ old.writes
   pub removes : new.removes ≡ old.removes
+  pub taken : old.taken ≤ new.taken
 
 -- the second count alone may rise
 pub record MayRaiseWrites (old new : Counts) : Type 0 where

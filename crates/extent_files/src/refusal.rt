@@ -1,0 +1,38 @@
+//! Why a file's bytes aren't given.
+ghost use Rattle.std.specs.Prelude.{◌≡◌};
+ghost use Rattle.extent_files.specs.declared.refusal.FileRefusal.TheVariants.{Fault, Memory};
+
+use outside_traits::Failed;
+use rows_core::Digest;
+use std::alloc::AllocError;
+use thiserror::Error;
+
+/// Why a file wasn't read.
+#[derive(Clone, Copy, Debug, PartialEq, Eq, Error)]
+pub enum FileRefusal {
+    /// The store failed.
+    #[error("the store failed")]
+    Fault,
+    /// The file's bytes have the digest `found` where `kept` was kept.
+    #[error("the file is damaged")]
+    Damaged { kept: Digest, found: Digest },
+    /// Memory was refused.
+    #[error("out of memory")]
+    Memory,
+}
+
+impl From<Failed> for FileRefusal {
+    ghost from_gives = { λ _ e. e ≡ Fault };
+
+    fn from(_failed: Failed) -> FileRefusal {
+        FileRefusal::Fault
+    }
+}
+
+impl From<AllocError> for FileRefusal {
+    ghost from_gives = { λ _ e. e ≡ Memory };
+
+    fn from(_error: AllocError) -> FileRefusal {
+        FileRefusal::Memory
+    }
+}
