@@ -16,6 +16,16 @@ pub overlaid_end : (xs bytes : List ℕ) (at : ℕ) → length xs ≡ at → ove
 overlaid_end xs bytes at place =
     subst (λ (l : List ℕ). overlaid l at bytes ≡ xs ++ bytes) (append-nil xs) (overlaid_behind xs [] bytes at place (omega arith))
 
+-- a write over what stands from the place on, more or less than it has
+pub overlaid_over : (xs old bytes : List ℕ) (at : ℕ) → length xs ≡ at → overlaid (xs ++ old) at bytes ≡ xs ++ (bytes ++ drop (length bytes) old)
+unfolding overlaid
+overlaid_over xs old bytes at place =
+    let no_gap : at - length (xs ++ old) ≡ 0 = omega (arith, length-append xs old) in
+    let front : take at (xs ++ old) ≡ xs = take_at xs old at place in
+    let back : drop (at + length bytes) (xs ++ old) ≡ drop (length bytes) old =
+    sym (drop-drop (length bytes) at (xs ++ old)) ∙ ap (λ (l : List ℕ). drop (length bytes) l) (drop_at xs old at place) in
+    rw (front, no_gap, back) (ap (λ (l : List ℕ). (l ++ bytes) ++ drop (length bytes) old) (append-nil xs) ∙ append_assoc xs bytes (drop (length bytes) old))
+
 -- a write over as many bytes as it has
 pub overlaid_within : (xs old rest bytes : List ℕ) (at : ℕ) → length xs ≡ at → length old ≡ length bytes
     → overlaid (xs ++ (old ++ rest)) at bytes ≡ xs ++ (bytes ++ rest)
