@@ -1,0 +1,4 @@
+pub mod Blocks
+pub mod Crash
+pub mod Parse
+pub mod Places
