@@ -1,0 +1,4 @@
+pub mod Calls
+pub mod Building
+pub mod Changes
+pub mod Nearest
