@@ -1,8 +1,7 @@
 -- Lists built byte by byte.
-use Rattle.std.proofs.Common.{◌≡◌, ℕ, zero, suc, ◌+◌, ◌-◌, ◌<◌, ◌≤◌, min, Bool, true, false, cond, ◌&&◌, List, [], ◌∷◌, ◌++◌, Option, None, Some, length, take, drop, get_or, replicate, refl, sym, ap, ◌∙◌, arith, length-append, length-take}
-use Rattle.std.specs.Prelude.{nat_le, nat_lt}
+use Rattle.std.proofs.Common.{◌≡◌, ℕ, zero, suc, ◌+◌, ◌-◌, ◌<◌, min, List, [], ◌∷◌, ◌++◌, Option, None, length, take, get_or, replicate, sym, ap, ◌∙◌, arith, length-append, length-take}
 use Rattle.std.proofs.lemmas.Bool.Decides.{nat_tests}
-use Rattle.std.proofs.lemmas.List.{take_more, length-replicate, replicate_more, append-nil, append_assoc, take_min, take_all}
+use Rattle.std.proofs.lemmas.List.{take_more, length-replicate, replicate_more, append-nil, append_assoc, take_min}
 use Rattle.mem_outside.specs.Outcomes.{freed, freed_byte}
 
 freed_first : (at n : ℕ) (p : Option ℕ) → freed at n (p ∷ []) ≡ freed_byte at n 0 p ∷ []
@@ -47,7 +46,7 @@ pub gap_more : (old out next : List ℕ) (at : ℕ) → out ≡ take at old ++ r
 gap_more old out next at is less next_is =
     let size : length next ≡ length out + 1 = omega (arith, ap length next_is, length-append out (0 ∷ [])) in
     let count : length out ≡ min at (length old) + (length out - length old) =
-        omega (arith, ap length is, length-append (take at old) (replicate (length out - length old) 0), length-take at old, length-replicate {A = ℕ} (length out - length old) 0) in
+    omega (arith, ap length is, length-append (take at old) (replicate (length out - length old) 0), length-take at old, length-replicate {A = ℕ} (length out - length old) 0) in
     let more : (length out - length old) + 1 ≡ length next - length old = omega (arith, size, count, less) in
     next_is ∙ ap (λ (l : List ℕ). l ++ 0 ∷ []) is
     ∙ append_assoc (take at old) (replicate (length out - length old) 0) (0 ∷ [])

@@ -1,17 +1,13 @@
 -- What the calls of a store in memory do to its view.
-use Rattle.std.proofs.Common.{◌≡◌, ◌≢◌, ◌⊎◌, inl, inr, ℕ, zero, suc, ◌+◌, ◌-◌, ◌<◌, ◌≤◌, min, max, Bool, true, false, ◌&&◌, ◌||◌, List, [], ◌∷◌, ◌++◌, Option, None, Some, IsTrue, length, take, drop, map, get_or, refl, sym, ap, ◌∙◌, subst, arith, length-append, rules}
-use Rattle.std.specs.Prelude.{◌==◌, not, nat_le, filter, find, unwrap_or, cond}
-use Rattle.std.specs.List.{list_all}
-use Rattle.std.proofs.lemmas.Bool.Decides.{nat_tests}
-use Rattle.std.proofs.lemmas.Bool.{cases_lt, cases_eq, false≢true}
+use Rattle.std.proofs.Common.{◌≡◌, ◌≢◌, ◌⊎◌, inl, inr, ℕ, ◌<◌, ◌≤◌, false, List, [], ◌∷◌, ◌++◌, length, refl, sym, ap, ◌∙◌, subst, arith}
+use Rattle.std.proofs.lemmas.Bool.{cases_lt}
 use Rattle.std.proofs.lemmas.List.{get_or_append_left, get_or_at, get_or_past, get_or_default, length_push}
-use Rattle.outside_traits.specs.View.{View, Now}
-use Rattle.outside_traits.specs.Calls.{Passes, Acts, Idles, Torn, Shortened, Same, Gone}
+use Rattle.outside_traits.specs.View.{View}
+use Rattle.outside_traits.specs.Calls.{Passes, Acts, Idles}
 use Rattle.outside_traits.proofs.RunLemmas.{passes_none}
-use Rattle.mem_outside.specs.Shown.{Shown, Loose}
-use Rattle.mem_outside.specs.Outcomes.{fits, allows, AnyAllows, Outcome, freed, settled, absent, written, shortened, synced, removed, kept, state_in, with_file, is_sound}
+use Rattle.mem_outside.specs.Shown.{Shown}
+use Rattle.mem_outside.specs.Outcomes.{Outcome, kept, state_in}
 use Rattle.mem_outside.specs.Moments.{state_at, view_of}
-use Rattle.mem_outside.specs.Loosening.{write_back, cut_back, torn_fits}
 
 -- ## Past states
 

@@ -1,14 +1,14 @@
 -- A call that changes one file.
-use Rattle.std.proofs.Common.{◌≡◌, ◌≢◌, ◌⊎◌, inl, inr, ℕ, ◌+◌, Bool, true, false, List, [], ◌∷◌, ◌++◌, IsTrue, length, take, refl, sym, ap, ◌∙◌, subst}
+use Rattle.std.proofs.Common.{◌≡◌, ◌≢◌, ◌⊎◌, inl, inr, ℕ, Bool, true, false, List, [], ◌∷◌, ◌++◌, IsTrue, length, sym, ap, ◌∙◌, subst}
 use Rattle.std.specs.List.{list_all}
 use Rattle.std.proofs.lemmas.Bool.{cases_eq}
-use Rattle.outside_traits.specs.Calls.{Acts, Torn, Shortened, Same, Gone, overlaid}
+use Rattle.outside_traits.specs.Calls.{Acts, Torn, Shortened, Same}
 use Rattle.outside_traits.proofs.ByteLemmas.{torn_same, torn_done, shortened_same, shortened_cut}
-use Rattle.mem_outside.specs.Shown.{Shown, Loose}
-use Rattle.mem_outside.specs.Outcomes.{Outcome, written, shortened, synced, removed, kept, state_in, with_file, is_sound}
+use Rattle.mem_outside.specs.Shown.{Shown}
+use Rattle.mem_outside.specs.Outcomes.{Outcome, written, shortened, synced, kept, state_in, with_file, is_sound}
 use Rattle.mem_outside.specs.Moments.{view_of}
 use Rattle.mem_outside.proofs.Calls.{acted}
-use Rattle.mem_outside.specs.Sound.{number_of, state_sound, with_file_same, with_file_other, with_file_sound, written_sound, written_outcome, shortened_sound, shortened_outcome, synced_sound, synced_only, removed_sound, removed_outcome, reads_outcome}
+use Rattle.mem_outside.specs.Sound.{state_sound, with_file_same, with_file_other, with_file_sound, synced_only, reads_outcome}
 
 module _ (file : ℕ) (all : Bool) (n : Shown) (xs ys : List Shown) (is : ys ≡ with_file all n xs) (number : n.number ≡ file) where
   pub changed_state : state_in ys file ≡ n
@@ -17,7 +17,7 @@ module _ (file : ℕ) (all : Bool) (n : Shown) (xs ys : List Shown) (is : ys ≡
   pub changed_sound : IsTrue (is_sound n) → IsTrue (list_all is_sound xs) → IsTrue (list_all is_sound ys)
   changed_sound sound rest = subst (λ (l : List Shown). IsTrue (list_all is_sound l)) (sym is) (with_file_sound all n xs sound rest)
 
-  others_stay : (g : ℕ) → g ≢ file → state_in ys g ≡ kept all (state_in xs g)
+  pub others_stay : (g : ℕ) → g ≢ file → state_in ys g ≡ kept all (state_in xs g)
   others_stay g other = ap (λ (l : List Shown). state_in l g) is ∙ with_file_other all n xs g (λ same. other (same ∙ number))
 
   either : (a : Bool) (s t : Shown) → t ≡ kept a s → (t ≡ kept false s) ⊎ (t ≡ s)
@@ -29,10 +29,10 @@ module _ (file : ℕ) (all : Bool) (n : Shown) (xs ys : List Shown) (is : ys ≡
       → Acts file step (view_of past xs) (view_of next ys)
   changed_acts step past next next_is seen here =
       subst (λ (l : List (List Shown)). Acts file step (view_of past xs) (view_of l ys)) (sym next_is)
-        (acted file step past xs ys
-          (subst (λ (s : Shown). step (state_in xs file).bytes s.bytes) (sym changed_state) seen)
-          (λ g other. either all (state_in xs g) (state_in ys g) (others_stay g other))
-          (λ x now. here x (subst (λ (s : Shown). Outcome s x) changed_state now)))
+      (acted file step past xs ys
+      (subst (λ (s : Shown). step (state_in xs file).bytes s.bytes) (sym changed_state) seen)
+      (λ g other. either all (state_in xs g) (state_in ys g) (others_stay g other))
+      (λ x now. here x (subst (λ (s : Shown). Outcome s x) changed_state now)))
 
   pub none_gone : all ≡ false → n.gone ≡ [] → (g : ℕ) → (state_in ys g).gone ≡ []
   none_gone none empty g = elim (cases_eq g file) [

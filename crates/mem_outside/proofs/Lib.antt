@@ -2,3 +2,4 @@ pub mod Calls
 pub mod Building
 pub mod Changes
 pub mod Nearest
+pub mod Images

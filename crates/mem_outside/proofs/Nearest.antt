@@ -1,11 +1,11 @@
 -- The least number of a file that is there.
-use Rattle.std.proofs.Common.{◌≡◌, ◌≢◌, ◌⊎◌, inl, inr, ℕ, zero, suc, ◌+◌, ◌<◌, ◌≤◌, Bool, true, false, List, [], ◌∷◌, Option, None, Some, length, get_or, refl, sym, ap, ◌∙◌, subst, arith}
+use Rattle.std.proofs.Common.{◌≡◌, inl, inr, ℕ, suc, ◌<◌, ◌≤◌, true, List, [], ◌∷◌, Option, None, Some, length, get_or, sym, ap, ◌∙◌, arith}
 use Rattle.std.specs.Prelude.{IfSome, IsSomeAnd}
-use Rattle.std.proofs.lemmas.Bool.{cases_Bool, cases_eq, cases_lt, false≢true}
+use Rattle.std.proofs.lemmas.Bool.{cases_Bool, cases_eq, false≢true}
 use Rattle.outside_traits.specs.Calls.{NextIs}
 use Rattle.mem_outside.specs.Shown.{Shown}
 use Rattle.mem_outside.specs.Outcomes.{absent, state_in}
-use Rattle.mem_outside.specs.Sound.{look_same, look_other}
+use Rattle.mem_outside.specs.Sound.{look_other}
 
 abbrev pub number_at : List Shown → ℕ → ℕ
 number_at files k = (get_or files k (absent 0)).number
@@ -34,9 +34,12 @@ nearest files from None found least = λ g high. elim (cases_Bool (state_in file
       absurd (least at.0 at.1 (omega (arith, high, at.2)) (ap (λ (n : ℕ). (state_in files n).there) at.2 ∙ there))
   | inr gone ↦ gone
 ]
-nearest files from (Some n) found least = (found.1, λ g high less. elim (cases_Bool (state_in files g).there) [
-  | inl there ↦
-      let at = entry_there files g there in
-      absurd (omega (arith, less, at.2, least at.0 at.1 (omega (arith, high, at.2)) (ap (λ (m : ℕ). (state_in files m).there) at.2 ∙ there)))
-  | inr gone ↦ gone
-])
+nearest files from (Some n) found least = (
+  found.1,
+  λ g high less. elim (cases_Bool (state_in files g).there) [
+    | inl there ↦
+        let at = entry_there files g there in
+        absurd (omega (arith, less, at.2, least at.0 at.1 (omega (arith, high, at.2)) (ap (λ (m : ℕ). (state_in files m).there) at.2 ∙ there)))
+    | inr gone ↦ gone
+  ],
+)

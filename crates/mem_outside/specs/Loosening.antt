@@ -1,6 +1,6 @@
 -- Each outcome after a write or a cut is an outcome before it after that step.
-use Rattle.std.proofs.Common.{◌≡◌, ◌≢◌, ◌⊎◌, inl, inr, ℕ, zero, suc, ◌+◌, ◌-◌, ◌<◌, ◌≤◌, min, max, Bool, true, false, ◌&&◌, List, [], ◌∷◌, ◌++◌, Option, None, Some, IsTrue, length, take, drop, map, replicate, refl, sym, ap, ◌∙◌, subst, arith, length-append, length-take, length-drop, add-one, rules}
-use Rattle.std.specs.Prelude.{◌==◌, nat_le}
+use Rattle.std.proofs.Common.{◌≡◌, inl, inr, ℕ, zero, suc, ◌+◌, ◌-◌, ◌≤◌, min, max, Bool, true, false, ◌&&◌, List, [], ◌∷◌, ◌++◌, Option, None, Some, IsTrue, length, take, drop, map, replicate, refl, sym, ap, ◌∙◌, subst, arith, length-append, length-take}
+use Rattle.std.specs.Prelude.{◌==◌}
 use Rattle.std.proofs.lemmas.Bool.Decides.{nat_tests}
 use Rattle.std.proofs.lemmas.Bool.{cases_lt, false≢true}
 use Rattle.std.proofs.lemmas.List.{append-nil, take_all, drop_all, take-take, take_min, take-append-le, length-replicate, nil_from_length}
@@ -57,7 +57,7 @@ fits_take (Some b ∷ ps) (y ∷ ys) (suc n) h le =
     let parts = both (b == y) (fits ps ys) h in
     and_of (b == y) (fits ps (take n ys)) parts.0 (fits_take ps ys n parts.1 (omega arith))
 
-fits_more : (ps : List (Option ℕ)) (x w : List ℕ) → IsTrue (fits ps x) → IsTrue (fits ps (x ++ w))
+pub fits_more : (ps : List (Option ℕ)) (x w : List ℕ) → IsTrue (fits ps x) → IsTrue (fits ps (x ++ w))
 fits_more [] x w h = refl
 fits_more (p ∷ ps) [] w h = absurd (false≢true h)
 fits_more (None ∷ ps) (y ∷ ys) w h = fits_more ps ys w h
@@ -149,33 +149,37 @@ write_back at n ps longest x low h high =
     let whole : List ℕ = refit ps x in
     let size : length whole ≡ length x = length-refit ps x in
     let long : length ps ≤ length x = omega (arith, fits_long (freed at n ps) x h, length-freed at n ps) in
-    let count : length (take longest whole) ≡ min longest (length x) = omega (arith, length-take longest whole, size) in
-    (take longest whole, fits_take ps whole longest (fits_refit ps x long) low, omega (arith, count), record {
-      before = elim (cases_lt longest at) [
-        | inl less ↦
-            ap (λ (m : ℕ). take m x) (let m_is : min at (length (take longest whole)) ≡ min longest (length x) = omega (arith, count, less) in m_is)
-            ∙ take_min longest x
-            ∙ sym (take-take longest at x (omega (arith, less)))
-            ∙ ap (λ (l : List ℕ). take longest l) (sym (take_refit ps x at n h))
-            ∙ take-take longest at whole (omega (arith, less))
-            ∙ sym (take_all at (take longest whole) (omega (arith, count, less)))
-        | inr more ↦
-            ap (λ (m : ℕ). take m x) (let m_is : min at (length (take longest whole)) ≡ min at (length x) = omega (arith, count, more) in m_is)
-            ∙ take_min at x
-            ∙ sym (take_refit ps x at n h)
-            ∙ sym (take-take at longest whole more)
-      ];
-      after = elim (cases_lt longest (length x)) [
-        | inl less ↦
-            drop_all (at + n) x (omega (arith, high, less))
-            ∙ sym (drop_all (at + n) (take longest whole) (omega (arith, high, less, count)))
-        | inr more ↦
-            sym (drop_refit ps x at n (at + n) refl h)
-            ∙ ap (λ (l : List ℕ). drop (at + n) l) (sym (take_all longest whole (omega (arith, size, more))))
-      ];
-      no_shorter = omega (arith, count);
-      no_longer = omega (arith, count, high);
-    })
+    let count : length (take longest whole) ≡ min longest (length x) = omega (arith, length-take longest whole, size) in (
+      take longest whole,
+      fits_take ps whole longest (fits_refit ps x long) low,
+      omega (arith, count),
+      record {
+        before = elim (cases_lt longest at) [
+          | inl less ↦
+              ap (λ (m : ℕ). take m x) (let m_is : min at (length (take longest whole)) ≡ min longest (length x) = omega (arith, count, less) in m_is)
+              ∙ take_min longest x
+              ∙ sym (take-take longest at x (omega (arith, less)))
+              ∙ ap (λ (l : List ℕ). take longest l) (sym (take_refit ps x at n h))
+              ∙ take-take longest at whole (omega (arith, less))
+              ∙ sym (take_all at (take longest whole) (omega (arith, count, less)))
+          | inr more ↦
+              ap (λ (m : ℕ). take m x) (let m_is : min at (length (take longest whole)) ≡ min at (length x) = omega (arith, count, more) in m_is)
+              ∙ take_min at x
+              ∙ sym (take_refit ps x at n h)
+              ∙ sym (take-take at longest whole more)
+        ];
+        after = elim (cases_lt longest (length x)) [
+          | inl less ↦
+              drop_all (at + n) x (omega (arith, high, less))
+              ∙ sym (drop_all (at + n) (take longest whole) (omega (arith, high, less, count)))
+          | inr more ↦
+              sym (drop_refit ps x at n (at + n) refl h)
+              ∙ ap (λ (l : List ℕ). drop (at + n) l) (sym (take_all longest whole (omega (arith, size, more))))
+        ];
+        no_shorter = omega (arith, count);
+        no_longer = omega (arith, count, high);
+      },
+    )
 
 fits_cut_long : (ps : List (Option ℕ)) (len : ℕ) (x : List ℕ) → IsTrue (fits (take len ps) x) → min len (length ps) ≤ length x
 fits_cut_long ps len x h = omega (arith, fits_long (take len ps) x h, length-take len ps)
@@ -203,24 +207,28 @@ cut_back len ps longest x low h high =
     let d : List ℕ = refit ps padded in
     let size : length d ≡ max (length x) (length ps) = length-refit ps padded ∙ padded_size in
     let cut_fits : min len (length ps) ≤ length x = fits_cut_long ps len x h in
-    let front : take len d ≡ take len padded = take_refit_cut ps padded len (fits_more (take len ps) x fill h) in
-    (d, fits_refit ps padded (omega (arith, padded_size)), omega (arith, size, low, high), record {
-      front = elim (cases_lt (length x) (length ps)) [
-        | inl less ↦
-            ap (λ (m : ℕ). take m x) (let m_is : min len (length d) ≡ len = omega (arith, size, cut_fits, less) in m_is)
-            ∙ sym (take-append-le len x fill (omega (arith, cut_fits, less))) ∙ sym front
-        | inr more ↦
-            ap (λ (m : ℕ). take m x) (let m_is : min len (length d) ≡ min len (length x) = omega (arith, size, more) in m_is)
-            ∙ take_min len x
-            ∙ ap (λ (l : List ℕ). take len l) (sym (ap (λ (l : List ℕ). x ++ l) (none more fill fill_size) ∙ append-nil x))
-            ∙ sym front
-      ];
-      no_shorter = omega (arith, size, cut_fits);
-      no_longer = omega (arith, size);
-    })
+    let front : take len d ≡ take len padded = take_refit_cut ps padded len (fits_more (take len ps) x fill h) in (
+      d,
+      fits_refit ps padded (omega (arith, padded_size)),
+      omega (arith, size, low, high),
+      record {
+        front = elim (cases_lt (length x) (length ps)) [
+          | inl less ↦
+              ap (λ (m : ℕ). take m x) (let m_is : min len (length d) ≡ len = omega (arith, size, cut_fits, less) in m_is)
+              ∙ sym (take-append-le len x fill (omega (arith, cut_fits, less))) ∙ sym front
+          | inr more ↦
+              ap (λ (m : ℕ). take m x) (let m_is : min len (length d) ≡ min len (length x) = omega (arith, size, more) in m_is)
+              ∙ take_min len x
+              ∙ ap (λ (l : List ℕ). take len l) (sym (ap (λ (l : List ℕ). x ++ l) (none more fill fill_size) ∙ append-nil x))
+              ∙ sym front
+        ];
+        no_shorter = omega (arith, size, cut_fits);
+        no_longer = omega (arith, size);
+      },
+    )
   where
-  none : length ps ≤ length x → (l : List ℕ) → length l ≡ length ps - length x → l ≡ []
-  none more l is = nil_from_length l (omega (arith, is, more))
+    none : length ps ≤ length x → (l : List ℕ) → length l ≡ length ps - length x → l ≡ []
+    none more l is = nil_from_length l (omega (arith, is, more))
 
 -- the rest of a torn write whose first byte is torn, and of one that begins further on
 torn_first : (n b y : ℕ) (d x : List ℕ) → Torn zero (suc n) (b ∷ d) (y ∷ x) → Torn zero n d x
@@ -239,13 +247,15 @@ torn_later : (at n b y : ℕ) (d x : List ℕ) → Torn (suc at) n (b ∷ d) (y 
 torn_later at n b y d x torn =
     let count : min (suc at) (length (b ∷ d)) ≡ suc (min at (length d)) = omega arith in
     let front : y ∷ take (min at (length d)) x ≡ b ∷ take at d = subst (λ (m : ℕ). take m (y ∷ x) ≡ b ∷ take at d) count torn.before in
-    let place : suc at + n ≡ suc (at + n) = omega arith in
-    (cc, record {
-      before = cc;
-      after = subst (λ (m : ℕ). drop m (y ∷ x) ≡ drop m (b ∷ d)) place torn.after;
-      no_shorter = omega (arith, torn.no_shorter);
-      no_longer = omega (arith, torn.no_longer);
-    })
+    let place : suc at + n ≡ suc (at + n) = omega arith in (
+      cc,
+      record {
+        before = cc;
+        after = subst (λ (m : ℕ). drop m (y ∷ x) ≡ drop m (b ∷ d)) place torn.after;
+        no_shorter = omega (arith, torn.no_shorter);
+        no_longer = omega (arith, torn.no_longer);
+      },
+    )
 
 -- A torn write keeps what it hasn't freed.
 pub torn_fits : (at n : ℕ) (ps : List (Option ℕ)) (d x : List ℕ) → IsTrue (fits ps d) → Torn at n d x → IsTrue (fits (freed at n ps) x)
@@ -261,4 +271,4 @@ torn_fits (suc at) n (Some c ∷ ps) (b ∷ d) (y ∷ x) h torn =
     let parts = both (c == b) (fits ps d) h in
     let later = torn_later at n b y d x torn in
     and_of (c == y) (fits (freed at n ps) x) (subst (λ (m : ℕ). IsTrue (c == m)) (sym later.0) parts.0)
-      (torn_fits at n ps d x parts.1 later.1)
+    (torn_fits at n ps d x parts.1 later.1)

@@ -1,13 +1,13 @@
 -- Each state of a file is sound, and each outcome after a call is one before it after the call's step.
-use Rattle.std.proofs.Common.{◌≡◌, ◌≢◌, ◌⊎◌, inl, inr, ℕ, ◌+◌, ◌-◌, ◌<◌, ◌≤◌, min, max, Bool, true, false, ◌&&◌, ◌||◌, List, [], ◌∷◌, ◌++◌, Option, None, Some, IsTrue, length, take, drop, map, refl, sym, ap, ◌∙◌, subst, arith, length-take, rules}
+use Rattle.std.proofs.Common.{◌≡◌, ◌≢◌, inl, inr, ℕ, ◌+◌, ◌≤◌, max, Bool, true, false, ◌&&◌, ◌||◌, List, [], ◌∷◌, Option, Some, IsTrue, length, take, map, refl, sym, ap, ◌∙◌, subst, arith, length-take}
 use Rattle.std.specs.Prelude.{◌==◌, not, nat_le, filter, find, unwrap_or, cond}
 use Rattle.std.specs.List.{list_all}
 use Rattle.std.proofs.lemmas.Bool.Decides.{nat_tests}
 use Rattle.std.proofs.lemmas.Bool.{cases_Bool, cases_eq, false≢true}
-use Rattle.outside_traits.specs.Calls.{Torn, Shortened, Same, Gone, overlaid}
+use Rattle.outside_traits.specs.Calls.{Torn, Shortened, Gone, overlaid}
 use Rattle.outside_traits.proofs.ByteLemmas.{torn_same, torn_done, shortened_same, length-overlaid}
 use Rattle.mem_outside.specs.Shown.{Shown, Loose}
-use Rattle.mem_outside.specs.Outcomes.{fits, allows, AnyAllows, Outcome, freed, settled, absent, written, shortened, synced, removed, kept, state_in, with_file, is_sound}
+use Rattle.mem_outside.specs.Outcomes.{fits, allows, AnyAllows, Outcome, freed, absent, written, shortened, synced, removed, kept, state_in, with_file, is_sound}
 use Rattle.mem_outside.specs.Loosening.{both, and_of, test_same, same_test, fits_long, fits_settled, fits_all, fits_cut, fits_front, write_back, cut_back, torn_fits}
 
 le_of : (a b : ℕ) → IsTrue (nat_le a b) → a ≤ b
@@ -33,9 +33,9 @@ facts s sound =
 pub sound_of : (s : Shown) → Facts s → IsTrue (is_sound s)
 sound_of s f =
     and_of (allows s.loose s.bytes && (s.there || (s.loose.longest == 0))) (list_all (λ (l : Loose). nat_le (length l.fixed) l.longest) s.gone)
-      (and_of (allows s.loose s.bytes) (s.there || (s.loose.longest == 0))
-        (and_of (fits s.loose.fixed s.bytes) (nat_le (length s.bytes) s.loose.longest) f.fit (of_le (length s.bytes) s.loose.longest f.long)) f.there)
-      f.gone
+    (and_of (allows s.loose s.bytes) (s.there || (s.loose.longest == 0))
+    (and_of (fits s.loose.fixed s.bytes) (nat_le (length s.bytes) s.loose.longest) f.fit (of_le (length s.bytes) s.loose.longest f.long)) f.there)
+    f.gone
 
 -- what is read is an outcome
 pub reads_outcome : (s : Shown) → IsTrue (is_sound s) → Outcome s s.bytes
@@ -43,7 +43,7 @@ reads_outcome s sound =
     let f = facts s sound in
     inl (and_of (fits s.loose.fixed s.bytes) (nat_le (length s.bytes) s.loose.longest) f.fit (of_le (length s.bytes) s.loose.longest f.long))
 
-short_none : (x : List ℕ) → length x ≤ 0 → x ≡ []
+pub short_none : (x : List ℕ) → length x ≤ 0 → x ≡ []
 short_none [] h = refl
 short_none (y ∷ x) h = absurd (omega arith)
 
@@ -139,11 +139,11 @@ pub synced_sound : (s : Shown) → IsTrue (is_sound s) → IsTrue (is_sound (syn
 synced_sound s sound =
     sound_of (synced s) (record { fit = fits_settled s.bytes; long = omega arith; there = still s.there (facts s sound).there; gone = refl })
   where
-  still : (there : Bool) → IsTrue (there || (s.loose.longest == 0)) → IsTrue (there || (length s.bytes == 0))
-  still true h = refl
-  still false h =
-      let none : length s.bytes ≡ 0 = omega (arith, test_same s.loose.longest 0 h, (facts s sound).long) in
-      subst (λ (n : ℕ). IsTrue (n == 0)) (sym none) (same_test 0)
+    still : (there : Bool) → IsTrue (there || (s.loose.longest == 0)) → IsTrue (there || (length s.bytes == 0))
+    still true h = refl
+    still false h =
+        let none : length s.bytes ≡ 0 = omega (arith, test_same s.loose.longest 0 h, (facts s sound).long) in
+        subst (λ (n : ℕ). IsTrue (n == 0)) (sym none) (same_test 0)
 
 pub removed_sound : (s : Shown) → IsTrue (is_sound s) → IsTrue (is_sound (removed s))
 removed_sound s sound =
@@ -175,7 +175,7 @@ look_same s files file same =
     let test : (s.number == file) ≡ true = subst (λ (n : ℕ). IsTrue (s.number == n)) same (same_test s.number) in
     look s files file ∙ ap (λ (b : Bool). cond b s (state_in files file)) test
 
-test_false : (a b : ℕ) → a ≢ b → (a == b) ≡ false
+pub test_false : (a b : ℕ) → a ≢ b → (a == b) ≡ false
 test_false a b other = elim (cases_Bool (a == b)) [
   | inl same ↦ absurd (other (test_same a b same))
   | inr no_ ↦ no_
@@ -224,9 +224,9 @@ module _ (all : Bool) (n : ℕ) where
         ap (λ (l : List Shown). state_in l g) (rest_dropped t files dropped) ∙ rest_found files g other
         ∙ ap (kept all) (sym (look_other t files g (λ same. other (sym same ∙ dropped))))
     | inr stays ↦ ap (λ (l : List Shown). state_in l g) (rest_kept t files stays) ∙ (elim (cases_eq t.number g) [
-        | inl same ↦ look_same (kept all t) (rest_of files) g same ∙ ap (kept all) (sym (look_same t files g same))
-        | inr further ↦ look_other (kept all t) (rest_of files) g further ∙ rest_found files g other ∙ ap (kept all) (sym (look_other t files g further))
-      ])
+      | inl same ↦ look_same (kept all t) (rest_of files) g same ∙ ap (kept all) (sym (look_same t files g same))
+      | inr further ↦ look_other (kept all t) (rest_of files) g further ∙ rest_found files g other ∙ ap (kept all) (sym (look_other t files g further))
+    ])
   ]
 
   pub rest_sound : (files : List Shown) → IsTrue (list_all is_sound files) → IsTrue (list_all is_sound (rest_of files))

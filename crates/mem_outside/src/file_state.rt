@@ -55,7 +55,11 @@ impl Loosened {
     fn filled(&self, alloc: Global, greatest: bool, filler: u8) -> Result<Vec<u8>, Memory>
         ensures { IfOk result (λ bytes. bytes.items ≡ filled greatest filler self.now) }
     {
-        let mut bytes: Vec<u8> = self.fixed.iter().map(|byte| byte.unwrap_or(filler)).collect(alloc)?;
+        let mut bytes: Vec<u8> = self
+            .fixed
+            .iter()
+            .map(|byte| byte.unwrap_or(filler))
+            .collect(alloc)?;
         if greatest {
             let more = (self.longest as usize).saturating_sub(self.fixed.len());
             let rest = vec![in alloc; filler; more]?;
@@ -145,7 +149,13 @@ impl FileState {
     }
 
     /// The file after a crash that leaves one of its outcomes, or one of the last file of its number that was removed.
-    pub fn left(&self, alloc: Global, greatest: bool, filler: u8, removed_too: bool) -> Result<FileState, Memory>
+    pub fn left(
+        &self,
+        alloc: Global,
+        greatest: bool,
+        filler: u8,
+        removed_too: bool,
+    ) -> Result<FileState, Memory>
         ensures { IfOk result (λ state. state ≡ left_of greatest filler removed_too self.now) }
     {
         let comes_back = removed_too && !self.gone.is_empty();
@@ -166,7 +176,13 @@ impl FileState {
     }
 
     /// After a write, or after one that failed: the file is there then too.
-    pub fn written(self, alloc: Global, at: u64, bytes: &[u8], done: bool) -> Result<FileState, Memory>
+    pub fn written(
+        self,
+        alloc: Global,
+        at: u64,
+        bytes: &[u8],
+        done: bool,
+    ) -> Result<FileState, Memory>
         requires { at + length bytes.now < 2 ^ 64 }
         ensures { IfOk result (λ state. state ≡ written at bytes.now done self) }
     {

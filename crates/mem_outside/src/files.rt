@@ -1,8 +1,8 @@
 //! The files of a store in memory, and their states at past moments.
-ghost use Rattle.std.specs.Prelude.{◌≡◌, ◌↔◌, ℕ, ◌+◌, ◌^◌, ◌<◌, ◌≤◌, Bool, true, false, ◌++◌, [], ◌∷◌, length, take, IsTrue, IfOk, OnOk, OnErr, MatchOption, IfSome, IsSomeAnd};
+ghost use Rattle.std.specs.Prelude.{◌≡◌, ◌↔◌, ℕ, ◌+◌, ◌^◌, ◌<◌, ◌≤◌, ◌≢◌, map, Bool, true, false, ◌++◌, [], ◌∷◌, length, take, IsTrue, IfOk, OnOk, OnErr, MatchOption, IfSome, IsSomeAnd};
 ghost use Rattle.std.specs.List.{list_all};
-ghost use Rattle.outside_traits.specs.Calls.{Acts, Torn, Shortened, Same, Gone, NextIs};
-ghost use Rattle.mem_outside.specs.Outcomes.{absent, is_sound, state_in, with_file, written, shortened, synced, removed};
+ghost use Rattle.outside_traits.specs.Calls.{Passes, Acts, Torn, Shortened, Same, Gone, NextIs};
+ghost use Rattle.mem_outside.specs.Outcomes.{absent, is_sound, state_in, with_file, written, shortened, synced, removed, left_of, stable_file};
 ghost use Rattle.mem_outside.specs.Moments.{view_of};
 
 use crate::file_state::FileState;
@@ -51,7 +51,12 @@ pub(crate) fn is_there(files: &[FileState], file: u64) -> bool
 }
 
 // The files with this one in place of that of its number. The others have their removed files, or lose them.
-fn with_file(alloc: Global, files: &[FileState], state: FileState, all: bool) -> Result<Vec<FileState>, Memory>
+fn with_file(
+    alloc: Global,
+    files: &[FileState],
+    state: FileState,
+    all: bool,
+) -> Result<Vec<FileState>, Memory>
     ensures { IfOk result (λ next. next.items ≡ with_file all state files.now) }
 {
     let number = state.number();
@@ -66,7 +71,13 @@ fn with_file(alloc: Global, files: &[FileState], state: FileState, all: bool) ->
 }
 
 // Goes on to the next moment, with this file changed.
-fn change(alloc: Global, current: &mut Vec<FileState>, past: &mut Vec<Seq<FileState>>, state: FileState, all: bool) -> Result<(), Memory>
+fn change(
+    alloc: Global,
+    current: &mut Vec<FileState>,
+    past: &mut Vec<Seq<FileState>>,
+    state: FileState,
+    all: bool,
+) -> Result<(), Memory>
     ensures current { OnOk result (current.new.items ≡ with_file all state current.old.items) }
     ensures past { OnOk result (past.new.items ≡ past.old.items ++ current.old.items ∷ []) }
     ensures current_stays { OnErr result (current.new.items ≡ current.old.items) }
@@ -84,7 +95,15 @@ fn change(alloc: Global, current: &mut Vec<FileState>, past: &mut Vec<Seq<FileSt
 }
 
 // A write, or one that failed.
-pub(crate) fn write(alloc: Global, current: &mut Vec<FileState>, past: &mut Vec<Seq<FileState>>, file: u64, at: u64, bytes: &[u8], done: bool) -> Result<(), Memory>
+pub(crate) fn write(
+    alloc: Global,
+    current: &mut Vec<FileState>,
+    past: &mut Vec<Seq<FileState>>,
+    file: u64,
+    at: u64,
+    bytes: &[u8],
+    done: bool,
+) -> Result<(), Memory>
     requires sound { IsTrue (list_all is_sound current.old.items) }
     requires room { at + length bytes.now < 2 ^ 64 }
     ensures sound { IsTrue (list_all is_sound current.new.items) }
@@ -98,7 +117,14 @@ pub(crate) fn write(alloc: Global, current: &mut Vec<FileState>, past: &mut Vec<
 }
 
 // A cut, or one that failed.
-pub(crate) fn cut(alloc: Global, current: &mut Vec<FileState>, past: &mut Vec<Seq<FileState>>, file: u64, len: u64, done: bool) -> Result<(), Memory>
+pub(crate) fn cut(
+    alloc: Global,
+    current: &mut Vec<FileState>,
+    past: &mut Vec<Seq<FileState>>,
+    file: u64,
+    len: u64,
+    done: bool,
+) -> Result<(), Memory>
     requires sound { IsTrue (list_all is_sound current.old.items) }
     ensures sound { IsTrue (list_all is_sound current.new.items) }
     ensures state { OnOk result (state_in current.new.items file ≡ shortened len done (state_in current.old.items file)) }
@@ -112,7 +138,12 @@ pub(crate) fn cut(alloc: Global, current: &mut Vec<FileState>, past: &mut Vec<Se
 }
 
 // A sync.
-pub(crate) fn sync(alloc: Global, current: &mut Vec<FileState>, past: &mut Vec<Seq<FileState>>, file: u64) -> Result<(), Memory>
+pub(crate) fn sync(
+    alloc: Global,
+    current: &mut Vec<FileState>,
+    past: &mut Vec<Seq<FileState>>,
+    file: u64,
+) -> Result<(), Memory>
     requires sound { IsTrue (list_all is_sound current.old.items) }
     ensures sound { IsTrue (list_all is_sound current.new.items) }
     ensures state { OnOk result (state_in current.new.items file ≡ synced (state_in current.old.items file)) }
@@ -127,7 +158,12 @@ pub(crate) fn sync(alloc: Global, current: &mut Vec<FileState>, past: &mut Vec<S
 }
 
 // A removal.
-pub(crate) fn remove(alloc: Global, current: &mut Vec<FileState>, past: &mut Vec<Seq<FileState>>, file: u64) -> Result<(), Memory>
+pub(crate) fn remove(
+    alloc: Global,
+    current: &mut Vec<FileState>,
+    past: &mut Vec<Seq<FileState>>,
+    file: u64,
+) -> Result<(), Memory>
     requires sound { IsTrue (list_all is_sound current.old.items) }
     ensures sound { IsTrue (list_all is_sound current.new.items) }
     ensures state { OnOk result (state_in current.new.items file ≡ removed (state_in current.old.items file)) }
@@ -164,4 +200,42 @@ fn nearer(files: &[FileState], from: u64, number: u64, next: Option<u64>) -> Opt
         Some(other) if other <= number => Some(other),
         _ => Some(number),
     }
+}
+
+// The files after a crash, each as one of its outcomes.
+pub(crate) fn left(
+    alloc: Global,
+    files: &[FileState],
+    greatest: bool,
+    filler: u8,
+    removed_too: bool,
+) -> Result<Vec<FileState>, Memory>
+    requires { IsTrue (list_all is_sound files.now) }
+    ensures left { IfOk result (λ left. left.items ≡ map (left_of greatest filler removed_too) files.now) }
+    ensures sound { IfOk result (λ left. IsTrue (list_all is_sound left.items)) }
+{
+    let mut left = Vec::new(alloc);
+    for state in files {
+        left.push(state.left(alloc, greatest, filler, removed_too)?)?;
+    }
+    Ok(left)
+}
+
+// A file with these bytes, which are stable.
+pub(crate) fn put(
+    alloc: Global,
+    current: &mut Vec<FileState>,
+    past: &mut Vec<Seq<FileState>>,
+    file: u64,
+    bytes: &[u8],
+) -> Result<(), Memory>
+    requires sound { IsTrue (list_all is_sound current.old.items) }
+    ensures sound { IsTrue (list_all is_sound current.new.items) }
+    ensures state { OnOk result (state_in current.new.items file ≡ stable_file file bytes.now) }
+    ensures others { (g : ℕ) → g ≢ file → state_in current.new.items g ≡ state_in current.old.items g }
+    ensures time { Passes (view_of past.old.items current.old.items) (view_of past.new.items current.new.items) }
+{
+    let state = FileState::stable(alloc, file, bytes)?;
+    change(alloc, current, past, state, true)?;
+    Ok(())
 }

@@ -1,10 +1,10 @@
 //! A store in memory.
-ghost use Rattle.std.specs.Prelude.{◌≡◌, ℕ, ◌+◌, ◌^◌, ◌<◌, ◌≤◌, true, false, [], length, take, IsTrue, IfOk, OnOk};
+ghost use Rattle.std.specs.Prelude.{◌≡◌, ◌≢◌, ℕ, ◌+◌, ◌^◌, ◌<◌, ◌≤◌, true, false, [], length, take, IsTrue, IfOk, OnOk};
 ghost use Rattle.std.specs.List.{list_all};
 ghost use Rattle.mem_outside.specs.Outcomes.{is_sound};
 ghost use Rattle.mem_outside.specs.Moments.{view_of};
 ghost use Rattle.mem_outside.specs.Laws.{state_reads, state_absent};
-ghost use Rattle.outside_traits.specs.View.{Counts};
+ghost use Rattle.outside_traits.specs.View.{Counts, Now, Only, IsImageAt};
 ghost use Rattle.outside_traits.specs.Calls.{IsRead, Idles};
 
 use crate::file_state::FileState;
@@ -57,6 +57,47 @@ impl MemStore {
         ensures counts { ⟦<MemStore as Store>⟧.counts self.new ≡ ⟦<MemStore as Store>⟧.counts self.old }
     {
         self.fail_from = Some(call);
+    }
+
+    /// Makes the file be there with these bytes, which are stable. It is no call of the store and doesn't fail as one.
+    pub fn put(&mut self, file: u64, bytes: &[u8]) -> Result<(), Memory>
+        ensures bytes { OnOk result ((⟦<MemStore as Store>⟧.view self.new).files file ≡ bytes.now) }
+        ensures there { OnOk result ((⟦<MemStore as Store>⟧.view self.new).there file ≡ true) }
+        ensures stable { OnOk result (Only bytes.now (Now (⟦<MemStore as Store>⟧.view self.new) file)) }
+        ensures others { (g : ℕ) → g ≢ file → (⟦<MemStore as Store>⟧.view self.new).files g ≡ (⟦<MemStore as Store>⟧.view self.old).files g }
+        ensures counts { ⟦<MemStore as Store>⟧.counts self.new ≡ ⟦<MemStore as Store>⟧.counts self.old }
+    {
+        files::put(self.alloc, &mut self.current, &mut self.past, file, bytes)?;
+        Ok(())
+    }
+
+    /// The store after a crash now, without faults: one of the images. Bit 0 of `pick` takes each file's greatest length
+    /// in place of its least, bit 1 makes each byte that may be anything 1 in place of 0, and bit 2 keeps the removed
+    /// files that may still be there.
+    pub fn image(&self, pick: u64) -> Result<MemStore, Memory>
+        ensures image { IfOk result (λ store. IsImageAt (⟦<MemStore as Store>⟧.view self.now) (⟦<MemStore as Store>⟧.view self.now).moment (⟦<MemStore as Store>⟧.view store).files) }
+        ensures counts { IfOk result (λ store. ⟦<MemStore as Store>⟧.counts store ≡ record { reads = 0; writes = 0; removes = 0; taken = 0 }) }
+    {
+        let filler = if pick & 2 == 0 { 0 } else { 1 };
+        let current = files::left(
+            self.alloc,
+            &self.current,
+            pick & 1 != 0,
+            filler,
+            pick & 4 != 0,
+        )?;
+        Ok(MemStore {
+            alloc: self.alloc,
+            current,
+            past: Vec::new(self.alloc),
+            fails: Vec::new(self.alloc),
+            fail_from: None,
+            next_call: 0,
+            reads: 0,
+            writes: 0,
+            removes: 0,
+            taken: 0,
+        })
     }
 
     /// The file's bytes; none where it isn't there.
@@ -121,7 +162,15 @@ impl Store for MemStore {
     fn write(&mut self, file: u64, at: u64, bytes: &[u8]) -> Result<(), Failed> {
         let fails = is_listed(&self.fails, self.fail_from, self.next_call);
         self.next_call = self.next_call.saturating_add(1);
-        match files::write(self.alloc, &mut self.current, &mut self.past, file, at, bytes, !fails) {
+        match files::write(
+            self.alloc,
+            &mut self.current,
+            &mut self.past,
+            file,
+            at,
+            bytes,
+            !fails,
+        ) {
             Ok(()) if !fails => Ok(()),
             _ => {
                 self.writes = self.writes.saturating_add(1);
@@ -133,7 +182,14 @@ impl Store for MemStore {
     fn cut(&mut self, file: u64, len: u64) -> Result<(), Failed> {
         let fails = is_listed(&self.fails, self.fail_from, self.next_call);
         self.next_call = self.next_call.saturating_add(1);
-        match files::cut(self.alloc, &mut self.current, &mut self.past, file, len, !fails) {
+        match files::cut(
+            self.alloc,
+            &mut self.current,
+            &mut self.past,
+            file,
+            len,
+            !fails,
+        ) {
             Ok(()) if !fails => Ok(()),
             _ => {
                 self.writes = self.writes.saturating_add(1);

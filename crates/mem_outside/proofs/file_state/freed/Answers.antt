@@ -1,6 +1,6 @@
-use Rattle.std.proofs.Common.{◌≡◌, ◌++◌, ◌∷◌, [], ◌+◌, List, Option, None, ℕ, take, get_or, length, sym, ap, ◌∙◌, arith, rules}
+use Rattle.std.proofs.Common.{◌≡◌, ◌++◌, ◌∷◌, [], List, Option, None, ℕ, take, get_or, sym, ap, ◌∙◌, arith, rules}
 use Rattle.std.proofs.lemmas.List.{get_or_default}
-use Rattle.mem_outside.specs.Outcomes.{freed, freed_byte}
+use Rattle.mem_outside.specs.Outcomes.{freed}
 use Rattle.mem_outside.proofs.Building.{freed_more}
 use Rattle.mem_outside.proofs.file_state.freed.Goals as goal
 

@@ -1,7 +1,7 @@
-use Rattle.std.proofs.Common.{◌≡◌, ◌<◌, ◌∷◌, ◌+◌, List, ℕ, drop, length, get_or, sym, ap, ◌∙◌, arith, rules}
+use Rattle.std.proofs.Common.{◌≡◌, ◌<◌, ◌∷◌, ◌+◌, List, ℕ, drop, length, get_or, sym, ap, ◌∙◌, arith}
 use Rattle.std.proofs.lemmas.List.{at_drop_more, at_drop_all}
 use Rattle.mem_outside.specs.Shown.{Shown}
-use Rattle.mem_outside.specs.Outcomes.{state_in, absent}
+use Rattle.mem_outside.specs.Outcomes.{state_in}
 use Rattle.mem_outside.specs.Sound.{look_same, look_other}
 use Rattle.mem_outside.proofs.files.entry_of.Goals as goal
 
@@ -18,7 +18,7 @@ loop-state-preserved c =
 pub returns-then-number-file : goal.returns-then-number-file
 returns-then-number-file c =
     sym (c.loop-state.invariant ∙ at_item c.args.files.now c.loop-state.state-index c.args.file c.state-item.result (omega arith) c.state-item.is
-      ∙ look_same c.state-item.result (drop (c.loop-state.state-index + 1) c.args.files.now) c.args.file (sym c.number.ensures ∙ c.if-number-file.true))
+    ∙ look_same c.state-item.result (drop (c.loop-state.state-index + 1) c.args.files.now) c.args.file (sym c.number.ensures ∙ c.if-number-file.true))
 
 pub returns : goal.returns
 returns c =

@@ -8,5 +8,5 @@ use Rattle.mem_outside.proofs.files.next_from.Given as goal
 abbrev pub invariant-loop-state : goal.invariant-loop-state
 invariant-loop-state l = record {
   found : IfSome l.next (λ n. (l.from ≤ n) × ((state_in l.files n).there ≡ true));
-  least : (k : ℕ) → k < l.state-index → l.from ≤ number_at l.files k → (state_in l.files (number_at l.files k)).there ≡ true → IsSomeAnd l.next (λ n. n ≤ number_at l.files k)
+  least : (k : ℕ) → k < l.state-index → l.from ≤ number_at l.files k → (state_in l.files (number_at l.files k)).there ≡ true → IsSomeAnd l.next (λ n. n ≤ number_at l.files k);
 }
