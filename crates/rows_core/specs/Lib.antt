@@ -1,1 +1,6 @@
+pub mod Kind
 pub mod Name
+pub mod RowOrder
+pub mod Schema
+pub mod Txt
+pub mod Value

@@ -1,12 +1,31 @@
 //! Names, texts, values and rows: what every other crate speaks of.
 #![tactic(auto)]
 
+pub mod cut;
 pub mod file_ref;
+pub mod kind;
 pub mod memory;
 pub mod name;
+pub mod order;
+pub mod overflow;
+pub mod row;
+pub mod schema;
 pub mod seq;
+pub mod txt;
+pub mod value;
 
+pub use cut::Cut;
 pub use file_ref::{Digest, FileRef};
+pub use kind::Kind;
 pub use memory::Memory;
 pub use name::{Name, NameRefusal};
+pub use order::{Key, cmp_by};
+pub use overflow::Overflow;
+pub use row::Row;
+pub use schema::{Column, Schema, SchemaRefusal};
 pub use seq::{Seq, Text};
+pub use txt::{Txt, TxtRefusal, is_text};
+pub use value::Value;
+
+#[cfg(test)]
+mod tests;

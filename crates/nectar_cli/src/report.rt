@@ -1,0 +1,27 @@
+//! What a person is told at the end of a run: the line on standard error and the status.
+
+use nectar_top::Exit;
+
+/// The line on standard error. None where all went well.
+pub fn message(exit: Exit) -> Option<&'static str> {
+    match exit {
+        Exit::Done => None,
+        Exit::Usage => Some("usage: nectar FOLDER"),
+        Exit::SourceFault => Some("nectar: input failed"),
+        Exit::SinkFault => Some("nectar: output failed"),
+        Exit::Memory => Some("nectar: out of memory"),
+        Exit::ScriptLimit => Some("nectar: script too long"),
+    }
+}
+
+/// The status of the process.
+pub fn status(exit: Exit) -> u8 {
+    match exit {
+        Exit::Done => 0,
+        Exit::Usage => 2,
+        Exit::SourceFault => 3,
+        Exit::SinkFault => 4,
+        Exit::Memory => 6,
+        Exit::ScriptLimit => 8,
+    }
+}

@@ -1,0 +1,255 @@
+use crate::folder_store::FolderStore;
+use nectar_top::{Exit, nectar};
+use outside_traits::{ReaderSource, Store, WriterSink};
+use std::alloc::{AllocError, Global};
+use std::io::{ErrorKind, Read, Write};
+use std::test::Fail;
+use std::{env, fs, io, process};
+
+const STORED: &str = "append s\n1\n2\nend\nappend s\n3\nend\nappend t\n-0\nend\nrun x = from s\n";
+
+const STORED_ANSWERS: &str = "ok 2\nok 3\nrefused syntax\nrefused syntax\n";
+
+// Gives at most `piece` bytes a read, and fails from the call of number `fails` on.
+#[derive(Drop)]
+struct Pieces<'a> {
+    left: &'a [u8],
+    piece: usize,
+    calls: u64,
+    fails: u64,
+}
+
+impl Read for Pieces<'_> {
+    fn read(&mut self, buf: &mut [u8]) -> io::Result<usize> {
+        if self.calls >= self.fails {
+            return Err(io::Error::from(ErrorKind::Other));
+        }
+        self.calls = self.calls.saturating_add(1);
+        let count = self.piece.min(buf.len()).min(self.left.len());
+        let (front, rest) = self.left.split_at(count);
+        buf[..count].copy_from_slice(front);
+        self.left = rest;
+        Ok(count)
+    }
+}
+
+// Takes at most `piece` bytes a write, and fails from the call of number `fails` on.
+#[derive(Drop)]
+struct Drops {
+    taken: Vec<u8>,
+    piece: usize,
+    calls: u64,
+    fails: u64,
+}
+
+impl Write for Drops {
+    fn write(&mut self, buf: &[u8]) -> io::Result<usize> {
+        if self.calls >= self.fails {
+            return Err(io::Error::from(ErrorKind::Other));
+        }
+        self.calls = self.calls.saturating_add(1);
+        let count = self.piece.min(buf.len());
+        self.taken.extend_from_slice(&buf[..count])?;
+        Ok(count)
+    }
+
+    fn flush(&mut self) -> io::Result<()> {
+        Ok(())
+    }
+}
+
+// The exit of a run on a script and what it writes, in reads and writes of `piece` bytes that fail from a call on.
+fn outcome(
+    rt: &HostRuntime,
+    script: &[u8],
+    piece: usize,
+    read_fails: u64,
+    write_fails: u64,
+) -> (Exit, Vec<u8>) {
+    let mut source = ReaderSource::new(Pieces {
+        left: script,
+        piece,
+        calls: 0,
+        fails: read_fails,
+    });
+    let mut writer = Drops {
+        taken: Vec::new(rt.alloc()),
+        piece,
+        calls: 0,
+        fails: write_fails,
+    };
+    let exit = {
+        let mut sink = WriterSink::new(&mut writer);
+        let mut store = FolderStore::new(rt);
+        nectar(rt.alloc(), &["folder"], &mut source, &mut sink, &mut store)
+    };
+    (exit, writer.taken)
+}
+
+#[test]
+fn stored_script_whole_and_byte_by_byte(rt: HostRuntime) {
+    for piece in [usize::MAX, 1] {
+        let (exit, written) = outcome(&rt, STORED.as_bytes(), piece, u64::MAX, u64::MAX);
+        assert_eq!(rt; exit, Exit::Done);
+        assert_eq!(rt; written.as_slice(), STORED_ANSWERS.as_bytes());
+    }
+}
+
+#[test]
+fn stored_script_over_memory(rt: HostRuntime) {
+    let mut written = Vec::new(rt.alloc());
+    let mut source = ReaderSource::new(STORED.as_bytes());
+    let mut store = FolderStore::new(&rt);
+    let exit = {
+        let mut sink = WriterSink::new(&mut written);
+        nectar(rt.alloc(), &["folder"], &mut source, &mut sink, &mut store)
+    };
+    assert_eq!(rt; exit, Exit::Done);
+    assert_eq!(rt; written.as_slice(), STORED_ANSWERS.as_bytes());
+}
+
+#[test]
+fn other_words_are_usage_and_nothing_is_written(rt: HostRuntime) {
+    let cases: [&[&str]; 4] = [&[], &[""], &["--help"], &["a", "b"]];
+    for words in cases {
+        let mut written = Vec::new(rt.alloc());
+        let mut source = ReaderSource::new(STORED.as_bytes());
+        let mut store = FolderStore::new(&rt);
+        let exit = {
+            let mut sink = WriterSink::new(&mut written);
+            nectar(rt.alloc(), words, &mut source, &mut sink, &mut store)
+        };
+        assert_eq!(rt; exit, Exit::Usage);
+        assert_eq!(rt; written.len(), 0);
+    }
+}
+
+#[test]
+fn scripts_and_their_answers(rt: HostRuntime) {
+    let cases = [
+        ("", ""),
+        ("\n   \n# append s\n  # 1", ""),
+        ("  append   s  \n7\nend", "ok 1\n"),
+        (
+            "append s\n9223372036854775807\n-9223372036854775808\nend\n",
+            "ok 2\n",
+        ),
+        ("append s\n9223372036854775808\nend\n", "refused syntax\n"),
+        ("append s\n-9223372036854775809\nend\n", "refused syntax\n"),
+        (
+            "append s\n+1\nend\nappend s\n01\nend\nappend s\n 1\nend\nappend s\n1 \nend\n",
+            "refused syntax\nrefused syntax\nrefused syntax\nrefused syntax\n",
+        ),
+        (
+            "append s\n\nend\nappend s\nend\n",
+            "refused syntax\nrefused syntax\n",
+        ),
+        (
+            "append s\n1\nendless\nend\nappend s\n1\nend \nend\n",
+            "refused syntax\nrefused syntax\n",
+        ),
+        ("append s\n1\n", "refused syntax\n"),
+        ("append s", "refused syntax\n"),
+        ("append end\n1\nend\n", "refused syntax\n"),
+        (
+            "append S\n1\nend\nappend s t\n1\nend\nappend\n1\nend\n",
+            "refused syntax\nrefused syntax\nrefused syntax\n",
+        ),
+        ("appends s\nend\n", "refused syntax\nrefused syntax\n"),
+        (
+            "append s\r\n1\nend\nappend s\n1\r\nend\n",
+            "refused syntax\nrefused syntax\n",
+        ),
+        (
+            "append last\n0\nend\nappend a_1\n0\nend\nappend last\n1\nend\n",
+            "ok 1\nok 1\nok 2\n",
+        ),
+        (LONGEST_NAME, "ok 1\n"),
+        (TOO_LONG_NAME, "refused syntax\n"),
+    ];
+    for (script, answers) in cases {
+        let (exit, written) = outcome(&rt, script.as_bytes(), usize::MAX, u64::MAX, u64::MAX);
+        assert_eq!(rt; exit, Exit::Done, "on {script:?}");
+        assert_eq!(rt; written.as_slice(), answers.as_bytes(), "on {script:?}");
+    }
+}
+
+const LONGEST_NAME: &str =
+    "append a23456789012345678901234567890123456789012345678901234567890_234\n0\nend\n";
+
+const TOO_LONG_NAME: &str =
+    "append a23456789012345678901234567890123456789012345678901234567890_2345\n0\nend\n";
+
+#[test]
+fn lines_of_any_length(rt: HostRuntime) -> Result<(), Fail> {
+    // A remark and a blank line may be longer than a command's line, of which 65,536 bytes are the most.
+    let cases = [
+        ("#", 70_000, "", ""),
+        ("", 70_000, "", ""),
+        ("", 65_528, "append s", "ok 1\n"),
+        ("", 65_529, "append s", "refused syntax\n"),
+        ("append s", 65_528, "", "ok 1\n"),
+        ("append s", 65_529, "", "refused syntax\n"),
+    ];
+    for (front, spaces, behind, answers) in cases {
+        let mut script = Vec::new(rt.alloc());
+        script.extend_from_slice(front.as_bytes())?;
+        script.extend_from_slice(vec![in rt.alloc(); b' '; spaces]?.as_slice())?;
+        script.extend_from_slice(behind.as_bytes())?;
+        if !answers.is_empty() {
+            script.extend_from_slice(b"\n1\nend\n")?;
+        }
+        let (exit, written) = outcome(&rt, &script, 1000, u64::MAX, u64::MAX);
+        assert_eq!(rt; exit, Exit::Done);
+        assert_eq!(rt; written.as_slice(), answers.as_bytes(), "{spaces} spaces");
+    }
+    Ok(())
+}
+
+#[test]
+fn each_read_and_each_write_may_fail(rt: HostRuntime) {
+    for call in 0..40 {
+        let (exit, written) = outcome(&rt, STORED.as_bytes(), 2, call, u64::MAX);
+        let ends = if call < 33 {
+            Exit::SourceFault
+        } else {
+            Exit::Done
+        };
+        assert_eq!(rt; exit, ends, "read {call}");
+        assert!(rt; STORED_ANSWERS.as_bytes().starts_with(&written));
+        let (exit, written) = outcome(&rt, STORED.as_bytes(), 2, u64::MAX, call);
+        let ends = if call < 22 {
+            Exit::SinkFault
+        } else {
+            Exit::Done
+        };
+        assert_eq!(rt; exit, ends, "write {call}");
+        assert!(rt; STORED_ANSWERS.as_bytes().starts_with(&written));
+    }
+}
+
+#[test]
+fn folder_is_made_and_its_files_are_read_back(rt: HostRuntime) -> Result<(), Fail> {
+    let top = env::temp_dir(&rt)?;
+    let name = format!(in rt.alloc(); "nectar-folder-store-{}", process::id(rt.process()))?;
+    let top = top.join(rt.alloc(), name.as_str())?;
+    let folder = top.join(rt.alloc(), "missing/parents")?;
+    let mut store = FolderStore::new(&rt);
+    store.attach(folder.as_str())?;
+    store.write(7, 2, b"bytes")?;
+    store.sync(7)?;
+    let mut again = FolderStore::new(&rt);
+    again.attach(folder.as_str())?;
+    assert_eq!(rt; again.size(7)?, 7);
+    let mut buf = [1; 9];
+    assert_eq!(rt; again.read(7, 0, &mut buf)?, 7);
+    assert_eq!(rt; buf, *b"\0\0bytes\x01\x01");
+    assert_eq!(rt; again.next_file(0)?, Some(7));
+    again.cut(7, 3)?;
+    assert_eq!(rt; again.size(7)?, 3);
+    again.remove(7)?;
+    assert_eq!(rt; again.next_file(0)?, None);
+    assert_eq!(rt; again.size(7)?, 0);
+    fs::remove_dir_all(&rt, top.as_str())?;
+    Ok(())
+}

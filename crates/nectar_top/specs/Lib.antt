@@ -1,0 +1,6 @@
+pub mod Machine
+pub mod Progress
+pub mod Run
+pub mod Sending
+pub mod Turns
+pub mod Words

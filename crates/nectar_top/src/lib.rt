@@ -1,0 +1,12 @@
+//! The whole program as one call: from the words of the command line and the script's bytes to the answers' bytes.
+#![tactic(auto)]
+
+pub mod exit;
+pub mod program;
+mod sending;
+mod server;
+mod table;
+mod words;
+
+pub use exit::Exit;
+pub use program::nectar;

@@ -1,0 +1,35 @@
+//! The kinds of values, and their words in the script.
+ghost use Rattle.std.specs.Prelude.{◌≡◌, ◌≢◌, ◌↔◌, IfSome, IsNone};
+ghost use Rattle.rows_core.specs.Kind.{kind_word};
+ghost use Rattle.rows_core.specs.declared.kind.Kind.{Kind};
+
+/// What a column's values are: numbers in i64, or texts.
+#[derive(Clone, Copy, Debug, PartialEq, Eq, PartialOrd, Ord, Hash)]
+pub enum Kind {
+    Int,
+    Text,
+}
+
+impl Kind {
+    /// The kind with this word; `None` exactly where the bytes are no kind's word.
+    pub fn of(word: &[u8]) -> Option<Kind>
+        ensures kind { IfSome result (λ kind. kind_word kind ≡ word.now) }
+        ensures none { IsNone result ↔ ((kind : Kind) → kind_word kind ≢ word.now) }
+    {
+        match word {
+            b"int" => Some(Kind::Int),
+            b"text" => Some(Kind::Text),
+            _ => None,
+        }
+    }
+
+    /// The kind's word.
+    pub fn word(&self) -> &[u8]
+        ensures { result.now ≡ kind_word self.now }
+    {
+        match self {
+            Kind::Int => b"int",
+            Kind::Text => b"text",
+        }
+    }
+}

@@ -1,0 +1,4 @@
+pub mod Cells
+pub mod Division
+pub mod Meaning
+pub mod Table

@@ -1,0 +1,14 @@
+//! The scalar operations: which there are, for which kinds, and what each gives.
+#![tactic(auto)]
+
+pub mod cell;
+pub mod division;
+pub mod operations;
+pub mod table;
+
+pub use cell::{Cell, CellKind};
+pub use operations::apply;
+pub use table::{Args, OPS, Op, OpRow, OpTable};
+
+#[cfg(test)]
+mod tests;

@@ -1,0 +1,9 @@
+pub mod BlockLemmas
+pub mod Examples
+pub mod LineLemmas
+pub mod NumberLemmas
+pub mod OptionLemmas
+pub mod ReaderLemmas
+pub mod ScriptLemmas
+pub mod TakeLemmas
+pub mod WordLemmas

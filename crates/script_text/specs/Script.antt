@@ -1,0 +1,117 @@
+-- What a script spells: its commands, as functions of whole texts that go line by line.
+use Rattle.std.specs.Prelude.{◌≡◌, ℕ, ℤ, ◌+◌, Bool, ◌&&◌, ◌||◌, ◌==◌, nat_le, if◌then◌else◌, List, [], ◌∷◌, ◌++◌, length, sum_by, Option, Some, None, option_to_list, codes, bytes_eq, ◌⊎◌}
+use Rattle.std.specs.List.{slice_split, list_all}
+use Rattle.script_text.specs.Number.{number_of}
+use Rattle.script_text.specs.Words.{is_skipped, begins_block, head_name}
+use Rattle.script_text.specs.declared.answer.Refusal.TheVariants.{Syntax, Memory}
+use Rattle.script_text.specs.declared.item.Command.TheVariants.{Append}
+use Rattle.script_text.specs.declared.item.Item.{Item}
+use Rattle.script_text.specs.declared.item.Item.TheVariants as item
+
+-- the most bytes of a line, without its LF, and of the row lines of a block, with their LFs
+abbrev pub longest_line : ℕ
+longest_line = 65536
+
+abbrev pub largest_block : ℕ
+largest_block = 67108864
+
+-- a block that isn't ended: its head line, and its row lines so far
+pub record Block : Type 0 where
+  pub head : List ℕ
+  pub rows : List (List ℕ)
+
+-- the bytes of row lines, with their LFs
+abbrev pub block_len : List (List ℕ) → ℕ
+block_len rows = sum_by (λ row. length row + 1) rows
+
+abbrev pub fits_line : List ℕ → Bool
+fits_line line = nat_le (length line) longest_line
+
+-- no line and no block is too long
+abbrev pub is_within_limits : Block → Bool
+is_within_limits block = fits_line block.head && list_all fits_line block.rows && nat_le (block_len block.rows) largest_block
+
+-- the numbers that row lines spell, where each spells one
+abbrev pub numbers_onto : Option ℤ → Option (List ℤ) → Option (List ℤ)
+numbers_onto (Some number) (Some numbers) = Some (number ∷ numbers)
+numbers_onto None numbers = None
+numbers_onto (Some number) None = None
+
+abbrev pub numbers_of : List (List ℕ) → Option (List ℤ)
+numbers_of [] = Some []
+numbers_of (row ∷ rows) = numbers_onto (number_of row) (numbers_of rows)
+
+-- an append of these rows to the stream of this name; there is one row or more
+abbrev pub append_item : Option (List ℕ) → Option (List ℤ) → Item
+append_item (Some name) (Some (number ∷ numbers)) = item.Command (Append name (number ∷ numbers))
+append_item (Some name) (Some []) = item.Refused Syntax
+append_item (Some name) None = item.Refused Syntax
+append_item None numbers = item.Refused Syntax
+
+-- what a block spells that is ended
+abbrev pub block_item : Block → Item
+block_item block = if is_within_limits block then append_item (head_name block.head) (numbers_of block.rows) else item.Refused Syntax
+
+abbrev pub is_end : List ℕ → Bool
+is_end line = bytes_eq line (codes "end")
+
+-- the item that this line ends, after the lines before it left this block open, or none
+abbrev pub line_item : Option Block → List ℕ → Option Item
+line_item None line = if is_skipped line || begins_block line then None else Some (item.Refused Syntax)
+line_item (Some block) line = if is_end line then Some (block_item block) else None
+
+-- the block that is open after this line
+abbrev pub line_block : Option Block → List ℕ → Option Block
+line_block None line = if begins_block line then Some (record { head = line; rows = [] }) else None
+line_block (Some block) line = if is_end line then None else Some (record { head = block.head; rows = block.rows ++ line ∷ [] })
+
+-- what a block spells that the script doesn't end
+abbrev pub unended_item : Option Block → Option Item
+unended_item None = None
+unended_item (Some block) = Some (item.Refused Syntax)
+
+-- the last line, which lacks its LF and is no line where it is empty
+abbrev pub last_items : Option Block → List ℕ → List Item
+last_items block [] = option_to_list (unended_item block)
+last_items block (c ∷ cs) = option_to_list (line_item block (c ∷ cs)) ++ option_to_list (unended_item (line_block block (c ∷ cs)))
+
+-- the items of the parts between LFs, where more may come behind the last part
+abbrev pub items_of_lines : Option Block → List (List ℕ) → List Item
+items_of_lines block [] = []
+items_of_lines block (rest ∷ []) = []
+items_of_lines block (line ∷ next ∷ more) = option_to_list (line_item block line) ++ items_of_lines (line_block block line) (next ∷ more)
+
+-- the same, where nothing comes behind it
+abbrev pub all_items_of_lines : Option Block → List (List ℕ) → List Item
+all_items_of_lines block [] = []
+all_items_of_lines block (rest ∷ []) = last_items block rest
+all_items_of_lines block (line ∷ next ∷ more) = option_to_list (line_item block line) ++ all_items_of_lines (line_block block line) (next ∷ more)
+
+abbrev pub is_newline : ℕ → Bool
+is_newline c = c == 10
+
+-- the commands that these bytes spell behind an open block, where more may come
+unfoldable pub items_from : Option Block → List ℕ → List Item
+items_from block bytes = items_of_lines block (slice_split is_newline bytes)
+
+-- the same, where these bytes are the rest of the script
+unfoldable pub all_items_from : Option Block → List ℕ → List Item
+all_items_from block bytes = all_items_of_lines block (slice_split is_newline bytes)
+
+-- the commands that the front of a script spells, and those that the whole script spells
+abbrev pub items : List ℕ → List Item
+items bytes = items_from None bytes
+
+abbrev pub all_items : List ℕ → List Item
+all_items bytes = all_items_from None bytes
+
+-- what the reader gives for what the bytes spell: for want of memory the refusal in its place
+abbrev pub Given : Item → Item → Type 0
+Given spelled given = (given ≡ spelled) ⊎ (given ≡ item.Refused Memory)
+
+-- the text is a command with what is passed over before it, and the reader gives it as this item
+pub record Completes (text : List ℕ) (given : Item) : Type 0 where
+  pub spelled : Item
+  pub is_given : Given spelled given
+  pub goes_on : (more : List ℕ) → items (text ++ more) ≡ spelled ∷ items more
+  pub ends : (more : List ℕ) → all_items (text ++ more) ≡ spelled ∷ all_items more
