@@ -1,0 +1,5 @@
+pub mod Calls
+pub mod Building
+pub mod Changes
+pub mod Nearest
+pub mod Images

@@ -1,0 +1,253 @@
+//! A store in memory.
+ghost use Rattle.std.specs.Prelude.{◌≡◌, ◌≢◌, ℕ, ◌+◌, ◌^◌, ◌<◌, ◌≤◌, true, false, [], length, take, IsTrue, IfOk, OnOk};
+ghost use Rattle.std.specs.List.{list_all};
+ghost use Rattle.mem_outside.specs.Outcomes.{is_sound};
+ghost use Rattle.mem_outside.specs.Moments.{view_of};
+ghost use Rattle.mem_outside.specs.Laws.{state_reads, state_absent};
+ghost use Rattle.outside_traits.specs.View.{Counts, Now, Only, IsImageAt};
+ghost use Rattle.outside_traits.specs.Calls.{IsRead, Idles};
+
+use crate::file_state::FileState;
+use crate::files;
+use outside_traits::{Failed, Store};
+use rows_core::{Memory, Seq};
+use std::alloc::Global;
+
+/// A store in memory, which keeps what a crash may have left at each moment. Its calls are numbered from 0; a call
+/// fails where its number is listed, where it is at or above that of `fail_from`, or where it finds no memory.
+#[derive(Drop)]
+pub struct MemStore {
+    alloc: Global,
+    current: Vec<FileState>,
+    past: Vec<Seq<FileState>>,
+    fails: Vec<u64>,
+    fail_from: Option<u64>,
+    next_call: u64,
+    reads: u64,
+    writes: u64,
+    removes: u64,
+    taken: u64,
+    ghost sound: { IsTrue (list_all is_sound current.items) },
+}
+
+impl MemStore {
+    /// An empty store in which the calls of these numbers fail.
+    pub fn new(alloc: Global, fails: Vec<u64>) -> MemStore
+        ensures files { (file : ℕ) → (⟦<MemStore as Store>⟧.view result).files file ≡ [] }
+        ensures there { (file : ℕ) → (⟦<MemStore as Store>⟧.view result).there file ≡ false }
+        ensures counts { ⟦<MemStore as Store>⟧.counts result ≡ record { reads = 0; writes = 0; removes = 0; taken = 0 } }
+    {
+        MemStore {
+            alloc,
+            current: Vec::new(alloc),
+            past: Vec::new(alloc),
+            fails,
+            fail_from: None,
+            next_call: 0,
+            reads: 0,
+            writes: 0,
+            removes: 0,
+            taken: 0,
+        }
+    }
+
+    /// Each call of this number or a higher one fails.
+    pub fn fail_from(&mut self, call: u64)
+        ensures view { Idles (⟦<MemStore as Store>⟧.view self.old) (⟦<MemStore as Store>⟧.view self.new) }
+        ensures counts { ⟦<MemStore as Store>⟧.counts self.new ≡ ⟦<MemStore as Store>⟧.counts self.old }
+    {
+        self.fail_from = Some(call);
+    }
+
+    /// Makes the file be there with these bytes, which are stable. It is no call of the store and doesn't fail as one.
+    pub fn put(&mut self, file: u64, bytes: &[u8]) -> Result<(), Memory>
+        ensures bytes { OnOk result ((⟦<MemStore as Store>⟧.view self.new).files file ≡ bytes.now) }
+        ensures there { OnOk result ((⟦<MemStore as Store>⟧.view self.new).there file ≡ true) }
+        ensures stable { OnOk result (Only bytes.now (Now (⟦<MemStore as Store>⟧.view self.new) file)) }
+        ensures others { (g : ℕ) → g ≢ file → (⟦<MemStore as Store>⟧.view self.new).files g ≡ (⟦<MemStore as Store>⟧.view self.old).files g }
+        ensures counts { ⟦<MemStore as Store>⟧.counts self.new ≡ ⟦<MemStore as Store>⟧.counts self.old }
+    {
+        files::put(self.alloc, &mut self.current, &mut self.past, file, bytes)?;
+        Ok(())
+    }
+
+    /// The store after a crash now, without faults: one of the images. Bit 0 of `pick` takes each file's greatest length
+    /// in place of its least, bit 1 makes each byte that may be anything 1 in place of 0, and bit 2 keeps the removed
+    /// files that may still be there.
+    pub fn image(&self, pick: u64) -> Result<MemStore, Memory>
+        ensures image { IfOk result (λ store. IsImageAt (⟦<MemStore as Store>⟧.view self.now) (⟦<MemStore as Store>⟧.view self.now).moment (⟦<MemStore as Store>⟧.view store).files) }
+        ensures counts { IfOk result (λ store. ⟦<MemStore as Store>⟧.counts store ≡ record { reads = 0; writes = 0; removes = 0; taken = 0 }) }
+    {
+        let filler = if pick & 2 == 0 { 0 } else { 1 };
+        let current = files::left(
+            self.alloc,
+            &self.current,
+            pick & 1 != 0,
+            filler,
+            pick & 4 != 0,
+        )?;
+        Ok(MemStore {
+            alloc: self.alloc,
+            current,
+            past: Vec::new(self.alloc),
+            fails: Vec::new(self.alloc),
+            fail_from: None,
+            next_call: 0,
+            reads: 0,
+            writes: 0,
+            removes: 0,
+            taken: 0,
+        })
+    }
+
+    /// The file's bytes; none where it isn't there.
+    pub fn bytes(&self, file: u64) -> &[u8]
+        ensures { result.now ≡ (⟦<MemStore as Store>⟧.view self.now).files file }
+    {
+        files::bytes_in(&self.current, file)
+    }
+}
+
+// Whether the call of this number is to fail.
+fn is_listed(fails: &[u64], fail_from: Option<u64>, call: u64) -> bool {
+    match fail_from {
+        Some(first) if first <= call => true,
+        _ => fails.contains(&call),
+    }
+}
+
+impl Store for MemStore {
+    ghost tells = { true };
+
+    ghost view = { λ s. view_of s.past.items s.current.items };
+
+    ghost counts = { λ s. record { reads = s.reads; writes = s.writes; removes = s.removes; taken = s.taken } };
+
+    ghost reads_outcome = { λ s file. state_reads s.past.items s.current.items s.sound file };
+
+    ghost absent_is_empty = { λ s file gone. state_absent s.current.items s.sound file gone };
+
+    fn attach(&mut self, _folder: &str) -> Result<(), Failed> {
+        let fails = is_listed(&self.fails, self.fail_from, self.next_call);
+        self.next_call = self.next_call.saturating_add(1);
+        if fails {
+            self.reads = self.reads.saturating_add(1);
+            return Err(Failed);
+        }
+        Ok(())
+    }
+
+    fn size(&mut self, file: u64) -> Result<u64, Failed> {
+        let fails = is_listed(&self.fails, self.fail_from, self.next_call);
+        self.next_call = self.next_call.saturating_add(1);
+        if fails {
+            self.reads = self.reads.saturating_add(1);
+            return Err(Failed);
+        }
+        Ok(files::bytes_in(&self.current, file).len() as u64)
+    }
+
+    fn read(&mut self, file: u64, at: u64, buf: &mut [u8]) -> Result<usize, Failed> {
+        let fails = is_listed(&self.fails, self.fail_from, self.next_call);
+        self.next_call = self.next_call.saturating_add(1);
+        if fails {
+            self.reads = self.reads.saturating_add(1);
+            return Err(Failed);
+        }
+        let count = copy_front(files::bytes_in(&self.current, file), at, buf);
+        self.taken = self.taken.saturating_add(count as u64);
+        Ok(count)
+    }
+
+    fn write(&mut self, file: u64, at: u64, bytes: &[u8]) -> Result<(), Failed> {
+        let fails = is_listed(&self.fails, self.fail_from, self.next_call);
+        self.next_call = self.next_call.saturating_add(1);
+        match files::write(
+            self.alloc,
+            &mut self.current,
+            &mut self.past,
+            file,
+            at,
+            bytes,
+            !fails,
+        ) {
+            Ok(()) if !fails => Ok(()),
+            _ => {
+                self.writes = self.writes.saturating_add(1);
+                Err(Failed)
+            }
+        }
+    }
+
+    fn cut(&mut self, file: u64, len: u64) -> Result<(), Failed> {
+        let fails = is_listed(&self.fails, self.fail_from, self.next_call);
+        self.next_call = self.next_call.saturating_add(1);
+        match files::cut(
+            self.alloc,
+            &mut self.current,
+            &mut self.past,
+            file,
+            len,
+            !fails,
+        ) {
+            Ok(()) if !fails => Ok(()),
+            _ => {
+                self.writes = self.writes.saturating_add(1);
+                Err(Failed)
+            }
+        }
+    }
+
+    fn sync(&mut self, file: u64) -> Result<(), Failed> {
+        let fails = is_listed(&self.fails, self.fail_from, self.next_call);
+        self.next_call = self.next_call.saturating_add(1);
+        if fails {
+            self.writes = self.writes.saturating_add(1);
+            return Err(Failed);
+        }
+        match files::sync(self.alloc, &mut self.current, &mut self.past, file) {
+            Ok(()) => Ok(()),
+            Err(Memory) => {
+                self.writes = self.writes.saturating_add(1);
+                Err(Failed)
+            }
+        }
+    }
+
+    fn remove(&mut self, file: u64) -> Result<(), Failed> {
+        let fails = is_listed(&self.fails, self.fail_from, self.next_call);
+        self.next_call = self.next_call.saturating_add(1);
+        if fails {
+            self.removes = self.removes.saturating_add(1);
+            return Err(Failed);
+        }
+        match files::remove(self.alloc, &mut self.current, &mut self.past, file) {
+            Ok(()) => Ok(()),
+            Err(Memory) => {
+                self.removes = self.removes.saturating_add(1);
+                Err(Failed)
+            }
+        }
+    }
+
+    fn next_file(&mut self, from: u64) -> Result<Option<u64>, Failed> {
+        let fails = is_listed(&self.fails, self.fail_from, self.next_call);
+        self.next_call = self.next_call.saturating_add(1);
+        if fails {
+            self.reads = self.reads.saturating_add(1);
+            return Err(Failed);
+        }
+        Ok(files::next_from(&self.current, from))
+    }
+}
+
+// Copies what stands from `at` on, as much as `buf` takes, and says how much that is.
+fn copy_front(bytes: &[u8], at: u64, buf: &mut [u8]) -> usize
+    ensures bound { result ≤ length buf.new }
+    ensures read { IsRead bytes.now at (length buf.old) result buf.new }
+{
+    let at = (at as usize).min(bytes.len());
+    let count = buf.len().min(bytes.len() - at);
+    buf[..count].copy_from_slice(&bytes[at..at + count]);
+    count
+}
