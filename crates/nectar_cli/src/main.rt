@@ -1,6 +1,7 @@
 //! The program: `nectar FOLDER < script`.
 #![tactic(auto)]
 
+mod folder;
 mod folder_store;
 mod report;
 #[cfg(test)]
