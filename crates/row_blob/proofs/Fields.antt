@@ -51,7 +51,7 @@ number_reader w limit wide = record { takes = number_takes w limit wide; again =
 
 -- ---- numbers of a range
 
-or_parts : (a b : Bool) → (a || b) ≡ false → (a ≡ false) × (b ≡ false)
+pub or_parts : (a b : Bool) → (a || b) ≡ false → (a ≡ false) × (b ≡ false)
 or_parts true b e = absurd cc
 or_parts false true e = absurd cc
 or_parts false false e = (refl, refl)

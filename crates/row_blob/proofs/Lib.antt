@@ -4,3 +4,7 @@ pub mod Texts
 pub mod Readers
 pub mod Loop
 pub mod Fields
+pub mod RowLaws
+pub mod Wide
+pub mod GroupLaws
+pub mod SumLaws

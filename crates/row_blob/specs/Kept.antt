@@ -1,5 +1,5 @@
 -- Which kept forms are of a shape, within the bounds of a file.
-use Rattle.std.specs.Prelude.{◌≡◌, ℕ, ℤ, pos, neg_ℤ, ◌≤ℤ◌, ◌^◌, ◌<◌, ◌≤◌, false, List, [], ◌∷◌, ◌++◌, length}
+use Rattle.std.specs.Prelude.{◌≡◌, ℕ, ℤ, pos, negsuc, ◌^◌, ◌<◌, ◌≤◌, false, List, [], ◌∷◌, ◌++◌, length}
 use Rattle.std.specs.Int.{w64}
 use Rattle.std.specs.Int.RustNames.{FitsSigned}
 use Rattle.std.specs.List.{list_any}
@@ -43,7 +43,8 @@ IsCount n = (1 ≤ n) × (n ≤ 4294967295)
 
 -- from -2^95 to 2^95
 abbrev pub IsSum : ℤ → Type 0
-IsSum s = (neg_ℤ (pos (2 ^ 95)) ≤ℤ s) × (s ≤ℤ pos (2 ^ 95))
+IsSum (pos n) = n ≤ 2 ^ 95
+IsSum (negsuc n) = n < 2 ^ 95
 
 abbrev pub IsAcc : AccKind → Acc → Type 0
 IsAcc acc_kind.Count (acc.Count n) = IsCount n
