@@ -8,3 +8,4 @@ pub mod RowLaws
 pub mod Wide
 pub mod GroupLaws
 pub mod SumLaws
+pub mod KeptLaws

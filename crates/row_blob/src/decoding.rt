@@ -1,6 +1,10 @@
 //! What bytes are read as.
-ghost use Rattle.std.specs.Prelude.{◌≡◌, length};
+ghost use Rattle.std.specs.Prelude.{◌≡◌, length, IfOk, MatchResult};
+ghost use Rattle.row_blob.specs.declared.kept.Kept.{Kept};
+ghost use Rattle.row_blob.specs.declared.shape.Shape.{Shape};
+ghost use Rattle.row_blob.specs.Kept.{IsKept};
 ghost use Rattle.row_blob.specs.Reading.{Gives, Reads, kept_at, ended};
+ghost use Rattle.row_blob.specs.Spelling.{kept_spelling};
 
 use crate::groups::groups_at;
 use crate::kept::Kept;
@@ -13,10 +17,28 @@ use rows_core::Seq;
 use std::alloc::Global;
 
 /// The kept form of the shape that the bytes spell: `NotBlob` exactly where there is none, `at` being where reading
-/// stops.
+/// stops. Bytes that are missing stop reading at the length of the input.
 pub fn decode(alloc: Global, bytes: &[u8], shape: &Shape) -> Result<Kept, BlobRefusal>
-    // Which value, or at which place reading stops.
+    // What is read is spelled so.
+    ensures found { IfOk result (λ kept. IsKept shape.now kept × (bytes.now ≡ kept_spelling kept)) }
+    // What is spelled so is read, unless memory runs out.
+    ensures only { (kept : Kept) → IsKept shape.now kept → bytes.now ≡ kept_spelling kept
+        → MatchResult result (λ found. found ≡ kept) (λ e. e ≡ BlobRefusal.Memory) }
+    // Which value it is, or at which place reading stops.
     ensures exact { Reads result (kept_at shape.now bytes.now) (length bytes.now) }
+{
+    read(alloc, bytes, shape)
+}
+
+/// No two kept forms of one shape have one spelling.
+pub fn one_spelling()
+    ensures { (shape : Shape) (a b : Kept) → IsKept shape a → IsKept shape b → kept_spelling a ≡ kept_spelling b
+        → a ≡ b }
+{
+}
+
+fn read(alloc: Global, bytes: &[u8], shape: &Shape) -> Result<Kept, BlobRefusal>
+    ensures { Reads result (kept_at shape.now bytes.now) (length bytes.now) }
 {
     match kept_at(alloc, shape, bytes) {
         Ok(kept) => Ok(kept),

@@ -15,7 +15,7 @@ pub mod shape;
 mod tagged;
 mod text;
 
-pub use decoding::decode;
+pub use decoding::{decode, one_spelling};
 pub use encoding::encode;
 pub use kept::{Acc, GroupRow, Kept, TaggedRow};
 pub use length::encoded_len;
