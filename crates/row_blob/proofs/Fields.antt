@@ -1,14 +1,11 @@
 -- What is read of a field is spelled so, and what is spelled so is read.
-use Rattle.std.proofs.Common.{◌≡◌, ℕ, ℤ, zero, suc, ◌+◌, ◌^◌, ◌<◌, ◌≤◌, Bool, true, false, ◌||◌, cond, ltb, List, [], ◌∷◌, ◌++◌, length, get_or, take, drop, Result, Ok, Err, refl, sym, ap, subst, ◌∙◌, append_assoc, arith, inl, inr}
-use Rattle.std.specs.Int.{Width, w32, w64, w128, byte_len, from_be_bytes, to_be_bytes, cast_signed, cast_unsigned}
-use Rattle.std.specs.Int.RustNames.{FitsSigned}
-use Rattle.std.specs.List.{list_any, flat_map}
+use Rattle.std.proofs.Common.{◌≡◌, ℕ, ◌^◌, ◌<◌, ◌≤◌, Bool, true, false, ◌||◌, cond, ltb, List, ◌++◌, length, take, drop, Ok, Err, refl, sym, ap, subst, ◌∙◌, arith}
+use Rattle.std.specs.Int.{Width, w32, w64, byte_len, from_be_bytes, to_be_bytes}
 use Rattle.std.proofs.lemmas.Bool.{ltb-false, le-ltb}
-use Rattle.std.proofs.lemmas.Int.{of_z-to_z, to_z-of_z}
 use Rattle.std.proofs.lemmas.List.{take_at, drop_at, take-append-drop, length-append, length-take}
 use Rattle.std.proofs.lemmas.Nat.{be_bytes_4, be_bytes_8, from_be_bytes-to_be_bytes_4, from_be_bytes-to_be_bytes_8}
-use Rattle.row_blob.specs.Reading.{◌>>=◌, Read, number_at, literal_at, bounded_at, left_between}
-use Rattle.row_blob.proofs.Readers.{IsBytes, IsBytes-drop, IsBytes-take, bind_ok, guard_ok, ok_is, Takes, IsReader}
+use Rattle.row_blob.specs.Reading.{number_at, bounded_at, left_between}
+use Rattle.row_blob.proofs.Readers.{IsBytes, IsBytes-drop, IsBytes-take, guard_ok, ok_is, Takes, IsReader}
 
 pub record IsWide (w : Width) (limit : ℕ) : Type 0 where
   pub len : (n : ℕ) → length (to_be_bytes w n) ≡ byte_len w
@@ -38,7 +35,7 @@ number_takes w limit wide bytes x fits e =
     let long : byte_len w ≤ length bytes = ltb-false _ _ g.0 in
     let front : to_be_bytes w (from_be_bytes w (take (byte_len w) bytes)) ≡ take (byte_len w) bytes = wide.back (take (byte_len w) bytes) (omega (arith, length-take (byte_len w) bytes)) (IsBytes-take (byte_len w) bytes fits) in
     subst (λ y. Takes (to_be_bytes w) (λ n. n < limit) bytes y) (ok_is (from_be_bytes w (take (byte_len w) bytes), drop (byte_len w) bytes) x g.1)
-      (record { parts = sym (ap (λ (l : List ℕ). l ++ drop (byte_len w) bytes) front ∙ take-append-drop (byte_len w) bytes); rest = IsBytes-drop (byte_len w) bytes fits; fits = wide.below (take (byte_len w) bytes) (IsBytes-take (byte_len w) bytes fits) })
+    (record { parts = sym (ap (λ (l : List ℕ). l ++ drop (byte_len w) bytes) front ∙ take-append-drop (byte_len w) bytes); rest = IsBytes-drop (byte_len w) bytes fits; fits = wide.below (take (byte_len w) bytes) (IsBytes-take (byte_len w) bytes fits) })
 
 number_again : (w : Width) (limit : ℕ) (wide : IsWide w limit) (n : ℕ) (rest : List ℕ) → n < limit → number_at w (to_be_bytes w n ++ rest) ≡ Ok (n, rest)
 number_again w limit wide n rest lt =

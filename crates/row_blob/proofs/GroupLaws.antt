@@ -1,22 +1,21 @@
 -- Accumulators, groups and rows of a join that are read are spelled so, and what is spelled so is read.
-use Rattle.std.proofs.Common.{◌≡◌, ℕ, ℤ, pos, negsuc, zero, suc, ◌+◌, ◌-◌, ◌^◌, ◌<◌, ◌≤◌, Bool, true, false, ◌||◌, cond, ltb, List, [], ◌∷◌, ◌++◌, length, get_or, Result, Ok, Err, refl, sym, ap, subst, ◌∙◌, append_assoc, arith, inl, inr}
+use Rattle.std.proofs.Common.{◌≡◌, ℕ, suc, ◌^◌, ◌≤◌, Bool, false, ◌||◌, cond, ltb, List, ◌++◌, length, Ok, Err, refl, sym, ap, subst, ◌∙◌, append_assoc, arith}
 use Rattle.std.specs.Prelude.{nat_le}
-use Rattle.std.specs.Int.{w64, w128, to_be_bytes, cast_signed, cast_unsigned}
+use Rattle.std.specs.Int.{w64, w128, to_be_bytes}
 use Rattle.std.specs.List.{list_any, flat_map}
 use Rattle.std.proofs.lemmas.Bool.{ltb-false, le-ltb, leb-false, lt-leb}
 use Rattle.rows_core.specs.declared.kind.Kind as kind
-use Rattle.rows_core.specs.declared.value.Value.{Value}
 use Rattle.row_blob.specs.declared.kept.Acc.{Acc}
 use Rattle.row_blob.specs.declared.kept.Acc.TheVariants as acc
 use Rattle.row_blob.specs.declared.kept.GroupRow.{GroupRow}
 use Rattle.row_blob.specs.declared.kept.TaggedRow.{TaggedRow}
 use Rattle.row_blob.specs.declared.shape.AccKind.{AccKind}
 use Rattle.row_blob.specs.declared.shape.AccKind.TheVariants as acc_kind
-use Rattle.row_blob.specs.Spelling.{signed, value_spelling, row_spelling, acc_spelling, group_spelling, tagged_spelling}
-use Rattle.row_blob.specs.Reading.{◌>>=◌, Read, number_at, bounded_at, value_at, row_at, count_at, sum_at, sum_bound, sum_low, sum_high, acc_at, accs_at, row_eq, keys_of, group_at, group_after, last_left, tagged_at}
-use Rattle.row_blob.specs.Kept.{IsValue, AreEach, IsRow, IsCount, IsSum, IsAcc, IsNextGroup, IsNextTagged}
+use Rattle.row_blob.specs.Spelling.{signed, row_spelling, acc_spelling, group_spelling, tagged_spelling}
+use Rattle.row_blob.specs.Reading.{◌>>=◌, number_at, value_at, row_at, count_at, sum_at, acc_at, accs_at, row_eq, keys_of, group_at, group_after, last_left, tagged_at}
+use Rattle.row_blob.specs.Kept.{AreEach, IsCount, IsSum, IsAcc, IsNextGroup, IsNextTagged}
 use Rattle.row_blob.proofs.Readers.{IsBytes, bind_ok, guard_ok, ok_is, Takes, IsReader, each_reader}
-use Rattle.row_blob.proofs.Fields.{wide64, IsBetween, number_reader, bounded_reader, or_parts}
+use Rattle.row_blob.proofs.Fields.{wide64, number_reader, bounded_reader, or_parts}
 use Rattle.row_blob.proofs.RowLaws.{value_reader, row_reader}
 
 pub count_reader : IsReader count_at (to_be_bytes w64) IsCount
@@ -40,7 +39,7 @@ module _ (sums : IsReader sum_at (signed w128) IsSum) where
       let s = sums.takes bytes a.0 fits a.1 in
       let t = count_reader.takes a.0.1 b.0 s.rest b.1 in
       subst (λ y. Takes acc_spelling (IsAcc acc_kind.Avg) bytes y) (ok_is (acc.Avg a.0.0 b.0.0, b.0.1) x b.2)
-        (record { parts = s.parts ∙ ap (λ (l : List ℕ). signed w128 a.0.0 ++ l) t.parts ∙ sym (append_assoc (signed w128 a.0.0) (to_be_bytes w64 b.0.0) b.0.1); rest = t.rest; fits = (s.fits, t.fits) })
+      (record { parts = s.parts ∙ ap (λ (l : List ℕ). signed w128 a.0.0 ++ l) t.parts ∙ sym (append_assoc (signed w128 a.0.0) (to_be_bytes w64 b.0.0) b.0.1); rest = t.rest; fits = (s.fits, t.fits) })
   acc_takes (acc_kind.Pick kind) bytes x fits e =
       let b = bind_ok (value_at kind bytes) (λ v. Ok (acc.Pick v.0, v.1)) x e in
       let t = (value_reader kind).takes bytes b.0 fits b.1 in
@@ -76,7 +75,7 @@ module _ (sums : IsReader sum_at (signed w128) IsSum) where
       let t = (accs_reader kinds).takes a.0.1 b.0 s.rest b.1 in
       let made : GroupRow × List ℕ = (record { key = a.0.0; accs = b.0.0 }, b.0.1) in
       subst (λ y. Takes group_spelling (IsNextGroup keys kinds before) bytes y) (ok_is made x b.2)
-        (record { parts = s.parts ∙ ap (λ (l : List ℕ). row_spelling a.0.0 ++ l) t.parts ∙ sym (append_assoc (row_spelling a.0.0) (flat_map acc_spelling b.0.0) b.0.1); rest = t.rest; fits = (s.fits, t.fits, g.0) })
+      (record { parts = s.parts ∙ ap (λ (l : List ℕ). row_spelling a.0.0 ++ l) t.parts ∙ sym (append_assoc (row_spelling a.0.0) (flat_map acc_spelling b.0.0) b.0.1); rest = t.rest; fits = (s.fits, t.fits, g.0) })
 
   group_again : (keys : List kind.Kind) (kinds : List AccKind) (before : List GroupRow) (g : GroupRow) (rest : List ℕ) → IsNextGroup keys kinds before g → group_after keys kinds before (group_spelling g ++ rest) ≡ Ok (g, rest)
   unfolding group_at
@@ -105,7 +104,7 @@ tagged_takes left kinds before bytes x fits e =
     let t = (row_reader kinds).takes a.0.1 b.0 s.rest b.1 in
     let made : TaggedRow × List ℕ = (record { left = a.0.0; row = b.0.0 }, b.0.1) in
     subst (λ y. Takes tagged_spelling (IsNextTagged left kinds before) bytes y) (ok_is made x b.2)
-      (record { parts = s.parts ∙ ap (λ (l : List ℕ). to_be_bytes w64 a.0.0 ++ l) t.parts ∙ sym (append_assoc (to_be_bytes w64 a.0.0) (row_spelling b.0.0) b.0.1); rest = t.rest; fits = (ltb-false _ _ tests.0, leb-false _ _ tests.1, t.fits) })
+    (record { parts = s.parts ∙ ap (λ (l : List ℕ). to_be_bytes w64 a.0.0 ++ l) t.parts ∙ sym (append_assoc (to_be_bytes w64 a.0.0) (row_spelling b.0.0) b.0.1); rest = t.rest; fits = (ltb-false _ _ tests.0, leb-false _ _ tests.1, t.fits) })
 
 tagged_again : (left : ℕ) (small : left ≤ 4294967295) (kinds : List kind.Kind) (before : List TaggedRow) (row : TaggedRow) (rest : List ℕ) → IsNextTagged left kinds before row → tagged_at left kinds before (tagged_spelling row ++ rest) ≡ Ok (row, rest)
 unfolding tagged_at

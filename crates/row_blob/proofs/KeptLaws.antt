@@ -1,15 +1,13 @@
 -- A file that is read holds the spelling of what is read, and a spelling is read as what it spells.
-use Rattle.std.proofs.Common.{◌≡◌, ℕ, suc, ◌+◌, ◌^◌, ◌<◌, ◌≤◌, Bool, true, false, cond, eqb, List, [], ◌∷◌, ◌++◌, length, get_or, Result, Ok, Err, refl, sym, ap, subst, ◌∙◌, append_assoc, arith}
+use Rattle.std.proofs.Common.{◌≡◌, ℕ, suc, ◌^◌, ◌<◌, ◌≤◌, Bool, true, false, cond, eqb, List, [], ◌∷◌, ◌++◌, length, Result, Ok, Err, refl, sym, ap, subst, ◌∙◌, append_assoc, arith}
 use Rattle.std.specs.Prelude.{IfOk, MatchResult}
 use Rattle.std.specs.Int.{w64, to_be_bytes}
 use Rattle.std.specs.List.{flat_map}
 use Rattle.std.proofs.lemmas.Bool.{eqb-true, eq-eqb}
 use Rattle.std.proofs.lemmas.List.{append-nil}
 use Rattle.rows_core.specs.declared.kind.Kind as kind
-use Rattle.rows_core.specs.declared.value.Value.{Value}
 use Rattle.row_blob.specs.declared.refusal.BlobRefusal.{BlobRefusal}
 use Rattle.row_blob.specs.declared.refusal.BlobRefusal.TheVariants as refusal
-use Rattle.row_blob.specs.declared.kept.GroupRow.{GroupRow}
 use Rattle.row_blob.specs.declared.kept.TaggedRow.{TaggedRow}
 use Rattle.row_blob.specs.declared.kept.Kept.{Kept}
 use Rattle.row_blob.specs.declared.kept.Kept.TheVariants as kept
@@ -20,7 +18,7 @@ use Rattle.row_blob.specs.Spelling.{row_spelling, group_spelling, tagged_spellin
 use Rattle.row_blob.specs.Reading.{◌>>=◌, Read, Reads, literal_at, number_at, bounded_at, items_at, row_at, rows_at, group_after, groups_at, tagged_at, tagged_rows_at, ended, kept_at}
 use Rattle.row_blob.specs.Kept.{AreInOrder, IsRow, IsNextGroup, IsNextTagged, IsKept}
 use Rattle.row_blob.proofs.Readers.{IsBytes, bind_ok, ok_is, done, Takes, IsReader, items_reader}
-use Rattle.row_blob.proofs.Fields.{wide64, IsBetween, number_reader, bounded_reader}
+use Rattle.row_blob.proofs.Fields.{wide64, number_reader, bounded_reader}
 use Rattle.row_blob.proofs.RowLaws.{row_reader}
 use Rattle.row_blob.proofs.SumLaws.{sum_reader}
 use Rattle.row_blob.proofs.GroupLaws.{group_reader, tagged_reader}
@@ -66,7 +64,7 @@ module _ {A : Type 0} (read : List A → List ℕ → Read A) (spell : A → Lis
       let t = (items_reader read spell P law a.0.0).takes a.0.1 x s.rest a.2 in
       record {
         parts = s.parts ∙ ap (λ (l : List ℕ). to_be_bytes w64 a.0.0 ++ l) t.parts ∙ sym (append_assoc (to_be_bytes w64 a.0.0) (flat_map spell x.0) x.1)
-          ∙ ap (λ (n : ℕ). (to_be_bytes w64 n ++ flat_map spell x.0) ++ x.1) (sym t.fits.0);
+            ∙ ap (λ (n : ℕ). (to_be_bytes w64 n ++ flat_map spell x.0) ++ x.1) (sym t.fits.0);
         rest = t.rest;
         fits = (omega (arith, t.fits.0, s.fits), t.fits.1);
       }
@@ -112,12 +110,12 @@ joined_takes kinds bytes x fits e =
     let rows = flat_map tagged_spelling c.0.0 in
     let made : (ℕ × List TaggedRow) × List ℕ = ((b.0.0, c.0.0), c.0.1) in
     subst (λ y. Takes joined_spelling (AreJoined kinds) bytes y) (ok_is made x c.2)
-      (record {
-        parts = s.parts ∙ ap (λ (l : List ℕ). count ++ l) (t.parts ∙ ap (λ (l : List ℕ). left ++ l) u.parts) ∙ sym (append_assoc count left (rows ++ c.0.1)) ∙ sym (append_assoc (count ++ left) rows c.0.1)
+    (record {
+      parts = s.parts ∙ ap (λ (l : List ℕ). count ++ l) (t.parts ∙ ap (λ (l : List ℕ). left ++ l) u.parts) ∙ sym (append_assoc count left (rows ++ c.0.1)) ∙ sym (append_assoc (count ++ left) rows c.0.1)
           ∙ ap (λ (n : ℕ). ((to_be_bytes w64 n ++ left) ++ rows) ++ c.0.1) (sym u.fits.0);
-        rest = u.rest;
-        fits = (omega (arith, u.fits.0, s.fits), t.fits.1, u.fits.1);
-      })
+      rest = u.rest;
+      fits = (omega (arith, u.fits.0, s.fits), t.fits.1, u.fits.1);
+    })
 
 joined_again : (kinds : List kind.Kind) (left : ℕ) (rows : List TaggedRow) (rest : List ℕ) → AreJoined kinds (left, rows) → tagged_rows_at kinds (joined_spelling (left, rows) ++ rest) ≡ Ok ((left, rows), rest)
 unfolding tagged_rows_at
@@ -125,7 +123,7 @@ joined_again kinds left rows rest fits =
     let last = flat_map tagged_spelling rows ++ rest in
     let behind = to_be_bytes w64 left ++ last in
     let regrouped : joined_spelling (left, rows) ++ rest ≡ to_be_bytes w64 (length rows) ++ behind =
-      append_assoc (to_be_bytes w64 (length rows) ++ to_be_bytes w64 left) (flat_map tagged_spelling rows) rest ∙ append_assoc (to_be_bytes w64 (length rows)) (to_be_bytes w64 left) last in
+    append_assoc (to_be_bytes w64 (length rows) ++ to_be_bytes w64 left) (flat_map tagged_spelling rows) rest ∙ append_assoc (to_be_bytes w64 (length rows)) (to_be_bytes w64 left) last in
     ap (tagged_rows_at kinds) regrouped
     ∙ ap (λ r. r >>= λ n. bounded_at w64 0 4294967295 n.1 >>= λ l. items_at (tagged_at l.0 kinds) n.0 [] l.1 >>= λ rs. Ok ((l.0, rs.0), rs.1)) ((number_reader w64 (2 ^ 64) wide64).again (length rows) behind fits.0)
     ∙ ap (λ r. r >>= λ l. items_at (tagged_at l.0 kinds) (length rows) [] l.1 >>= λ rs. Ok ((l.0, rs.0), rs.1)) ((bounded_reader w64 (2 ^ 64) wide64 0 4294967295 (omega arith)).again left last (omega arith, fits.1))

@@ -1,5 +1,5 @@
 -- The length of items that are spelled one after the other.
-use Rattle.std.proofs.Common.{◌≡◌, ℕ, zero, suc, ◌+◌, ◌<◌, ◌≤◌, List, [], ◌∷◌, ◌++◌, length, get_or, take, length-append, arith}
+use Rattle.std.proofs.Common.{◌≡◌, ℕ, zero, suc, ◌+◌, ◌<◌, ◌≤◌, List, [], ◌∷◌, length, get_or, take, length-append, arith}
 use Rattle.std.specs.List.{flat_map}
 
 -- the items before one, and that one, are no longer than all

@@ -1,5 +1,5 @@
 -- Reading a count of items one after the other, as a loop does.
-use Rattle.std.proofs.Common.{◌≡◌, ℕ, suc, ◌-◌, ◌+◌, ◌≤◌, ◌<◌, List, [], ◌∷◌, ◌++◌, Result, Ok, Err, refl, sym, ap, ◌∙◌, arith}
+use Rattle.std.proofs.Common.{◌≡◌, ℕ, suc, ◌-◌, ◌+◌, ◌<◌, List, [], ◌∷◌, ◌++◌, Ok, Err, refl, sym, ap, ◌∙◌, arith}
 use Rattle.row_blob.specs.declared.refusal.Unread.{Unread}
 use Rattle.row_blob.specs.declared.refusal.Unread.TheVariants.{Left, Memory}
 use Rattle.row_blob.specs.Reading.{◌>>=◌, Read, Fails, items_at}
@@ -12,7 +12,7 @@ pub goes_on : {A : Type 0} (read : List A → List ℕ → Read A) (count i : �
 goes_on read count i front bytes a after total lt h so_far =
     let k : count - i ≡ suc (count - (i + 1)) = omega arith in
     let one : items_at read (count - i) front bytes ≡ items_at read (count - (i + 1)) (front ++ a ∷ []) after =
-      ap (λ (n : ℕ). items_at read n front bytes) k ∙ ap (λ r. r >>= λ x. items_at read (count - (i + 1)) (front ++ x.0 ∷ []) x.1) h in
+    ap (λ (n : ℕ). items_at read n front bytes) k ∙ ap (λ r. r >>= λ x. items_at read (count - (i + 1)) (front ++ x.0 ∷ []) x.1) h in
     sym one ∙ so_far
 
 pub ends : {A : Type 0} (read : List A → List ℕ → Read A) (e : Unread) (count i : ℕ) (front : List A) (bytes : List ℕ) (total : Read (List A)) → i < count → Fails e (read front bytes)
@@ -21,5 +21,5 @@ ends read Memory count i front bytes total lt h so_far = tt
 ends read (Left left) count i front bytes total lt h so_far =
     let k : count - i ≡ suc (count - (i + 1)) = omega arith in
     let one : items_at read (count - i) front bytes ≡ Err left =
-      ap (λ (n : ℕ). items_at read n front bytes) k ∙ ap (λ r. r >>= λ x. items_at read (count - (i + 1)) (front ++ x.0 ∷ []) x.1) h in
+    ap (λ (n : ℕ). items_at read n front bytes) k ∙ ap (λ r. r >>= λ x. items_at read (count - (i + 1)) (front ++ x.0 ∷ []) x.1) h in
     sym so_far ∙ one

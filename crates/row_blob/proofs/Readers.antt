@@ -3,7 +3,6 @@ use Rattle.std.proofs.Common.{◌≡◌, ℕ, zero, suc, ◌+◌, ◌<◌, Bool,
 use Rattle.std.specs.List.{flat_map}
 use Rattle.std.proofs.lemmas.Bool.{cases_lt}
 use Rattle.std.proofs.lemmas.List.{append-nil, length-take, get_or-drop, get_or-take, get_or_past}
-use Rattle.std.proofs.lemmas.List.Concat.{flat_map-cons}
 use Rattle.row_blob.specs.Reading.{◌>>=◌, Read, each_at, items_at}
 use Rattle.row_blob.specs.Kept.{AreEach, AreInOrder}
 
@@ -59,7 +58,7 @@ nothing_more : {A : Type 0} (spell : A → List ℕ) (Q : List A → Type 0) (fr
     → TakesMore spell Q front bytes x
 nothing_more spell Q front bytes x h q e =
     subst (λ y. TakesMore spell Q front bytes y) (ok_is (front, bytes) x e)
-        (record { more = []; items = sym (append-nil front); parts = refl; rest = h; fits = q })
+    (record { more = []; items = sym (append-nil front); parts = refl; rest = h; fits = q })
 
 one_more : {A : Type 0} (spell : A → List ℕ) (P : A → Type 0) (Q R : List A → Type 0) (front : List A) (bytes : List ℕ) (a : A × List ℕ) (x : List A × List ℕ) → Takes spell P bytes a
     → (t : TakesMore spell Q (front ++ a.0 ∷ []) a.1 x) → R (a.0 ∷ t.more) → TakesMore spell R front bytes x
@@ -95,8 +94,8 @@ module _ {K A : Type 0} (read : K → List ℕ → Read A) (spell : A → List �
   pub each_reader : (ks : List K) → IsReader (each_at read ks []) (flat_map spell) (AreEach P ks)
   each_reader ks = record {
     takes = λ bytes x h e.
-      let t = each_takes ks [] bytes x h e in
-      record { parts = t.parts ∙ ap (λ (l : List A). flat_map spell l ++ x.1) (sym t.items); rest = t.rest; fits = subst (AreEach P ks) (sym t.items) t.fits };
+        let t = each_takes ks [] bytes x h e in
+        record { parts = t.parts ∙ ap (λ (l : List A). flat_map spell l ++ x.1) (sym t.items); rest = t.rest; fits = subst (AreEach P ks) (sym t.items) t.fits };
     again = λ xs rest fits. each_again ks [] xs rest fits;
   }
 
@@ -124,7 +123,7 @@ module _ {A : Type 0} (read : List A → List ℕ → Read A) (spell : A → Lis
   pub items_reader : (n : ℕ) → IsReader (items_at read n []) (flat_map spell) (λ xs. (length xs ≡ n) × AreInOrder P [] xs)
   items_reader n = record {
     takes = λ bytes x h e.
-      let t = items_take n [] bytes x h e in
-      record { parts = t.parts ∙ ap (λ (l : List A). flat_map spell l ++ x.1) (sym t.items); rest = t.rest; fits = subst (λ (l : List A). (length l ≡ n) × AreInOrder P [] l) (sym t.items) t.fits };
+        let t = items_take n [] bytes x h e in
+        record { parts = t.parts ∙ ap (λ (l : List A). flat_map spell l ++ x.1) (sym t.items); rest = t.rest; fits = subst (λ (l : List A). (length l ≡ n) × AreInOrder P [] l) (sym t.items) t.fits };
     again = λ xs rest fits. subst (λ (m : ℕ). items_at read m [] (flat_map spell xs ++ rest) ≡ Ok (xs, rest)) fits.0 (items_again [] xs rest fits.1);
   }

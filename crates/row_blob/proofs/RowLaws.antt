@@ -1,7 +1,6 @@
 -- Texts, values and rows that are read are spelled so, and what is spelled so is read.
-use Rattle.std.proofs.Common.{◌≡◌, ℕ, ℤ, zero, suc, ◌+◌, ◌^◌, ◌<◌, ◌≤◌, Bool, true, false, ◌||◌, cond, ltb, List, [], ◌∷◌, ◌++◌, length, get_or, take, drop, Result, Ok, Err, refl, sym, ap, subst, ◌∙◌, append_assoc, arith, inl, inr}
-use Rattle.std.specs.Int.{w32, w64, byte_len, to_be_bytes, cast_signed, cast_unsigned}
-use Rattle.std.specs.List.{flat_map}
+use Rattle.std.proofs.Common.{◌≡◌, ℕ, ℤ, ◌^◌, ◌≤◌, Bool, true, false, cond, ltb, List, ◌++◌, length, take, drop, Ok, Err, refl, sym, ap, subst, ◌∙◌, append_assoc, arith}
+use Rattle.std.specs.Int.{w32, w64, to_be_bytes, cast_signed, cast_unsigned}
 use Rattle.std.proofs.lemmas.Bool.{ltb-false, le-ltb}
 use Rattle.std.proofs.lemmas.Int.{of_z-to_z, to_z-of_z}
 use mir.ValLaws.{to_z-Fits, of_z_fits}
@@ -12,11 +11,11 @@ use Rattle.rows_core.specs.declared.value.Value.{Value}
 use Rattle.rows_core.specs.declared.value.Value.TheVariants as value
 use Rattle.rows_core.specs.Txt.{IsTxt}
 use Rattle.row_blob.specs.Spelling.{value_spelling, row_spelling}
-use Rattle.row_blob.specs.Reading.{◌>>=◌, Read, number_at, bounded_at, any_following, left_in_text, is_text, text_at, value_at, each_at, row_at}
-use Rattle.row_blob.specs.Kept.{IsValue, AreEach, IsRow}
+use Rattle.row_blob.specs.Reading.{◌>>=◌, number_at, bounded_at, any_following, left_in_text, is_text, text_at, value_at, row_at}
+use Rattle.row_blob.specs.Kept.{IsValue, IsRow}
 use Rattle.row_blob.proofs.Texts.{is_text-true, is_text-parts}
 use Rattle.row_blob.proofs.Readers.{IsBytes, IsBytes-drop, bind_ok, guard_ok, ok_is, Takes, IsReader, each_reader}
-use Rattle.row_blob.proofs.Fields.{wide32, wide64, IsBetween, number_reader, bounded_reader}
+use Rattle.row_blob.proofs.Fields.{wide32, wide64, number_reader, bounded_reader}
 
 abbrev text_spelling : List ℕ → List ℕ
 text_spelling t = to_be_bytes w32 (length t) ++ t
@@ -39,10 +38,10 @@ text_takes bytes x fits e =
     let len : length (take n.0 n.1) ≡ n.0 = omega (arith, length-take n.0 n.1) in
     let small : n.0 ≤ 1000 = t.fits.1 in
     let parts : bytes ≡ text_spelling (take n.0 n.1) ++ drop n.0 n.1 =
-      t.parts ∙ ap (λ (l : List ℕ). to_be_bytes w32 n.0 ++ l) (sym (take-append-drop n.0 n.1)) ∙ sym (append_assoc (to_be_bytes w32 n.0) (take n.0 n.1) (drop n.0 n.1))
-      ∙ ap (λ (m : ℕ). (to_be_bytes w32 m ++ take n.0 n.1) ++ drop n.0 n.1) (sym len) in
+    t.parts ∙ ap (λ (l : List ℕ). to_be_bytes w32 n.0 ++ l) (sym (take-append-drop n.0 n.1)) ∙ sym (append_assoc (to_be_bytes w32 n.0) (take n.0 n.1) (drop n.0 n.1))
+    ∙ ap (λ (m : ℕ). (to_be_bytes w32 m ++ take n.0 n.1) ++ drop n.0 n.1) (sym len) in
     subst (λ y. Takes text_spelling IsTxt bytes y) k.1
-      (record { parts = parts; rest = IsBytes-drop n.0 n.1 t.rest; fits = (is_text-parts (take n.0 n.1) k.0, omega (arith, len, small)) })
+    (record { parts = parts; rest = IsBytes-drop n.0 n.1 t.rest; fits = (is_text-parts (take n.0 n.1) k.0, omega (arith, len, small)) })
 
 text_again : (t rest : List ℕ) → IsTxt t → text_at (text_spelling t ++ rest) ≡ Ok (t, rest)
 unfolding text_at
@@ -59,12 +58,12 @@ value_takes the_kind.Int bytes x fits e =
     let t = (number_reader w64 (2 ^ 64) wide64).takes bytes b.0 fits b.1 in
     let back : cast_unsigned w64 (cast_signed w64 b.0.0) ≡ b.0.0 = of_z-to_z w64 b.0.0 t.fits in
     subst (λ y. Takes value_spelling (IsValue the_kind.Int) bytes y) (ok_is (value.Int (cast_signed w64 b.0.0), b.0.1) x b.2)
-      (record { parts = t.parts ∙ ap (λ (m : ℕ). to_be_bytes w64 m ++ b.0.1) (sym back); rest = t.rest; fits = to_z-Fits w64 b.0.0 (record { fits = t.fits }) })
+    (record { parts = t.parts ∙ ap (λ (m : ℕ). to_be_bytes w64 m ++ b.0.1) (sym back); rest = t.rest; fits = to_z-Fits w64 b.0.0 (record { fits = t.fits }) })
 value_takes the_kind.Text bytes x fits e =
     let b = bind_ok (text_at bytes) (λ t. Ok (value.Text t.0, t.1)) x e in
     let t = text_takes bytes b.0 fits b.1 in
     subst (λ y. Takes value_spelling (IsValue the_kind.Text) bytes y) (ok_is (value.Text b.0.0, b.0.1) x b.2)
-      (record { parts = t.parts; rest = t.rest; fits = t.fits })
+    (record { parts = t.parts; rest = t.rest; fits = t.fits })
 
 value_again : (kind : kind.Kind) (v : Value) (rest : List ℕ) → IsValue kind v → value_at kind (value_spelling v ++ rest) ≡ Ok (v, rest)
 unfolding value_at

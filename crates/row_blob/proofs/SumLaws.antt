@@ -1,12 +1,12 @@
 -- A sum that is read is spelled so, and what is spelled so is read.
-use Rattle.std.proofs.Common.{◌≡◌, ℕ, ℤ, pos, negsuc, zero, suc, ◌+◌, ◌-◌, ◌*◌, ◌/◌, ◌%◌, ◌^◌, ◌<◌, ◌≤◌, Bool, true, false, cond, ltb, List, [], ◌∷◌, ◌++◌, length, get_or, Result, Ok, Err, refl, sym, ap, subst, ◌∙◌, arith}
+use Rattle.std.proofs.Common.{◌≡◌, ℕ, ℤ, pos, negsuc, suc, ◌-◌, ◌/◌, ◌%◌, ◌^◌, ◌<◌, ◌≤◌, Bool, true, false, cond, ltb, List, ◌++◌, Ok, refl, sym, ap, subst, ◌∙◌, arith}
 use Rattle.std.specs.Prelude.{slice_index}
 use Rattle.std.specs.Int.{w128, to_be_bytes, cast_signed, cast_unsigned}
 use Rattle.std.proofs.lemmas.Bool.{lt-ltb, le-ltb}
-use Rattle.std.proofs.lemmas.Int.{to_z-of_z, to_z_pos}
+use Rattle.std.proofs.lemmas.Int.{to_z_pos}
 use mir.ValLaws.{to_z-neg}
 use Rattle.row_blob.specs.Spelling.{signed}
-use Rattle.row_blob.specs.Reading.{◌>>=◌, Read, bounded_at, sum_at, sum_bound, sum_low, sum_high}
+use Rattle.row_blob.specs.Reading.{◌>>=◌, bounded_at, sum_at, sum_bound, sum_low, sum_high}
 use Rattle.row_blob.specs.Kept.{IsSum}
 use Rattle.row_blob.proofs.Readers.{IsBytes, bind_ok, ok_is, Takes, IsReader}
 use Rattle.row_blob.proofs.Fields.{IsBetween, bounded_reader}
@@ -19,7 +19,6 @@ positives = bounded_reader w128 (2 ^ 128) wide128 0 (2 ^ 95) (omega arith)
 negatives : IsReader (bounded_at w128 sum_low sum_high) (to_be_bytes w128) (IsBetween (2 ^ 128 - 2 ^ 95) (2 ^ 128 - 1))
 unfolding sum_low sum_high
 negatives = bounded_reader w128 (2 ^ 128) wide128 (2 ^ 128 - 2 ^ 95) (2 ^ 128 - 1) (omega arith)
-
 
 from_positive : (n : ℕ) → n ≤ 2 ^ 95 → IsSum (cast_signed w128 n) × (cast_unsigned w128 (cast_signed w128 n) ≡ n)
 from_positive n le =
@@ -43,11 +42,11 @@ sum_takes bytes x fits e =
     let b = bind_ok (cond (ltb (slice_index bytes 0) 128) (bounded_at w128 0 sum_bound bytes) (bounded_at w128 sum_low sum_high bytes)) (λ n. Ok (cast_signed w128 n.0, n.1)) x e in
     let n = b.0 in
     let made = λ (t : Takes (to_be_bytes w128) (λ m. IsSum (cast_signed w128 m) × (cast_unsigned w128 (cast_signed w128 m) ≡ m)) bytes n).
-      subst (λ y. Takes (signed w128) IsSum bytes y) (ok_is (cast_signed w128 n.0, n.1) x b.2)
-        (record { parts = t.parts ∙ ap (λ (m : ℕ). to_be_bytes w128 m ++ n.1) (sym t.fits.1); rest = t.rest; fits = t.fits.0 }) in
+    subst (λ y. Takes (signed w128) IsSum bytes y) (ok_is (cast_signed w128 n.0, n.1) x b.2)
+    (record { parts = t.parts ∙ ap (λ (m : ℕ). to_be_bytes w128 m ++ n.1) (sym t.fits.1); rest = t.rest; fits = t.fits.0 }) in
     chosen (ltb (slice_index bytes 0) 128) (bounded_at w128 0 sum_bound bytes) (bounded_at w128 sum_low sum_high bytes) (Ok n) (Takes (signed w128) IsSum bytes x) b.1
-      (λ h. let t = positives.takes bytes n fits h in made (record { parts = t.parts; rest = t.rest; fits = from_positive n.0 t.fits.1 }))
-      (λ h. let t = negatives.takes bytes n fits h in made (record { parts = t.parts; rest = t.rest; fits = from_negative n.0 t.fits }))
+    (λ h. let t = positives.takes bytes n fits h in made (record { parts = t.parts; rest = t.rest; fits = from_positive n.0 t.fits.1 }))
+    (λ h. let t = negatives.takes bytes n fits h in made (record { parts = t.parts; rest = t.rest; fits = from_negative n.0 t.fits }))
 
 -- the first byte tells the two ranges apart
 first_of_positive : (n : ℕ) → n ≤ 2 ^ 95 → n / 256 ^ 15 % 256 < 128

@@ -1,5 +1,5 @@
 -- Numbers of 16 bytes, as bytes and back.
-use Rattle.std.proofs.Common.{◌≡◌, ℕ, zero, suc, ◌+◌, ◌*◌, ◌/◌, ◌%◌, ◌^◌, ◌<◌, ◌≤◌, List, [], ◌∷◌, ◌++◌, length, get_or, refl, sym, ap, subst, ◌∙◌, arith}
+use Rattle.std.proofs.Common.{◌≡◌, ℕ, zero, suc, ◌+◌, ◌*◌, ◌/◌, ◌%◌, ◌^◌, ◌<◌, List, [], ◌∷◌, length, refl, sym, ap, subst, ◌∙◌, arith}
 use Rattle.std.specs.Int.{w128, byte_at, bytes_high_first, from_be_bytes, to_be_bytes}
 use Rattle.std.proofs.lemmas.List.{append-nil}
 use Rattle.std.proofs.lemmas.Nat.{div-mul-add}
@@ -57,8 +57,8 @@ pub wide128 : IsWide w128 (2 ^ 128)
 wide128 = record {
   len = λ n. refl;
   back = λ bytes len fits.
-    ap (λ (n : ℕ). bytes_high_first 16 n) (from_is_big bytes)
-    ∙ subst (λ (k : ℕ). bytes_high_first k (big_from 0 k bytes) ≡ bytes) len (high_first-back bytes fits);
+      ap (λ (n : ℕ). bytes_high_first 16 n) (from_is_big bytes)
+      ∙ subst (λ (k : ℕ). bytes_high_first k (big_from 0 k bytes) ≡ bytes) len (high_first-back bytes fits);
   again = λ n lt. from_is_big (to_be_bytes w128 n) ∙ ap (λ (l : List ℕ). big_from 0 16 l) (sym (append-nil (to_be_bytes w128 n))) ∙ big_number-reads_back 16 n [] lt;
   below = λ bytes fits. subst (λ (n : ℕ). n < 2 ^ 128) (sym (from_is_big bytes)) (big_from-lt 0 16 bytes fits);
 }

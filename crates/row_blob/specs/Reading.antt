@@ -1,6 +1,6 @@
 -- What bytes are read as, from left to right: a value with the bytes after it, or how many bytes are left from the
 -- place where reading stops.
-use Rattle.std.specs.Prelude.{◌≡◌, ℕ, zero, suc, ℤ, ◌+◌, ◌-◌, ◌^◌, Bool, true, false, ◌&&◌, ◌||◌, ◌==◌, not, nat_lt, nat_le, if◌then◌else◌, List, [], ◌∷◌, ◌++◌, length, map, take, drop, slice_index, slice_get, Option, Some, None, Result, Ok, Err, bytes_eq}
+use Rattle.std.specs.Prelude.{◌≡◌, ℕ, zero, suc, ℤ, ◌-◌, ◌^◌, Bool, true, false, ◌&&◌, ◌||◌, ◌==◌, nat_lt, nat_le, if◌then◌else◌, List, [], ◌∷◌, ◌++◌, length, map, take, drop, slice_index, slice_get, Option, Some, None, Result, Ok, Err, bytes_eq}
 use Rattle.std.specs.Int.{Width, w32, w64, w128, byte_len, from_be_bytes, to_be_bytes, cast_signed}
 use Rattle.std.specs.Ordering.{int_eq}
 use Rattle.std.specs.List.{list_any, list_all}
@@ -118,7 +118,7 @@ left_in_text expected room [] = 0
 left_in_text expected zero (b ∷ bs) = 0
 left_in_text expected (suc room) (b ∷ bs) =
     or_else (followers_after expected b) (suc (length bs))
-        (λ next. if nat_lt room next.count then suc (length bs) else left_in_text next room bs)
+    (λ next. if nat_lt room next.count then suc (length bs) else left_in_text next room bs)
 
 abbrev pub is_text : List ℕ → Bool
 is_text bytes = is_utf8 bytes && list_all is_text_byte bytes

@@ -1,5 +1,5 @@
 -- The one spelling of a kept form. Numbers are big-endian, signed ones in two's complement.
-use Rattle.std.specs.Prelude.{ℕ, ℤ, List, [], ◌∷◌, ◌++◌, length, codes}
+use Rattle.std.specs.Prelude.{ℕ, ℤ, List, [], ◌∷◌, ◌++◌, length}
 use Rattle.std.specs.Int.{Width, w32, w64, w128, to_be_bytes, cast_unsigned}
 use Rattle.std.specs.List.{flat_map}
 use Rattle.rows_core.specs.declared.value.Value.{Value}

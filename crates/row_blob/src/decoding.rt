@@ -34,8 +34,7 @@ pub fn decode(alloc: Global, bytes: &[u8], shape: &Shape) -> Result<Kept, BlobRe
 pub fn one_spelling()
     ensures { (shape : Shape) (a b : Kept) → IsKept shape a → IsKept shape b → kept_spelling a ≡ kept_spelling b
         → a ≡ b }
-{
-}
+{}
 
 fn read(alloc: Global, bytes: &[u8], shape: &Shape) -> Result<Kept, BlobRefusal>
     ensures { Reads result (kept_at shape.now bytes.now) (length bytes.now) }

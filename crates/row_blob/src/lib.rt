@@ -9,7 +9,7 @@ pub mod length;
 mod literal;
 mod number;
 mod put;
-mod refusal;
+pub mod refusal;
 mod rows;
 pub mod shape;
 mod tagged;
@@ -21,3 +21,6 @@ pub use kept::{Acc, GroupRow, Kept, TaggedRow};
 pub use length::encoded_len;
 pub use refusal::BlobRefusal;
 pub use shape::{AccKind, Shape};
+
+#[cfg(test)]
+mod tests;

@@ -16,9 +16,6 @@ pub enum AccKind {
 #[derive(Debug, Drop)]
 pub enum Shape {
     Rows(Seq<Kind>),
-    Groups {
-        keys: Seq<Kind>,
-        accs: Seq<AccKind>,
-    },
+    Groups { keys: Seq<Kind>, accs: Seq<AccKind> },
     Tagged(Seq<Kind>),
 }

@@ -1,5 +1,5 @@
 -- The groups so far stand at the end.
-use Rattle.std.proofs.Common.{◌≡◌, ◌++◌, take, length}
+use Rattle.std.proofs.Common.{◌≡◌, ◌++◌, take}
 use Rattle.std.specs.List.{flat_map}
 use Rattle.row_blob.specs.Spelling.{group_spelling}
 use Rattle.row_blob.proofs.encoding.put_groups.Given as goal

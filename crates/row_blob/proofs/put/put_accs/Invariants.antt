@@ -1,5 +1,5 @@
 -- The accumulators so far stand at the end.
-use Rattle.std.proofs.Common.{◌≡◌, ◌++◌, take, length}
+use Rattle.std.proofs.Common.{◌≡◌, ◌++◌, take}
 use Rattle.std.specs.List.{flat_map}
 use Rattle.row_blob.specs.Spelling.{acc_spelling}
 use Rattle.row_blob.proofs.put.put_accs.Given as goal

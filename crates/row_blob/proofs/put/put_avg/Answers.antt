@@ -6,4 +6,4 @@ use Rattle.row_blob.proofs.put.put_avg.Goals as goal
 pub returns : goal.returns
 returns c =
     append_two c.put_u64.result c.args.out.now.items (to_be_bytes w128 c.args.sum_bits) c.put_u128.new.out.items (to_be_bytes w64 c.args.count) c.put_u64.new.out.items
-        c.in_ok-put_u128.ensures c.put_u64.ensures
+    c.in_ok-put_u128.ensures c.put_u64.ensures

@@ -1,7 +1,6 @@
 -- One item more at each turn.
-use Rattle.std.proofs.Common.{◌≡◌, [], ◌∷◌, ◌++◌, Ok, ap, sym, subst, ◌∙◌}
+use Rattle.std.proofs.Common.{[]}
 use Rattle.std.proofs.lemmas.Result.{err_from_is_err_and}
-use Rattle.std.proofs.lemmas.List.{map_push}
 use Rattle.row_blob.specs.Reading.{items_at, row_at}
 use Rattle.row_blob.proofs.Loop.{goes_on, ends}
 use Rattle.row_blob.proofs.rows.counted_rows_at.Goals as goal

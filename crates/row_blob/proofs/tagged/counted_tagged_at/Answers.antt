@@ -1,7 +1,6 @@
 -- One item more at each turn.
-use Rattle.std.proofs.Common.{◌≡◌, [], ◌∷◌, ◌++◌, Ok, ap, sym, subst, ◌∙◌}
+use Rattle.std.proofs.Common.{◌≡◌, [], Ok, subst}
 use Rattle.std.proofs.lemmas.Result.{err_from_is_err_and}
-use Rattle.std.proofs.lemmas.List.{map_push}
 use Rattle.row_blob.specs.Reading.{Fails, items_at, tagged_at}
 use Rattle.row_blob.proofs.Loop.{goes_on, ends}
 use Rattle.row_blob.proofs.tagged.counted_tagged_at.Goals as goal

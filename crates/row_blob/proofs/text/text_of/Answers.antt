@@ -1,5 +1,5 @@
 -- What the text says of its bytes decides the test.
-use Rattle.std.proofs.Common.{◌≡◌, Some, Err, ap, subst, refl, arith, ◌∙◌}
+use Rattle.std.proofs.Common.{Some, Err, ap, subst, refl, arith, ◌∙◌}
 use Rattle.rows_core.specs.declared.txt.TxtRefusal.{TxtRefusal}
 use Rattle.row_blob.proofs.Texts.{is_text-true, is_text-false}
 use Rattle.rows_core.specs.Txt.{IsText}
