@@ -1,0 +1,11 @@
+pub mod Lengths
+pub mod Appends
+pub mod Texts
+pub mod Readers
+pub mod Loop
+pub mod Fields
+pub mod RowLaws
+pub mod Wide
+pub mod GroupLaws
+pub mod SumLaws
+pub mod KeptLaws

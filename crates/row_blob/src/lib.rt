@@ -1,0 +1,26 @@
+//! Kept forms: how rows, groups and tagged joins stand in a file.
+#![tactic(auto)]
+
+pub mod decoding;
+pub mod encoding;
+mod groups;
+pub mod kept;
+pub mod length;
+mod literal;
+mod number;
+mod put;
+pub mod refusal;
+mod rows;
+pub mod shape;
+mod tagged;
+mod text;
+
+pub use decoding::{decode, one_spelling};
+pub use encoding::encode;
+pub use kept::{Acc, GroupRow, Kept, TaggedRow};
+pub use length::encoded_len;
+pub use refusal::BlobRefusal;
+pub use shape::{AccKind, Shape};
+
+#[cfg(test)]
+mod tests;
