@@ -1,15 +1,14 @@
 -- The definitions, held against worked examples.
-use Rattle.std.proofs.Common.{◌≡◌, ℕ, pos, negsuc, List, [], ◌∷◌, ◌++◌, codes, Some, None, refl}
+use Rattle.std.proofs.Common.{◌≡◌, pos, negsuc, [], ◌∷◌, codes, Some, None, refl}
 use Rattle.std.specs.Fmt.{digits}
 use Rattle.rows_core.specs.Name.{is_name, is_reserved}
 use Rattle.script_text.specs.Answer.{answer_text}
 use Rattle.script_text.specs.Number.{number_if, number_of}
-use Rattle.script_text.specs.Script.{items_from, all_items_from, items, all_items}
+use Rattle.script_text.specs.Script.{items_by, items, all_items}
 use Rattle.script_text.specs.Words.{only_word}
 use Rattle.script_text.specs.declared.answer.Answer.TheVariants.{Held}
 use Rattle.script_text.specs.declared.answer.Refusal.TheVariants.{Syntax}
 use Rattle.script_text.specs.declared.item.Command.TheVariants.{Append}
-use Rattle.script_text.specs.declared.item.Item.{Item}
 use Rattle.script_text.specs.declared.item.Item.TheVariants as item
 
 -- zero and numbers below it have one spelling
@@ -32,15 +31,15 @@ one_past_is_not = refl
 -- a block, a remark, a refused block and a line that is no command
 
 stored_front : items (codes "append s\n1\n2\nend\nappend t\n") ≡ item.Command (Append (codes "s") (pos 1 ∷ pos 2 ∷ [])) ∷ []
-unfolding items_from only_word is_name is_reserved number_of number_if digits
+unfolding items_by only_word is_name is_reserved number_of number_if digits
 stored_front = refl
 
 unended_is_refused : all_items (codes "append t\n1\n") ≡ item.Refused Syntax ∷ []
-unfolding all_items_from only_word is_name is_reserved number_of number_if digits
+unfolding items_by only_word is_name is_reserved number_of number_if digits
 unended_is_refused = refl
 
 last_line_counts : all_items (codes "# one\n append t \n-0\nend") ≡ item.Refused Syntax ∷ []
-unfolding all_items_from only_word is_name is_reserved number_of number_if digits
+unfolding items_by only_word is_name is_reserved number_of number_if digits
 last_line_counts = refl
 
 held_text : answer_text (Held 12) ≡ codes "ok 12\n"

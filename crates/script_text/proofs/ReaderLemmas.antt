@@ -2,12 +2,12 @@
 use Rattle.std.proofs.Common.{◌≡◌, ℕ, ◌<◌, Bool, true, false, List, [], ◌∷◌, ◌++◌, length, is_none, Option, Some, None, option_to_list, refl, sym, ap, ◌∙◌, subst, append_assoc, append-nil, arith}
 use Rattle.std.proofs.lemmas.List.Elements.{All-append}
 use Rattle.script_text.specs.Line.{Holds}
-use Rattle.script_text.specs.Script.{Block, line_item, line_block, last_items, unended_item, is_newline, items_from, items, all_items_from, all_items, Given, Completes}
+use Rattle.script_text.specs.Script.{Block, line_item, line_block, last_items, unended_item, is_newline, no_items, items_from, items, all_items_from, all_items, Given, Completes}
 use Rattle.script_text.specs.Reader.{is_outside, IsUnbroken, StandsFor, StandsAt, GivenIfAny, AfterLine}
 use Rattle.script_text.specs.declared.item.Item.{Item}
 use Rattle.script_text.specs.declared.place.Place.{Place}
 use Rattle.script_text.specs.declared.place.Place.TheVariants as place
-use Rattle.script_text.proofs.ScriptLemmas.{items_from-line, all_items_from-line, items_from-rest, all_items_from-rest, line_block-none}
+use Rattle.script_text.proofs.ScriptLemmas.{items_by-line, items_by-rest, line_block-none}
 
 pub is_outside-StandsFor : (p : Place) (block : Option Block) → StandsFor p block → is_outside p ≡ is_none block
 is_outside-StandsFor place.Outside None stands = refl
@@ -53,7 +53,7 @@ StandsAt-push p text text' piece bytes len len' unbroken push at =
 -- no item ends in a line
 pub items-unbroken : (p : Place) (text bytes piece : List ℕ) (len : ℕ) → StandsAt p text len bytes → IsUnbroken piece → items (bytes ++ piece) ≡ []
 items-unbroken p text bytes piece len at unbroken =
-    ap (λ b. items (b ++ piece)) at.whole ∙ ap items (append_assoc at.front at.line piece) ∙ at.goes_on (at.line ++ piece) ∙ items_from-rest at.block (at.line ++ piece) (All-append (λ c. is_newline c ≡ false) at.line piece at.unbroken unbroken)
+    ap (λ b. items (b ++ piece)) at.whole ∙ ap items (append_assoc at.front at.line piece) ∙ at.goes_on (at.line ++ piece) ∙ items_by-rest no_items at.block (at.line ++ piece) (All-append (λ c. is_newline c ≡ false) at.line piece at.unbroken unbroken)
 
 module _ (p : Place) (text bytes : List ℕ) (len : ℕ) (at : StandsAt p text len bytes) where
   -- the bytes, the end of their line and what comes behind it
@@ -61,10 +61,10 @@ module _ (p : Place) (text bytes : List ℕ) (len : ℕ) (at : StandsAt p text l
   joined more = ap (λ b. (b ++ 10 ∷ []) ++ more) at.whole ∙ ap (λ b. b ++ more) (append_assoc at.front at.line (10 ∷ [])) ∙ append_assoc at.front (at.line ++ 10 ∷ []) more ∙ ap (λ b. at.front ++ b) (append_assoc at.line (10 ∷ []) more)
 
   items-ended : (more : List ℕ) → items ((bytes ++ 10 ∷ []) ++ more) ≡ option_to_list (line_item at.block at.line) ++ items_from (line_block at.block at.line) more
-  items-ended more = ap items (joined more) ∙ at.goes_on (at.line ++ 10 ∷ more) ∙ items_from-line at.block at.line more at.unbroken
+  items-ended more = ap items (joined more) ∙ at.goes_on (at.line ++ 10 ∷ more) ∙ items_by-line no_items at.block at.line more at.unbroken
 
   all_items-ended : (more : List ℕ) → all_items ((bytes ++ 10 ∷ []) ++ more) ≡ option_to_list (line_item at.block at.line) ++ all_items_from (line_block at.block at.line) more
-  all_items-ended more = ap all_items (joined more) ∙ at.ends (at.line ++ 10 ∷ more) ∙ all_items_from-line at.block at.line more at.unbroken
+  all_items-ended more = ap all_items (joined more) ∙ at.ends (at.line ++ 10 ∷ more) ∙ items_by-line last_items at.block at.line more at.unbroken
 
 none_given : (spelled : Option Item) → GivenIfAny spelled None → spelled ≡ None
 none_given None given = refl
@@ -118,7 +118,7 @@ StandsAt-item p p' text text' bytes len len' given at after empty =
 
 -- the script ends
 pub all_items-whole : (p : Place) (text bytes : List ℕ) (len : ℕ) (at : StandsAt p text len bytes) → all_items bytes ≡ last_items at.block at.line
-all_items-whole p text bytes len at = ap all_items at.whole ∙ at.ends at.line ∙ all_items_from-rest at.block at.line at.unbroken
+all_items-whole p text bytes len at = ap all_items at.whole ∙ at.ends at.line ∙ items_by-rest last_items at.block at.line at.unbroken
 
 module _ (p q p' : Place) (text text' before rest : List ℕ) (len len' : ℕ) (same : q ≡ p) (at : StandsAt p text len (before ++ rest)) where
   abbrev After : Option Item → Type 0

@@ -75,28 +75,30 @@ abbrev pub last_items : Option Block → List ℕ → List Item
 last_items block [] = option_to_list (unended_item block)
 last_items block (c ∷ cs) = option_to_list (line_item block (c ∷ cs)) ++ option_to_list (unended_item (line_block block (c ∷ cs)))
 
--- the items of the parts between LFs, where more may come behind the last part
-abbrev pub items_of_lines : Option Block → List (List ℕ) → List Item
-items_of_lines block [] = []
-items_of_lines block (rest ∷ []) = []
-items_of_lines block (line ∷ next ∷ more) = option_to_list (line_item block line) ++ items_of_lines (line_block block line) (next ∷ more)
-
--- the same, where nothing comes behind it
-abbrev pub all_items_of_lines : Option Block → List (List ℕ) → List Item
-all_items_of_lines block [] = []
-all_items_of_lines block (rest ∷ []) = last_items block rest
-all_items_of_lines block (line ∷ next ∷ more) = option_to_list (line_item block line) ++ all_items_of_lines (line_block block line) (next ∷ more)
+-- the items of the parts between LFs: of each line that is ended, and `last` of the part behind the last LF
+abbrev pub items_of_lines : (Option Block → List ℕ → List Item) → Option Block → List (List ℕ) → List Item
+items_of_lines last block [] = []
+items_of_lines last block (rest ∷ []) = last block rest
+items_of_lines last block (line ∷ next ∷ more) = option_to_list (line_item block line) ++ items_of_lines last (line_block block line) (next ∷ more)
 
 abbrev pub is_newline : ℕ → Bool
 is_newline c = c == 10
 
--- the commands that these bytes spell behind an open block, where more may come
-unfoldable pub items_from : Option Block → List ℕ → List Item
-items_from block bytes = items_of_lines block (slice_split is_newline bytes)
+-- the commands that bytes spell behind an open block
+unfoldable pub items_by : (Option Block → List ℕ → List Item) → Option Block → List ℕ → List Item
+items_by last block bytes = items_of_lines last block (slice_split is_newline bytes)
+
+-- a line that isn't ended spells nothing yet
+abbrev pub no_items : Option Block → List ℕ → List Item
+no_items block rest = []
+
+-- the commands of these bytes, where more may come behind them
+abbrev pub items_from : Option Block → List ℕ → List Item
+items_from block bytes = items_by no_items block bytes
 
 -- the same, where these bytes are the rest of the script
-unfoldable pub all_items_from : Option Block → List ℕ → List Item
-all_items_from block bytes = all_items_of_lines block (slice_split is_newline bytes)
+abbrev pub all_items_from : Option Block → List ℕ → List Item
+all_items_from block bytes = items_by last_items block bytes
 
 -- the commands that the front of a script spells, and those that the whole script spells
 abbrev pub items : List ℕ → List Item
