@@ -4,3 +4,4 @@ pub mod Shown
 pub mod Loosening
 pub mod Sound
 pub mod Laws
+pub mod Schedule

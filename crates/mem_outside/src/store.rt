@@ -1,11 +1,29 @@
 //! A store in memory.
-ghost use Rattle.std.specs.Prelude.{◌≡◌, ◌≢◌, ℕ, ◌+◌, ◌^◌, ◌<◌, ◌≤◌, true, false, [], length, take, IsTrue, IfOk, OnOk};
+ghost use Rattle.std.specs.Prelude.{◌≡◌, ◌≢◌, ◌⊎◌, ℕ, ◌+◌, ◌^◌, ◌/◌, ◌%◌, ◌==◌, ◌<◌, ◌≤◌, true, false, List, [], length, take, map, None, IsTrue, IfOk, IfSome, OnOk, OnErr};
 ghost use Rattle.std.specs.List.{list_all};
-ghost use Rattle.mem_outside.specs.Outcomes.{is_sound};
+ghost use Rattle.mem_outside.specs.Shown.{Shown};
+ghost use Rattle.mem_outside.specs.Outcomes.{is_sound, state_in, stable_file, written, shortened, synced, removed, left_of};
 ghost use Rattle.mem_outside.specs.Moments.{view_of};
 ghost use Rattle.mem_outside.specs.Laws.{state_reads, state_absent};
+ghost use Rattle.mem_outside.specs.Schedule.{Schedule, next_fails, called, from_call};
+ghost use Rattle.outside_traits.specs.Counts.{Rose};
 ghost use Rattle.outside_traits.specs.View.{Counts, Now, Only, IsImageAt};
-ghost use Rattle.outside_traits.specs.Calls.{IsRead, Idles};
+ghost use Rattle.outside_traits.specs.Calls.{
+  overlaid,
+  Torn,
+  Shortened,
+  Same,
+  Gone,
+  Acts,
+  Idles,
+  StayGone,
+  NextIs,
+  IsRead,
+  MayRaiseReads,
+  MayRaiseWrites,
+  MayRaiseRemoves,
+  Takes,
+};
 
 use crate::file_state::FileState;
 use crate::files;
@@ -36,6 +54,8 @@ impl MemStore {
         ensures files { (file : ℕ) → (⟦<MemStore as Store>⟧.view result).files file ≡ [] }
         ensures there { (file : ℕ) → (⟦<MemStore as Store>⟧.view result).there file ≡ false }
         ensures counts { ⟦<MemStore as Store>⟧.counts result ≡ record { reads = 0; writes = 0; removes = 0; taken = 0 } }
+        ensures shown { ⟦<MemStore as InMemory>⟧.shown result ≡ [] }
+        ensures schedule { ⟦<MemStore as InMemory>⟧.schedule result ≡ record { listed = fails.items; from = None; next = 0 } }
     {
         MemStore {
             alloc,
@@ -55,6 +75,8 @@ impl MemStore {
     pub fn fail_from(&mut self, call: u64)
         ensures view { Idles (⟦<MemStore as Store>⟧.view self.old) (⟦<MemStore as Store>⟧.view self.new) }
         ensures counts { ⟦<MemStore as Store>⟧.counts self.new ≡ ⟦<MemStore as Store>⟧.counts self.old }
+        ensures shown { ⟦<MemStore as InMemory>⟧.shown self.new ≡ ⟦<MemStore as InMemory>⟧.shown self.old }
+        ensures schedule { ⟦<MemStore as InMemory>⟧.schedule self.new ≡ from_call call (⟦<MemStore as InMemory>⟧.schedule self.old) }
     {
         self.fail_from = Some(call);
     }
@@ -66,6 +88,8 @@ impl MemStore {
         ensures stable { OnOk result (Only bytes.now (Now (⟦<MemStore as Store>⟧.view self.new) file)) }
         ensures others { (g : ℕ) → g ≢ file → (⟦<MemStore as Store>⟧.view self.new).files g ≡ (⟦<MemStore as Store>⟧.view self.old).files g }
         ensures counts { ⟦<MemStore as Store>⟧.counts self.new ≡ ⟦<MemStore as Store>⟧.counts self.old }
+        ensures shown { OnOk result (state_in (⟦<MemStore as InMemory>⟧.shown self.new) file ≡ stable_file file bytes.now) }
+        ensures schedule { ⟦<MemStore as InMemory>⟧.schedule self.new ≡ ⟦<MemStore as InMemory>⟧.schedule self.old }
     {
         files::put(self.alloc, &mut self.current, &mut self.past, file, bytes)?;
         Ok(())
@@ -77,15 +101,13 @@ impl MemStore {
     pub fn image(&self, pick: u64) -> Result<MemStore, Memory>
         ensures image { IfOk result (λ store. IsImageAt (⟦<MemStore as Store>⟧.view self.now) (⟦<MemStore as Store>⟧.view self.now).moment (⟦<MemStore as Store>⟧.view store).files) }
         ensures counts { IfOk result (λ store. ⟦<MemStore as Store>⟧.counts store ≡ record { reads = 0; writes = 0; removes = 0; taken = 0 }) }
+        ensures shown { IfOk result (λ store. ⟦<MemStore as InMemory>⟧.shown store ≡ map (left_of (pick % 2 == 1) (pick / 2 % 2) (pick / 4 % 2 == 1)) (⟦<MemStore as InMemory>⟧.shown self.now)) }
+        ensures schedule { IfOk result (λ store. ⟦<MemStore as InMemory>⟧.schedule store ≡ record { listed = []; from = None; next = 0 }) }
     {
-        let filler = if pick & 2 == 0 { 0 } else { 1 };
-        let current = files::left(
-            self.alloc,
-            &self.current,
-            pick & 1 != 0,
-            filler,
-            pick & 4 != 0,
-        )?;
+        let greatest = pick % 2 == 1;
+        let filler = (pick / 2 % 2) as u8;
+        let removed_too = pick / 4 % 2 == 1;
+        let current = files::left(self.alloc, &self.current, greatest, filler, removed_too)?;
         Ok(MemStore {
             alloc: self.alloc,
             current,
@@ -109,11 +131,28 @@ impl MemStore {
 }
 
 // Whether the call of this number is to fail.
-fn is_listed(fails: &[u64], fail_from: Option<u64>, call: u64) -> bool {
+fn is_listed(fails: &[u64], fail_from: Option<u64>, call: u64) -> bool
+    ensures { result ≡ next_fails (record { listed = fails.now; from = fail_from; next = call }) }
+{
     match fail_from {
         Some(first) if first <= call => true,
         _ => fails.contains(&call),
     }
+}
+
+/// A store in memory, of which contracts see more than of each store.
+pub trait InMemory {
+    // The files, as they read, with what a crash now may leave of each.
+    ghost shown: { Self → List Shown };
+
+    // Which calls fail.
+    ghost schedule: { Self → Schedule };
+}
+
+impl InMemory for MemStore {
+    ghost shown = { λ s. s.current.items };
+
+    ghost schedule = { λ s. record { listed = s.fails.items; from = s.fail_from; next = s.next_call } };
 }
 
 impl Store for MemStore {
@@ -127,7 +166,15 @@ impl Store for MemStore {
 
     ghost absent_is_empty = { λ s file gone. state_absent s.current.items s.sound file gone };
 
-    fn attach(&mut self, _folder: &str) -> Result<(), Failed> {
+    fn attach(&mut self, _folder: &str) -> Result<(), Failed>
+        ensures idles { Idles (⟦<MemStore as Store>⟧.view self.old) (⟦<MemStore as Store>⟧.view self.new) }
+        ensures cause { OnErr result (Rose (⟦<MemStore as Store>⟧.counts self.old).reads (⟦<MemStore as Store>⟧.counts self.new).reads) }
+        ensures counts { MayRaiseReads (⟦<MemStore as Store>⟧.counts self.old) (⟦<MemStore as Store>⟧.counts self.new) }
+        ensures taken { (⟦<MemStore as Store>⟧.counts self.new).taken ≡ (⟦<MemStore as Store>⟧.counts self.old).taken }
+        ensures fails { IsTrue (next_fails (⟦<MemStore as InMemory>⟧.schedule self.old)) → OnOk result ⊥ }
+        ensures no_other { OnErr result (IsTrue (next_fails (⟦<MemStore as InMemory>⟧.schedule self.old))) }
+        ensures schedule { ⟦<MemStore as InMemory>⟧.schedule self.new ≡ called (⟦<MemStore as InMemory>⟧.schedule self.old) }
+    {
         let fails = is_listed(&self.fails, self.fail_from, self.next_call);
         self.next_call = self.next_call.saturating_add(1);
         if fails {
@@ -137,7 +184,16 @@ impl Store for MemStore {
         Ok(())
     }
 
-    fn size(&mut self, file: u64) -> Result<u64, Failed> {
+    fn size(&mut self, file: u64) -> Result<u64, Failed>
+        ensures size { IfOk result (λ size. size ≡ length ((⟦<MemStore as Store>⟧.view self.old).files file)) }
+        ensures idles { Idles (⟦<MemStore as Store>⟧.view self.old) (⟦<MemStore as Store>⟧.view self.new) }
+        ensures cause { OnErr result (Rose (⟦<MemStore as Store>⟧.counts self.old).reads (⟦<MemStore as Store>⟧.counts self.new).reads) }
+        ensures counts { MayRaiseReads (⟦<MemStore as Store>⟧.counts self.old) (⟦<MemStore as Store>⟧.counts self.new) }
+        ensures taken { (⟦<MemStore as Store>⟧.counts self.new).taken ≡ (⟦<MemStore as Store>⟧.counts self.old).taken }
+        ensures fails { IsTrue (next_fails (⟦<MemStore as InMemory>⟧.schedule self.old)) → OnOk result ⊥ }
+        ensures no_other { OnErr result (IsTrue (next_fails (⟦<MemStore as InMemory>⟧.schedule self.old))) }
+        ensures schedule { ⟦<MemStore as InMemory>⟧.schedule self.new ≡ called (⟦<MemStore as InMemory>⟧.schedule self.old) }
+    {
         let fails = is_listed(&self.fails, self.fail_from, self.next_call);
         self.next_call = self.next_call.saturating_add(1);
         if fails {
@@ -147,7 +203,18 @@ impl Store for MemStore {
         Ok(files::bytes_in(&self.current, file).len() as u64)
     }
 
-    fn read(&mut self, file: u64, at: u64, buf: &mut [u8]) -> Result<usize, Failed> {
+    fn read(&mut self, file: u64, at: u64, buf: &mut [u8]) -> Result<usize, Failed>
+        ensures bound { IfOk result (λ n. n ≤ length buf.new) }
+        ensures bytes { IfOk result (λ n. IsRead ((⟦<MemStore as Store>⟧.view self.old).files file) at (length buf.old) n buf.new) }
+        ensures idles { Idles (⟦<MemStore as Store>⟧.view self.old) (⟦<MemStore as Store>⟧.view self.new) }
+        ensures cause { OnErr result (Rose (⟦<MemStore as Store>⟧.counts self.old).reads (⟦<MemStore as Store>⟧.counts self.new).reads) }
+        ensures counts { MayRaiseReads (⟦<MemStore as Store>⟧.counts self.old) (⟦<MemStore as Store>⟧.counts self.new) }
+        ensures taken { IfOk result (λ n. Takes n (⟦<MemStore as Store>⟧.counts self.old) (⟦<MemStore as Store>⟧.counts self.new)) }
+        ensures none_taken { OnErr result ((⟦<MemStore as Store>⟧.counts self.new).taken ≡ (⟦<MemStore as Store>⟧.counts self.old).taken) }
+        ensures fails { IsTrue (next_fails (⟦<MemStore as InMemory>⟧.schedule self.old)) → OnOk result ⊥ }
+        ensures no_other { OnErr result (IsTrue (next_fails (⟦<MemStore as InMemory>⟧.schedule self.old))) }
+        ensures schedule { ⟦<MemStore as InMemory>⟧.schedule self.new ≡ called (⟦<MemStore as InMemory>⟧.schedule self.old) }
+    {
         let fails = is_listed(&self.fails, self.fail_from, self.next_call);
         self.next_call = self.next_call.saturating_add(1);
         if fails {
@@ -159,7 +226,17 @@ impl Store for MemStore {
         Ok(count)
     }
 
-    fn write(&mut self, file: u64, at: u64, bytes: &[u8]) -> Result<(), Failed> {
+    fn write(&mut self, file: u64, at: u64, bytes: &[u8]) -> Result<(), Failed>
+        requires { at + length bytes.now < 2 ^ 64 }
+        ensures written { OnOk result ((⟦<MemStore as Store>⟧.view self.new).files file ≡ overlaid ((⟦<MemStore as Store>⟧.view self.old).files file) at bytes.now) }
+        ensures there { OnOk result ((⟦<MemStore as Store>⟧.view self.new).there file ≡ true) }
+        ensures acts { Acts file (Torn at (length bytes.now)) (⟦<MemStore as Store>⟧.view self.old) (⟦<MemStore as Store>⟧.view self.new) }
+        ensures cause { OnErr result (Rose (⟦<MemStore as Store>⟧.counts self.old).writes (⟦<MemStore as Store>⟧.counts self.new).writes) }
+        ensures counts { MayRaiseWrites (⟦<MemStore as Store>⟧.counts self.old) (⟦<MemStore as Store>⟧.counts self.new) }
+        ensures fails { IsTrue (next_fails (⟦<MemStore as InMemory>⟧.schedule self.old)) → OnOk result ⊥ }
+        ensures shown { OnOk result (state_in (⟦<MemStore as InMemory>⟧.shown self.new) file ≡ written at bytes.now true (state_in (⟦<MemStore as InMemory>⟧.shown self.old) file)) }
+        ensures schedule { ⟦<MemStore as InMemory>⟧.schedule self.new ≡ called (⟦<MemStore as InMemory>⟧.schedule self.old) }
+    {
         let fails = is_listed(&self.fails, self.fail_from, self.next_call);
         self.next_call = self.next_call.saturating_add(1);
         match files::write(
@@ -179,7 +256,17 @@ impl Store for MemStore {
         }
     }
 
-    fn cut(&mut self, file: u64, len: u64) -> Result<(), Failed> {
+    fn cut(&mut self, file: u64, len: u64) -> Result<(), Failed>
+        ensures cut { OnOk result ((⟦<MemStore as Store>⟧.view self.new).files file ≡ take len ((⟦<MemStore as Store>⟧.view self.old).files file)) }
+        ensures failed { OnErr result (((⟦<MemStore as Store>⟧.view self.new).files file ≡ (⟦<MemStore as Store>⟧.view self.old).files file) ⊎ ((⟦<MemStore as Store>⟧.view self.new).files file ≡ take len ((⟦<MemStore as Store>⟧.view self.old).files file))) }
+        ensures there { (⟦<MemStore as Store>⟧.view self.new).there file ≡ (⟦<MemStore as Store>⟧.view self.old).there file }
+        ensures acts { Acts file (Shortened len) (⟦<MemStore as Store>⟧.view self.old) (⟦<MemStore as Store>⟧.view self.new) }
+        ensures cause { OnErr result (Rose (⟦<MemStore as Store>⟧.counts self.old).writes (⟦<MemStore as Store>⟧.counts self.new).writes) }
+        ensures counts { MayRaiseWrites (⟦<MemStore as Store>⟧.counts self.old) (⟦<MemStore as Store>⟧.counts self.new) }
+        ensures fails { IsTrue (next_fails (⟦<MemStore as InMemory>⟧.schedule self.old)) → OnOk result ⊥ }
+        ensures shown { OnOk result (state_in (⟦<MemStore as InMemory>⟧.shown self.new) file ≡ shortened len true (state_in (⟦<MemStore as InMemory>⟧.shown self.old) file)) }
+        ensures schedule { ⟦<MemStore as InMemory>⟧.schedule self.new ≡ called (⟦<MemStore as InMemory>⟧.schedule self.old) }
+    {
         let fails = is_listed(&self.fails, self.fail_from, self.next_call);
         self.next_call = self.next_call.saturating_add(1);
         match files::cut(
@@ -198,7 +285,17 @@ impl Store for MemStore {
         }
     }
 
-    fn sync(&mut self, file: u64) -> Result<(), Failed> {
+    fn sync(&mut self, file: u64) -> Result<(), Failed>
+        ensures stable { OnOk result (Only ((⟦<MemStore as Store>⟧.view self.old).files file) (Now (⟦<MemStore as Store>⟧.view self.new) file)) }
+        ensures removals { OnOk result (StayGone (⟦<MemStore as Store>⟧.view self.new)) }
+        ensures there { (⟦<MemStore as Store>⟧.view self.new).there file ≡ (⟦<MemStore as Store>⟧.view self.old).there file }
+        ensures acts { Acts file Same (⟦<MemStore as Store>⟧.view self.old) (⟦<MemStore as Store>⟧.view self.new) }
+        ensures cause { OnErr result (Rose (⟦<MemStore as Store>⟧.counts self.old).writes (⟦<MemStore as Store>⟧.counts self.new).writes) }
+        ensures counts { MayRaiseWrites (⟦<MemStore as Store>⟧.counts self.old) (⟦<MemStore as Store>⟧.counts self.new) }
+        ensures fails { IsTrue (next_fails (⟦<MemStore as InMemory>⟧.schedule self.old)) → OnOk result ⊥ }
+        ensures shown { OnOk result (state_in (⟦<MemStore as InMemory>⟧.shown self.new) file ≡ synced (state_in (⟦<MemStore as InMemory>⟧.shown self.old) file)) }
+        ensures schedule { ⟦<MemStore as InMemory>⟧.schedule self.new ≡ called (⟦<MemStore as InMemory>⟧.schedule self.old) }
+    {
         let fails = is_listed(&self.fails, self.fail_from, self.next_call);
         self.next_call = self.next_call.saturating_add(1);
         if fails {
@@ -214,7 +311,15 @@ impl Store for MemStore {
         }
     }
 
-    fn remove(&mut self, file: u64) -> Result<(), Failed> {
+    fn remove(&mut self, file: u64) -> Result<(), Failed>
+        ensures removed { OnOk result ((⟦<MemStore as Store>⟧.view self.new).there file ≡ false) }
+        ensures acts { Acts file Gone (⟦<MemStore as Store>⟧.view self.old) (⟦<MemStore as Store>⟧.view self.new) }
+        ensures cause { OnErr result (Rose (⟦<MemStore as Store>⟧.counts self.old).removes (⟦<MemStore as Store>⟧.counts self.new).removes) }
+        ensures counts { MayRaiseRemoves (⟦<MemStore as Store>⟧.counts self.old) (⟦<MemStore as Store>⟧.counts self.new) }
+        ensures fails { IsTrue (next_fails (⟦<MemStore as InMemory>⟧.schedule self.old)) → OnOk result ⊥ }
+        ensures shown { OnOk result (state_in (⟦<MemStore as InMemory>⟧.shown self.new) file ≡ removed (state_in (⟦<MemStore as InMemory>⟧.shown self.old) file)) }
+        ensures schedule { ⟦<MemStore as InMemory>⟧.schedule self.new ≡ called (⟦<MemStore as InMemory>⟧.schedule self.old) }
+    {
         let fails = is_listed(&self.fails, self.fail_from, self.next_call);
         self.next_call = self.next_call.saturating_add(1);
         if fails {
@@ -230,7 +335,17 @@ impl Store for MemStore {
         }
     }
 
-    fn next_file(&mut self, from: u64) -> Result<Option<u64>, Failed> {
+    fn next_file(&mut self, from: u64) -> Result<Option<u64>, Failed>
+        ensures bound { IfOk result (λ next. IfSome next (λ file. from ≤ file)) }
+        ensures next { IfOk result (NextIs (⟦<MemStore as Store>⟧.view self.old).there from) }
+        ensures idles { Idles (⟦<MemStore as Store>⟧.view self.old) (⟦<MemStore as Store>⟧.view self.new) }
+        ensures cause { OnErr result (Rose (⟦<MemStore as Store>⟧.counts self.old).reads (⟦<MemStore as Store>⟧.counts self.new).reads) }
+        ensures counts { MayRaiseReads (⟦<MemStore as Store>⟧.counts self.old) (⟦<MemStore as Store>⟧.counts self.new) }
+        ensures taken { (⟦<MemStore as Store>⟧.counts self.new).taken ≡ (⟦<MemStore as Store>⟧.counts self.old).taken }
+        ensures fails { IsTrue (next_fails (⟦<MemStore as InMemory>⟧.schedule self.old)) → OnOk result ⊥ }
+        ensures no_other { OnErr result (IsTrue (next_fails (⟦<MemStore as InMemory>⟧.schedule self.old))) }
+        ensures schedule { ⟦<MemStore as InMemory>⟧.schedule self.new ≡ called (⟦<MemStore as InMemory>⟧.schedule self.old) }
+    {
         let fails = is_listed(&self.fails, self.fail_from, self.next_call);
         self.next_call = self.next_call.saturating_add(1);
         if fails {

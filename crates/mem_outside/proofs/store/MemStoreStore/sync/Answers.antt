@@ -6,14 +6,14 @@ use Rattle.mem_outside.proofs.Calls.{state_now}
 use Rattle.mem_outside.proofs.store.MemStoreStore.sync.Goals as goal
 
 pub returns-in-Ok-clause-stable : goal.returns-in-Ok-clause-stable
-returns-in-Ok-clause-stable c = λ told x now.
+returns-in-Ok-clause-stable c = λ x now.
     let files : List Shown = c.sync.new.current.items in
     let here : Outcome (state_in files c.args.file) x =
     subst (λ (l : List Shown). Outcome (state_in l c.args.file) x) (state_now c.sync.new.past.items files (length c.sync.new.past.items) (omega arith)) now in
     synced_only (state_in c.args.self.now.current.items c.args.file) x (subst (λ (s : Shown). Outcome s x) c.in-Ok.ensures.state here)
 
 pub returns-in-Ok-clause-removals : goal.returns-in-Ok-clause-removals
-returns-in-Ok-clause-removals c = λ told g gone x now.
+returns-in-Ok-clause-removals c = λ g gone x now.
     let files : List Shown = c.sync.new.current.items in
     let here : Outcome (state_in files g) x =
     subst (λ (l : List Shown). Outcome (state_in l g) x) (state_now c.sync.new.past.items files (length c.sync.new.past.items) (omega arith)) now in
