@@ -1,5 +1,5 @@
 //! A store in memory.
-ghost use Rattle.std.specs.Prelude.{◌≡◌, ◌≢◌, ◌⊎◌, ℕ, ◌+◌, ◌^◌, ◌/◌, ◌%◌, ◌==◌, ◌<◌, ◌≤◌, true, false, List, [], length, take, map, None, IsTrue, IfOk, IfSome, OnOk, OnErr};
+ghost use Rattle.std.specs.Prelude.{◌≡◌, ◌≢◌, ◌⊎◌, ℕ, ◌+◌, ◌^◌, ◌-◌, ◌/◌, ◌%◌, ◌==◌, ◌<◌, ◌≤◌, true, false, List, [], length, take, map, min, None, IsTrue, IfOk, IfSome, OnOk, OnErr};
 ghost use Rattle.std.specs.List.{list_all};
 ghost use Rattle.mem_outside.specs.Shown.{Shown};
 ghost use Rattle.mem_outside.specs.Outcomes.{is_sound, state_in, stable_file, written, shortened, synced, removed, left_of};
@@ -130,10 +130,13 @@ impl MemStore {
     }
 }
 
-// Whether the call of this number is to fail.
-fn is_listed(fails: &[u64], fail_from: Option<u64>, call: u64) -> bool
-    ensures { result ≡ next_fails (record { listed = fails.now; from = fail_from; next = call }) }
+// Whether the next call is to fail, which takes its number.
+fn next_call_fails(fails: &[u64], fail_from: Option<u64>, next_call: &mut u64) -> bool
+    ensures fails { result ≡ next_fails (record { listed = fails.now; from = fail_from; next = next_call.old }) }
+    ensures next { next_call.new ≡ min (next_call.old + 1) (2 ^ 64 - 1) }
 {
+    let call = *next_call;
+    *next_call = call.saturating_add(1);
     match fail_from {
         Some(first) if first <= call => true,
         _ => fails.contains(&call),
@@ -175,8 +178,7 @@ impl Store for MemStore {
         ensures no_other { OnErr result (IsTrue (next_fails (⟦<MemStore as InMemory>⟧.schedule self.old))) }
         ensures schedule { ⟦<MemStore as InMemory>⟧.schedule self.new ≡ called (⟦<MemStore as InMemory>⟧.schedule self.old) }
     {
-        let fails = is_listed(&self.fails, self.fail_from, self.next_call);
-        self.next_call = self.next_call.saturating_add(1);
+        let fails = next_call_fails(&self.fails, self.fail_from, &mut self.next_call);
         if fails {
             self.reads = self.reads.saturating_add(1);
             return Err(Failed);
@@ -194,8 +196,7 @@ impl Store for MemStore {
         ensures no_other { OnErr result (IsTrue (next_fails (⟦<MemStore as InMemory>⟧.schedule self.old))) }
         ensures schedule { ⟦<MemStore as InMemory>⟧.schedule self.new ≡ called (⟦<MemStore as InMemory>⟧.schedule self.old) }
     {
-        let fails = is_listed(&self.fails, self.fail_from, self.next_call);
-        self.next_call = self.next_call.saturating_add(1);
+        let fails = next_call_fails(&self.fails, self.fail_from, &mut self.next_call);
         if fails {
             self.reads = self.reads.saturating_add(1);
             return Err(Failed);
@@ -215,8 +216,7 @@ impl Store for MemStore {
         ensures no_other { OnErr result (IsTrue (next_fails (⟦<MemStore as InMemory>⟧.schedule self.old))) }
         ensures schedule { ⟦<MemStore as InMemory>⟧.schedule self.new ≡ called (⟦<MemStore as InMemory>⟧.schedule self.old) }
     {
-        let fails = is_listed(&self.fails, self.fail_from, self.next_call);
-        self.next_call = self.next_call.saturating_add(1);
+        let fails = next_call_fails(&self.fails, self.fail_from, &mut self.next_call);
         if fails {
             self.reads = self.reads.saturating_add(1);
             return Err(Failed);
@@ -237,8 +237,7 @@ impl Store for MemStore {
         ensures shown { OnOk result (state_in (⟦<MemStore as InMemory>⟧.shown self.new) file ≡ written at bytes.now true (state_in (⟦<MemStore as InMemory>⟧.shown self.old) file)) }
         ensures schedule { ⟦<MemStore as InMemory>⟧.schedule self.new ≡ called (⟦<MemStore as InMemory>⟧.schedule self.old) }
     {
-        let fails = is_listed(&self.fails, self.fail_from, self.next_call);
-        self.next_call = self.next_call.saturating_add(1);
+        let fails = next_call_fails(&self.fails, self.fail_from, &mut self.next_call);
         match files::write(
             self.alloc,
             &mut self.current,
@@ -267,8 +266,7 @@ impl Store for MemStore {
         ensures shown { OnOk result (state_in (⟦<MemStore as InMemory>⟧.shown self.new) file ≡ shortened len true (state_in (⟦<MemStore as InMemory>⟧.shown self.old) file)) }
         ensures schedule { ⟦<MemStore as InMemory>⟧.schedule self.new ≡ called (⟦<MemStore as InMemory>⟧.schedule self.old) }
     {
-        let fails = is_listed(&self.fails, self.fail_from, self.next_call);
-        self.next_call = self.next_call.saturating_add(1);
+        let fails = next_call_fails(&self.fails, self.fail_from, &mut self.next_call);
         match files::cut(
             self.alloc,
             &mut self.current,
@@ -296,8 +294,7 @@ impl Store for MemStore {
         ensures shown { OnOk result (state_in (⟦<MemStore as InMemory>⟧.shown self.new) file ≡ synced (state_in (⟦<MemStore as InMemory>⟧.shown self.old) file)) }
         ensures schedule { ⟦<MemStore as InMemory>⟧.schedule self.new ≡ called (⟦<MemStore as InMemory>⟧.schedule self.old) }
     {
-        let fails = is_listed(&self.fails, self.fail_from, self.next_call);
-        self.next_call = self.next_call.saturating_add(1);
+        let fails = next_call_fails(&self.fails, self.fail_from, &mut self.next_call);
         if fails {
             self.writes = self.writes.saturating_add(1);
             return Err(Failed);
@@ -320,8 +317,7 @@ impl Store for MemStore {
         ensures shown { OnOk result (state_in (⟦<MemStore as InMemory>⟧.shown self.new) file ≡ removed (state_in (⟦<MemStore as InMemory>⟧.shown self.old) file)) }
         ensures schedule { ⟦<MemStore as InMemory>⟧.schedule self.new ≡ called (⟦<MemStore as InMemory>⟧.schedule self.old) }
     {
-        let fails = is_listed(&self.fails, self.fail_from, self.next_call);
-        self.next_call = self.next_call.saturating_add(1);
+        let fails = next_call_fails(&self.fails, self.fail_from, &mut self.next_call);
         if fails {
             self.removes = self.removes.saturating_add(1);
             return Err(Failed);
@@ -346,8 +342,7 @@ impl Store for MemStore {
         ensures no_other { OnErr result (IsTrue (next_fails (⟦<MemStore as InMemory>⟧.schedule self.old))) }
         ensures schedule { ⟦<MemStore as InMemory>⟧.schedule self.new ≡ called (⟦<MemStore as InMemory>⟧.schedule self.old) }
     {
-        let fails = is_listed(&self.fails, self.fail_from, self.next_call);
-        self.next_call = self.next_call.saturating_add(1);
+        let fails = next_call_fails(&self.fails, self.fail_from, &mut self.next_call);
         if fails {
             self.reads = self.reads.saturating_add(1);
             return Err(Failed);
