@@ -1,5 +1,7 @@
-//! Tests of the log and of the extent files over the store in memory.
+//! The extent files and the log over the store in memory: that their contracts hold together, and tests.
 #![tactic(auto)]
+
+pub mod crashes;
 
 #[cfg(test)]
 mod log {
