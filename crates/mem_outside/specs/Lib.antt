@@ -1,7 +1,8 @@
-pub mod Outcomes
-pub mod Moments
-pub mod Shown
-pub mod Loosening
-pub mod Sound
 pub mod Laws
+pub mod Loosening
+pub mod Moments
+pub mod Outcomes
 pub mod Schedule
+pub mod Shown
+pub mod Sound
+pub mod Streams

@@ -3,6 +3,11 @@
 
 pub mod file_state;
 mod files;
+mod schedule;
+pub mod sink;
+pub mod source;
 pub mod store;
 
+pub use sink::MemSink;
+pub use source::MemSource;
 pub use store::MemStore;

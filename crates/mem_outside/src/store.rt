@@ -27,6 +27,7 @@ ghost use Rattle.outside_traits.specs.Calls.{
 
 use crate::file_state::FileState;
 use crate::files;
+use crate::schedule::next_call_fails;
 use outside_traits::{Failed, Store};
 use rows_core::{Memory, Seq};
 use std::alloc::Global;
@@ -127,19 +128,6 @@ impl MemStore {
         ensures { result.now ≡ (⟦<MemStore as Store>⟧.view self.now).files file }
     {
         files::bytes_in(&self.current, file)
-    }
-}
-
-// Whether the next call is to fail, which takes its number.
-fn next_call_fails(fails: &[u64], fail_from: Option<u64>, next_call: &mut u64) -> bool
-    ensures fails { result ≡ next_fails (record { listed = fails.now; from = fail_from; next = next_call.old }) }
-    ensures next { next_call.new ≡ min (next_call.old + 1) (2 ^ 64 - 1) }
-{
-    let call = *next_call;
-    *next_call = call.saturating_add(1);
-    match fail_from {
-        Some(first) if first <= call => true,
-        _ => fails.contains(&call),
     }
 }
 
