@@ -1,8 +1,12 @@
 -- The words of the kinds.
-use Rattle.std.specs.Prelude.{ℕ, List, codes}
+use Rattle.std.specs.Prelude.{ℕ, if◌then◌else◌, List, Option, Some, None, codes, bytes_eq}
 use Rattle.rows_core.specs.declared.kind.Kind.{Kind}
 use Rattle.rows_core.specs.declared.kind.Kind.TheVariants.{Int, Text}
 
 abbrev pub kind_word : Kind → List ℕ
 kind_word Int = codes "int"
 kind_word Text = codes "text"
+
+-- the kind with this word, if there is one
+unfoldable pub kind_with_word : List ℕ → Option Kind
+kind_with_word word = if bytes_eq word (kind_word Int) then Some Int else if bytes_eq word (kind_word Text) then Some Text else None

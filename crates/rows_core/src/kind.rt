@@ -1,6 +1,6 @@
 //! The kinds of values, and their words in the script.
 ghost use Rattle.std.specs.Prelude.{◌≡◌, ◌≢◌, ◌↔◌, IfSome, IsNone};
-ghost use Rattle.rows_core.specs.Kind.{kind_word};
+ghost use Rattle.rows_core.specs.Kind.{kind_word, kind_with_word};
 ghost use Rattle.rows_core.specs.declared.kind.Kind.{Kind};
 
 /// What a column's values are: numbers in i64, or texts.
@@ -12,7 +12,9 @@ pub enum Kind {
 
 impl Kind {
     /// The kind with this word; `None` exactly where the bytes are no kind's word.
+    #[tactic(auto, unfolding(crate::specs::Kind::kind_with_word))]
     pub fn of(word: &[u8]) -> Option<Kind>
+        ensures read { result ≡ kind_with_word word.now }
         ensures kind { IfSome result (λ kind. kind_word kind ≡ word.now) }
         ensures none { IsNone result ↔ ((kind : Kind) → kind_word kind ≢ word.now) }
     {
