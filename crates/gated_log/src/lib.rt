@@ -7,4 +7,5 @@ pub mod reading;
 pub mod refusal;
 
 pub use log::Log;
+pub use reading::one_reading;
 pub use refusal::LogRefusal;

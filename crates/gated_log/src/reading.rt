@@ -1,5 +1,5 @@
 //! What bytes read as.
-ghost use Rattle.std.specs.Prelude.{◌≡◌, ◌≢◌, ◌+◌, ◌^◌, ◌<◌, ◌≤◌, ◌++◌, ℕ, length, take, IfOk, IsErrOf, MatchOption};
+ghost use Rattle.std.specs.Prelude.{◌≡◌, ◌≢◌, ◌+◌, ◌^◌, ◌<◌, ◌≤◌, ◌++◌, ℕ, List, length, take, IfOk, IsErrOf, MatchOption};
 ghost use Rattle.std.specs.List.{All};
 ghost use Rattle.gated_log.specs.Logs.{header, front, spelled, contents, IsBody, NoBody, Reads, StopsAt};
 
@@ -94,6 +94,13 @@ fn first_body(bytes: &[u8]) -> Option<(&[u8], &[u8])>
         _ => None,
     }
 }
+
+/// Each file has one reading, or it stops at one place, and never both.
+pub fn one_reading()
+    ensures bodies { (ps qs : List (List ℕ)) (file : List ℕ) → Reads ps file → Reads qs file → ps ≡ qs }
+    ensures place { (a b : ℕ) (file : List ℕ) → StopsAt a file → StopsAt b file → a ≡ b }
+    ensures not_both { (ps : List (List ℕ)) (at : ℕ) (file : List ℕ) → Reads ps file → StopsAt at file → ⊥ }
+{}
 
 // How long a log of these bodies is up to its last gate.
 pub(crate) fn length_of_front(bodies: &[Vec<u8>]) -> u64

@@ -5,6 +5,7 @@ pub mod crashes;
 
 #[cfg(test)]
 mod log {
+    use crate::crashes::log_after_a_crash;
     use gated_log::{Log, LogRefusal};
     use mem_outside::MemStore;
     use std::alloc::Global;
@@ -47,17 +48,6 @@ mod log {
         }
     }
 
-    /// How many bodies an image has after a commit that the store stopped, and whether the commit was answered.
-    fn after_a_stop(alloc: Global, stop: u64, pick: u64) -> Result<(bool, usize), Fail> {
-        let mut store = MemStore::new(alloc, Vec::new(alloc));
-        let log = Log::create(&mut store, 5)?;
-        store.fail_from(stop);
-        let answered = log.commit(&mut store, &[1, 1]).is_ok();
-        let mut left = store.image(pick)?;
-        let (_, bodies) = Log::read(alloc, &mut left, 5)?;
-        Ok((answered, bodies.len()))
-    }
-
     #[test]
     fn two_files_byte_for_byte(rt: HostRuntime) -> Result<(), Fail> {
         let alloc = rt.alloc();
@@ -92,13 +82,15 @@ mod log {
     }
 
     #[test]
-    fn a_commit_is_stopped_at_each_call(rt: HostRuntime) -> Result<(), Fail> {
+    fn a_commit_is_answered_where_none_of_its_calls_failed(rt: HostRuntime) -> Result<(), Fail> {
         let alloc = rt.alloc();
         for stop in 4..12 {
             for pick in 0..8 {
-                let (answered, bodies) = after_a_stop(alloc, stop, pick)?;
+                let mut store = MemStore::new(alloc, Vec::new(alloc));
+                store.fail_from(stop);
+                let (answered, bodies) = log_after_a_crash(alloc, &mut store, 5, &[1, 1], pick)?;
                 assert_eq!(rt; answered, stop >= 10);
-                assert!(rt; bodies <= 1 && (bodies == 1 || !answered));
+                assert!(rt; bodies.len() <= 1);
             }
         }
         Ok(())
@@ -142,6 +134,42 @@ mod files {
         assert!(rt; read_file(alloc, &mut store, &at).err() == Some(damaged));
         drop_file(&mut store, 3)?;
         assert_eq!(rt; store.bytes(3).len(), 0);
+        Ok(())
+    }
+}
+
+#[cfg(test)]
+mod pieces {
+    use mem_outside::{MemSink, MemSource};
+    use outside_traits::{Sink, Source};
+    use std::test::Fail;
+
+    #[test]
+    fn a_source_gives_pieces_and_fails_where_listed(rt: HostRuntime) -> Result<(), Fail> {
+        let alloc = rt.alloc();
+        let bytes = Vec::from_slice(alloc, b"abcdefg".as_slice())?;
+        let mut source = MemSource::new(bytes, 3, vec![in alloc; 1]?);
+        let mut room = [0; 4];
+        assert!(rt; source.read(&mut room).ok() == Some(3));
+        assert_eq!(rt; &room[..3], b"abc".as_slice());
+        assert!(rt; source.read(&mut room).is_err());
+        assert!(rt; source.read(&mut room[..2]).ok() == Some(2));
+        assert!(rt; source.read(&mut room[2..]).ok() == Some(2));
+        assert_eq!(rt; room.as_slice(), b"defg".as_slice());
+        assert!(rt; source.read(&mut room).ok() == Some(0));
+        Ok(())
+    }
+
+    #[test]
+    fn a_sink_takes_all_and_fails_where_listed(rt: HostRuntime) -> Result<(), Fail> {
+        let alloc = rt.alloc();
+        let mut sink = MemSink::new(alloc, vec![in alloc; 1]?);
+        sink.fail_from(3);
+        assert!(rt; sink.write(b"ab".as_slice()).ok() == Some(2));
+        assert!(rt; sink.write(b"xy".as_slice()).is_err());
+        assert!(rt; sink.write(b"c".as_slice()).ok() == Some(1));
+        assert!(rt; sink.write(b"z".as_slice()).is_err());
+        assert_eq!(rt; sink.written(), b"abc".as_slice());
         Ok(())
     }
 }
