@@ -1,0 +1,6 @@
+-- One item less at each call.
+use Rattle.std.proofs.Common.{length}
+use Rattle.plan_core.proofs.plan.+are_same_pairs.Given as goal
+
+abbrev pub decreases-are_same_pairs : goal.decreases-are_same_pairs
+decreases-are_same_pairs l = length l.pairs.now

@@ -1,0 +1,16 @@
+pub mod PlainExpr
+pub mod PlainPlan
+pub mod Columns
+pub mod ExpressionValue
+pub mod ExpressionKind
+pub mod PlanTyping
+pub mod Filter
+pub mod Project
+pub mod Distinct
+pub mod Aggregate
+pub mod Group
+pub mod Join
+pub mod StableOrder
+pub mod PlanMeaning
+pub mod MachineTime
+pub mod Examples

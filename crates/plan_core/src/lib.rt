@@ -1,0 +1,14 @@
+//! The language of queries: plans, their typing, and what an expression and a plan mean.
+#![tactic(auto)]
+
+pub mod agg;
+pub mod expr;
+pub mod plan;
+pub mod refusal;
+pub mod schemas;
+
+pub use agg::Agg;
+pub use expr::Expr;
+pub use plan::Plan;
+pub use refusal::{EvRefusal, PlanRefusal};
+pub use schemas::Schemas;
