@@ -19,7 +19,7 @@ pub use file_ref::{Digest, FileRef};
 pub use kind::Kind;
 pub use memory::Memory;
 pub use name::{Name, NameRefusal};
-pub use order::{Key, cmp_by};
+pub use order::{Key, cmp_by, total_order};
 pub use overflow::Overflow;
 pub use row::Row;
 pub use schema::{Column, Schema, SchemaRefusal};

@@ -1,5 +1,7 @@
 //! The order of rows by keys.
-ghost use Rattle.std.specs.Prelude.{◌≡◌};
+ghost use Rattle.std.specs.Prelude.{◌≡◌, List};
+ghost use Rattle.std.specs.Cmp.{IsTotalOrder};
+ghost use Rattle.rows_core.specs.declared.order.Key.{Key};
 ghost use Rattle.rows_core.specs.RowOrder.{key_cmp, row_cmp};
 
 use crate::row::Row;
@@ -25,6 +27,12 @@ pub fn cmp_by(a: &Row, b: &Row, keys: &[Key]) -> Ordering
         }
     }
     Ordering::Equal
+}
+
+/// By any keys rows stand in a total order, up to rows that no key tells apart. So a stable sort by it has one answer.
+pub fn total_order()
+    ensures { (keys : List Key) → IsTotalOrder (row_cmp keys) }
+{
 }
 
 fn cmp_at(a: &Row, b: &Row, key: &Key) -> Ordering
