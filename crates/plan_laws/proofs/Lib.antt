@@ -1,0 +1,4 @@
+pub mod FirstOfEqual
+pub mod Insertion
+pub mod Members
+pub mod StableLists

@@ -1,0 +1,10 @@
+//! Laws of what plans mean, in the words of the subject. Each is a function that does nothing, whose contract is the law.
+#![tactic(auto)]
+
+pub mod distinct;
+pub mod groups;
+pub mod order;
+
+pub use distinct::first_of_equal_rows;
+pub use groups::keys_of_groups;
+pub use order::one_stable_order;
