@@ -7,6 +7,7 @@ pub mod expr;
 pub mod plan;
 pub mod refusal;
 pub mod schemas;
+pub mod typing;
 
 pub use agg::Agg;
 pub use evaluation::ev;
