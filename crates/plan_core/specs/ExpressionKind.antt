@@ -1,6 +1,7 @@
 -- The kind of an expression over columns of these kinds, if it has one. The rules are this project's own.
 use Rattle.std.specs.Prelude.{ℕ, zero, suc, pos, negsuc, Bool, true, false, ◌&&◌, not, ◌==◌, List, [], ◌∷◌, slice_get, Option, None, Some, if◌then◌else◌, IsSome}
 use Rattle.std.specs.Option.{option_map, option_and_then}
+use Rattle.std.specs.Cmp.Lexicographic.{pointwise}
 use Rattle.rows_core.specs.declared.kind.Kind as column
 use Rattle.rows_core.specs.declared.kind.Kind.TheVariants as column_kind
 use Rattle.scalar_ops.specs.declared.cell.Cell.TheVariants as cell
@@ -8,7 +9,6 @@ use Rattle.scalar_ops.specs.declared.cell.CellKind.{CellKind}
 use Rattle.scalar_ops.specs.declared.cell.CellKind.TheVariants as kind
 use Rattle.scalar_ops.specs.declared.table.Op.{Op}
 use Rattle.scalar_ops.specs.declared.table.Op.TheVariants as op
-use Rattle.scalar_ops.specs.declared.table.OpRow.{OpRow}
 use Rattle.scalar_ops.specs.Cells.{kind_of_cell}
 use Rattle.scalar_ops.specs.Table.{kinds_of_args}
 use Rattle.scalar_ops.specs.Meaning.{row_at, op_at}
@@ -24,18 +24,15 @@ same_cell_kind kind.Text kind.Text = true
 same_cell_kind kind.Bool kind.Bool = true
 same_cell_kind _ _ = false
 
--- each argument has a kind, which is the wanted one
-abbrev pub have_kinds : List (Option CellKind) → List CellKind → Bool
-have_kinds [] [] = true
-have_kinds (Some k ∷ ks) (j ∷ js) = same_cell_kind k j && have_kinds ks js
-have_kinds _ _ = false
+-- what f gives of two that are both there
+abbrev pub of_both : {A B C : Type 0} → (A → B → Option C) → Option A → Option B → Option C
+of_both f (Some x) (Some y) = f x y
+of_both f _ _ = None
 
--- what the table's row gives, where it is there and the arguments have its kinds
-abbrev pub row_kind : List (Option CellKind) → OpRow → Option CellKind
-row_kind arguments row = if have_kinds arguments (kinds_of_args row.args) then Some row.result else None
-
-abbrev pub call_kind : ℕ → List (Option CellKind) → Option CellKind
-call_kind row arguments = option_and_then (row_kind arguments) (row_at row)
+-- what a row of the table gives at arguments of these kinds, where it is there and is for them
+abbrev pub call_kind : ℕ → List CellKind → Option CellKind
+call_kind row kinds =
+    option_and_then (λ r. if pointwise same_cell_kind kinds (kinds_of_args r.args) then Some r.result else None) (row_at row)
 
 abbrev pub is_division : Op → Bool
 is_division op.Div = true
@@ -60,10 +57,10 @@ choice_kind _ _ _ = None
 abbrev pub expression_kind : List column.Kind → PlainExpr → Option CellKind
 expression_kind kinds (Column i) = option_map cell_kind_of (slice_get kinds i)
 expression_kind kinds (Literal c) = Some (kind_of_cell c)
-expression_kind kinds (Call1 row a) = call_kind row (expression_kind kinds a ∷ [])
+expression_kind kinds (Call1 row a) = option_and_then (λ k. call_kind row (k ∷ [])) (expression_kind kinds a)
 expression_kind kinds (Call2 row a b) =
     if is_division (op_at row) && not (is_divisor b) then None
-    else call_kind row (expression_kind kinds a ∷ expression_kind kinds b ∷ [])
+    else of_both (λ k j. call_kind row (k ∷ j ∷ [])) (expression_kind kinds a) (expression_kind kinds b)
 expression_kind kinds (And a b) = both_truths (expression_kind kinds a) (expression_kind kinds b)
 expression_kind kinds (Or a b) = both_truths (expression_kind kinds a) (expression_kind kinds b)
 expression_kind kinds (If c a b) = choice_kind (expression_kind kinds c) (expression_kind kinds a) (expression_kind kinds b)

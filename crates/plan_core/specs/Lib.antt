@@ -13,4 +13,5 @@ pub mod Join
 pub mod StableOrder
 pub mod PlanMeaning
 pub mod MachineTime
+pub mod Answer
 pub mod Examples

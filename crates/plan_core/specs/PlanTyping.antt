@@ -15,7 +15,7 @@ use Rattle.plan_core.specs.declared.refusal.PlanRefusal.{PlanRefusal}
 use Rattle.plan_core.specs.declared.refusal.PlanRefusal.TheVariants.{Unknown, IllTyped, TooMany}
 use Rattle.plan_core.specs.PlainExpr.{PlainExpr}
 use Rattle.plan_core.specs.PlainPlan.{PlainPlan, Scan, Filter, Project, Distinct, Group, Join, Concat, Order, leaves}
-use Rattle.plan_core.specs.ExpressionKind.{expression_kind}
+use Rattle.plan_core.specs.ExpressionKind.{of_both, expression_kind}
 
 abbrev pub Kinds : Type 0
 Kinds = List column.Kind
@@ -33,11 +33,6 @@ abbrev pub all_there : {A : Type 0} → List (Option A) → Option (List A)
 all_there [] = Some []
 all_there (None ∷ xs) = None
 all_there (Some x ∷ xs) = option_and_then (λ others. Some (x ∷ others)) (all_there xs)
-
--- what f gives of two that are both there
-abbrev pub of_both : {A B C : Type 0} → (A → B → Option C) → Option A → Option B → Option C
-of_both f (Some x) (Some y) = f x y
-of_both f _ _ = None
 
 -- the kind of a column with values of this kind; a column has no truth values
 abbrev pub column_kind : CellKind → Option column.Kind

@@ -13,7 +13,10 @@ pub enum Expr {
     Column(u32),
     Literal(Cell),
     /// An operation of one argument, by the number of its row of `OPS`.
-    Call1 { row: u32, arg: Box<Expr> },
+    Call1 {
+        row: u32,
+        arg: Box<Expr>,
+    },
     /// An operation of two arguments, by the number of its row of `OPS`.
     Call2 {
         row: u32,

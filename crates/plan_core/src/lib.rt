@@ -2,12 +2,15 @@
 #![tactic(auto)]
 
 pub mod agg;
+pub mod evaluation;
 pub mod expr;
 pub mod plan;
 pub mod refusal;
 pub mod schemas;
+pub mod typing;
 
 pub use agg::Agg;
+pub use evaluation::ev;
 pub use expr::Expr;
 pub use plan::Plan;
 pub use refusal::{EvRefusal, PlanRefusal};

@@ -13,16 +13,23 @@ use std::alloc::Global;
 #[derive(Debug, Drop)]
 pub enum Plan {
     /// The rows of a stream.
-    Scan { stream: u32 },
+    Scan {
+        stream: u32,
+    },
     /// The rows at which the test is true.
-    Filter { child: Box<Plan>, test: Expr },
+    Filter {
+        child: Box<Plan>,
+        test: Expr,
+    },
     /// A row of these columns for each row.
     Project {
         child: Box<Plan>,
         columns: Seq<Expr>,
     },
     /// The first of equal rows.
-    Distinct { child: Box<Plan> },
+    Distinct {
+        child: Box<Plan>,
+    },
     /// A row for each group of rows with equal keys: the keys and then the aggregates.
     Group {
         child: Box<Plan>,
@@ -36,9 +43,15 @@ pub enum Plan {
         on: Seq<(u32, u32)>,
     },
     /// The left rows, then the right ones.
-    Concat { left: Box<Plan>, right: Box<Plan> },
+    Concat {
+        left: Box<Plan>,
+        right: Box<Plan>,
+    },
     /// The rows, stably sorted by the keys.
-    Order { child: Box<Plan>, keys: Seq<Key> },
+    Order {
+        child: Box<Plan>,
+        keys: Seq<Key>,
+    },
 }
 
 impl Plan {

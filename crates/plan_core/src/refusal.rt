@@ -1,6 +1,9 @@
 //! Why a plan has no typing, and why an expression has no value.
+ghost use Rattle.std.specs.Prelude.{◌≡◌};
+ghost use Rattle.plan_core.specs.declared.refusal.EvRefusal.TheVariants as value;
+ghost use Rattle.plan_core.specs.declared.refusal.PlanRefusal.TheVariants as typing;
 
-use rows_core::Memory;
+use rows_core::{Memory, Overflow};
 use thiserror::Error;
 
 /// Why a plan was not typed.
@@ -29,13 +32,25 @@ pub enum EvRefusal {
 }
 
 impl From<Memory> for PlanRefusal {
-    fn from(_refusal: Memory) -> PlanRefusal {
+    ghost from_gives = { λ _ e. e ≡ typing.Memory };
+
+    fn from(_memory: Memory) -> PlanRefusal {
         PlanRefusal::Memory
     }
 }
 
 impl From<Memory> for EvRefusal {
-    fn from(_refusal: Memory) -> EvRefusal {
+    ghost from_gives = { λ _ e. e ≡ value.Memory };
+
+    fn from(_memory: Memory) -> EvRefusal {
         EvRefusal::Memory
+    }
+}
+
+impl From<Overflow> for EvRefusal {
+    ghost from_gives = { λ _ e. e ≡ value.Overflow };
+
+    fn from(_overflow: Overflow) -> EvRefusal {
+        EvRefusal::Overflow
     }
 }
