@@ -11,6 +11,7 @@ pub mod Aggregate
 pub mod Group
 pub mod Join
 pub mod StableOrder
+pub mod TypedRows
 pub mod PlanMeaning
 pub mod MachineTime
 pub mod Answer

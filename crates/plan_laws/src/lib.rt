@@ -4,7 +4,9 @@
 pub mod distinct;
 pub mod groups;
 pub mod order;
+pub mod typed;
 
 pub use distinct::first_of_equal_rows;
 pub use groups::keys_of_groups;
 pub use order::one_stable_order;
+pub use typed::typed_plans_give_typed_rows;
