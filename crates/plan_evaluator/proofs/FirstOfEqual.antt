@@ -11,7 +11,7 @@ use Rattle.rows_core.specs.declared.value.Value.{Value}
 use Rattle.rows_core.specs.declared.value.Value.TheVariants.{Int, Text}
 use Rattle.plan_core.specs.Columns.{Row, Rows, value_eq, row_eq}
 use Rattle.plan_core.specs.Distinct.{distinct_rows}
-use Rattle.plan_laws.proofs.Members.{at_front, behind, front_or_behind, kept, was_there}
+use Rattle.plan_evaluator.proofs.Members.{at_front, behind, front_or_behind, kept, was_there}
 
 pub value_eq-Decides : (a b : Value) → Decides (value_eq a b) (a ≡ b)
 value_eq-Decides (Int a) (Int b) = Decides-like _ (λ e. ap Int e) (λ e. cc) (Decides-int_eq a b)

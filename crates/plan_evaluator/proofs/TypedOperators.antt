@@ -37,10 +37,10 @@ use Rattle.plan_core.specs.PlainExpr.{PlainExpr}
 use Rattle.plan_core.specs.PlanTyping.{Kinds, same_kind, is_empty, all_there, column_kind, is_truth, filter_kinds, project_kinds, number_kind, agg_kind, group_kinds, pair_agrees, join_kinds, concat_kinds}
 use Rattle.plan_core.specs.Project.{column_value, project_row, project_rows}
 use Rattle.plan_core.specs.TypedRows.{HaveKinds}
-use Rattle.plan_laws.proofs.Answers.{both_ok, both_some, tested, otherwise, there_front, all_front, each_of, zipped}
-use Rattle.plan_laws.proofs.FirstOfEqual.{has_no_more, others_than, row_eq-Decides}
-use Rattle.plan_laws.proofs.Members.{at_front, kept, mapped_from}
-use Rattle.plan_laws.proofs.TypedValues.{column_has_kind, KindsOfValues, value_has_kind}
+use Rattle.plan_evaluator.proofs.Answers.{both_ok, both_some, tested, otherwise, there_front, all_front, each_of, zipped}
+use Rattle.plan_evaluator.proofs.FirstOfEqual.{has_no_more, others_than, row_eq-Decides}
+use Rattle.plan_evaluator.proofs.Members.{at_front, kept, mapped_from}
+use Rattle.plan_evaluator.proofs.TypedValues.{column_has_kind, KindsOfValues, value_has_kind}
 
 abbrev HasKinds : Kinds → Row → Type 0
 HasKinds kinds row = map kind_of row ≡ kinds

@@ -22,7 +22,7 @@ use Rattle.plan_core.specs.ExpressionKind.{cell_kind_of, same_cell_kind, call_ki
 use Rattle.plan_core.specs.ExpressionValue.{◌>>=◌, cell_of_value, value_of_cell, is_true, expression_value}
 use Rattle.plan_core.specs.PlainExpr.{PlainExpr, Column, Literal, Call1, Call2, And, Or, If}
 use Rattle.plan_core.specs.PlanTyping.{column_kind}
-use Rattle.plan_laws.proofs.Answers.{both_ok, both_some, tested, otherwise}
+use Rattle.plan_evaluator.proofs.Answers.{both_ok, both_some, tested, otherwise}
 
 pub column_has_kind : (row : Row) (i : ℕ) (k : Kind) → slice_get (map kind_of row) i ≡ Some k → kind_of (column_of row i) ≡ k
 column_has_kind [] i k is = absurd (cc)

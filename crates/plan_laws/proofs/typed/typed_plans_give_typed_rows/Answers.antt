@@ -1,5 +1,0 @@
-use Rattle.plan_laws.proofs.TypedPlans.{if_given}
-use Rattle.plan_laws.proofs.typed.typed_plans_give_typed_rows.Goals as goal
-
-pub returns : goal.returns
-returns c = if_given c.kinds_of_values.ensures c.total_order.ensures
