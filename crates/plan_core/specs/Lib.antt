@@ -14,4 +14,5 @@ pub mod StableOrder
 pub mod PlanMeaning
 pub mod MachineTime
 pub mod Answer
+pub mod Typing
 pub mod Examples
