@@ -1,1 +1,3 @@
+pub mod AllThere
 pub mod ExprLaws
+pub mod PlanLaws

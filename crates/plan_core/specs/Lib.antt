@@ -15,4 +15,5 @@ pub mod TypedRows
 pub mod PlanMeaning
 pub mod MachineTime
 pub mod Answer
+pub mod Typing
 pub mod Examples

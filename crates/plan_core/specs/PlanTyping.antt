@@ -40,6 +40,10 @@ column_kind cell_kind.Int = Some Int
 column_kind cell_kind.Text = Some Text
 column_kind cell_kind.Bool = None
 
+-- the kind of a column of a projection
+abbrev pub column_kind_of : Kinds → PlainExpr → Option column.Kind
+column_kind_of kinds e = option_and_then column_kind (expression_kind kinds e)
+
 abbrev pub is_truth : Option CellKind → Bool
 is_truth (Some cell_kind.Bool) = true
 is_truth _ = false
@@ -51,7 +55,7 @@ filter_kinds test kinds = if is_truth (expression_kind kinds test) then Some kin
 -- one column or more, each a number or a text
 abbrev pub project_kinds : List PlainExpr → Kinds → Option Kinds
 project_kinds columns kinds =
-    if is_empty columns then None else all_there (map (λ e. option_and_then column_kind (expression_kind kinds e)) columns)
+    if is_empty columns then None else all_there (map (column_kind_of kinds) columns)
 
 -- a column of numbers
 abbrev pub number_kind : Option column.Kind → Option column.Kind

@@ -5,6 +5,7 @@ pub mod agg;
 pub mod evaluation;
 pub mod expr;
 pub mod plan;
+mod plan_types;
 pub mod refusal;
 pub mod schemas;
 pub mod typing;
