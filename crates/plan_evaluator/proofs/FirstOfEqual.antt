@@ -1,7 +1,7 @@
 -- The first of equal rows.
-use Rattle.std.proofs.Common.{◌≡◌, ◌≢◌, refl, sym, ap, ◌∙◌, subst, ◌⊎◌, inl, inr, Bool, true, false, true≢false, cond, not, ◌||◌, List, [], ◌∷◌, ◌++◌, arith}
+use Rattle.std.proofs.Common.{◌≡◌, ◌≢◌, refl, sym, ap, ◌∙◌, subst, ◌⊎◌, inl, inr, Bool, true, false, true≢false, cond, not, ◌||◌, [], ◌∷◌, ◌++◌, arith}
 use Rattle.std.specs.Bool.{Decides}
-use Rattle.std.specs.List.{filter, list_any, Contains, All, AllPairs}
+use Rattle.std.specs.List.{filter, list_any, Contains, AllPairs}
 use Rattle.std.specs.Cmp.Lexicographic.{pointwise_decides, bytes_decides}
 use Rattle.std.proofs.lemmas.Bool.{false≢true}
 use Rattle.std.proofs.lemmas.Bool.Decides.{Decides-int_eq, Decides-like}
@@ -28,7 +28,7 @@ equal a b h = (row_eq-Decides a b).0 h
 equal_back : (a b : Row) → a ≡ b → row_eq a b ≡ true
 equal_back a b h = (row_eq-Decides a b).1 h
 
-same_test : (p q : Bool) → (p ≡ true → q ≡ true) → (q ≡ true → p ≡ true) → p ≡ q
+pub same_test : (p q : Bool) → (p ≡ true → q ≡ true) → (q ≡ true → p ≡ true) → p ≡ q
 same_test true q f g = sym (f refl)
 same_test false true f g = g refl
 same_test false false f g = refl

@@ -1,8 +1,8 @@
 -- Rows that are inserted one by one in front of the first row that isn't below them.
-use Rattle.std.proofs.Common.{◌≡◌, refl, sym, ap, ◌∙◌, subst, ℕ, Bool, true, false, cond, not, ◌&&◌, List, [], ◌∷◌}
+use Rattle.std.proofs.Common.{◌≡◌, refl, sym, ap, ◌∙◌, subst, Bool, true, false, cond, not, ◌&&◌, List, [], ◌∷◌}
 use Rattle.std.specs.Cmp.{IsTotalOrder, IsStrictWeakOrder}
 use Rattle.std.specs.List.{filter}
-use Rattle.std.specs.List.Sorted.{IsSortedBy, IsPermutation, ties}
+use Rattle.std.specs.List.Sorted.{IsPermutation, ties}
 use Rattle.std.specs.Ordering.{is_le, is_lt, ordering_reverse}
 use Rattle.std.specs.declared.cmp.Ordering.{Ordering}
 use Rattle.std.specs.declared.cmp.Ordering.TheVariants.{Less, Equal, Greater}
@@ -11,7 +11,7 @@ use Rattle.rows_core.specs.declared.order.Key.{Key}
 use Rattle.rows_core.specs.RowOrder.{row_cmp}
 use Rattle.plan_core.specs.Columns.{Row, Rows}
 use Rattle.plan_core.specs.StableOrder.{IsOrderedBy, insert_row, order_rows}
-use Rattle.plan_evaluator.proofs.StableLists.{Ascends, NoneBelow, ascends_from_sorted, sorted_from_ascends, one_list, not_less_itself}
+use Rattle.plan_evaluator.proofs.StableLists.{Ascends, NoneBelow, ascends_from_sorted, sorted_from_ascends, one_list}
 
 abbrev pub below : List Key → Row → Row → Bool
 below keys a b = is_lt (row_cmp keys a b)

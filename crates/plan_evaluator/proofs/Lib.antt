@@ -6,3 +6,6 @@ pub mod StableLists
 pub mod TypedValues
 pub mod TypedOperators
 pub mod TypedPlans
+pub mod Loops
+pub mod TypedParts
+pub mod Heights

@@ -1,20 +1,19 @@
 -- Each operator gives rows of its kinds where it takes in rows of theirs.
-use Rattle.std.proofs.Common.{◌≡◌, refl, sym, ap, ◌∙◌, subst, ℕ, zero, suc, ◌+◌, ◌-◌, ◌<◌, ◌≤◌, ℤ, pos, Bool, true, false, cond, not, List, [], ◌∷◌, ◌++◌, map, length, get_or, Result, Ok, Err, Option, None, Some, unwrap_or, arith}
+use Rattle.std.proofs.Common.{◌≡◌, refl, sym, ap, ◌∙◌, subst, ℕ, ◌-◌, ℤ, pos, Bool, true, false, cond, List, [], ◌∷◌, ◌++◌, map, length, get_or, Result, Ok, Err, Option, None, Some, arith}
 use Rattle.std.specs.Bool.{Decides}
 use Rattle.std.specs.Cmp.Lexicographic.{pointwise, pointwise_decides}
-use Rattle.std.specs.List.{All, AllByRecursion, Contains, filter, flat_map, list_all, list_any, slice_get}
+use Rattle.std.specs.List.{AllByRecursion, Contains, filter, list_all, list_any, slice_get}
 use Rattle.std.specs.Option.{option_and_then}
 use Rattle.std.specs.Ordering.{is_le, is_ge}
 use Rattle.std.proofs.lemmas.Bool.{false≢true}
 use Rattle.std.proofs.lemmas.List.Elements.{All-from_recursion, recursion_from_All, All-filter, All-append, All-map, All-contains, All-contains_itself}
 use Rattle.std.proofs.lemmas.List.{map-append}
-use Rattle.std.proofs.lemmas.List.Sorted.{All-permutation}
 use Rattle.std.proofs.lemmas.Option.{unwrap_or-slice_get}
 use Rattle.rows_core.specs.declared.kind.Kind.{Kind}
 use Rattle.rows_core.specs.declared.kind.Kind.TheVariants as kind
 use Rattle.rows_core.specs.declared.overflow.Overflow.{Overflow}
 use Rattle.rows_core.specs.declared.value.Value.{Value}
-use Rattle.rows_core.specs.declared.value.Value.TheVariants.{Int, Text}
+use Rattle.rows_core.specs.declared.value.Value.TheVariants.{Int}
 use Rattle.rows_core.specs.Value.{kind_of, value_cmp}
 use Rattle.scalar_ops.specs.declared.cell.Cell.{Cell}
 use Rattle.scalar_ops.specs.declared.cell.Cell.TheVariants as cell
@@ -25,11 +24,11 @@ use Rattle.scalar_ops.specs.Division.{floor_div}
 use Rattle.scalar_ops.specs.Meaning.{fits_i64, overflow}
 use Rattle.plan_core.specs.declared.agg.Agg.{Agg}
 use Rattle.plan_core.specs.declared.agg.Agg.TheVariants as agg
-use Rattle.plan_core.specs.Aggregate.{aggregate_value, values_of, whole_value, exact_sum, lesser, greater, least_value, greatest_value, first_value, last_value}
-use Rattle.plan_core.specs.Columns.{Row, Rows, column_of, columns_of, no_value, row_eq}
+use Rattle.plan_core.specs.Aggregate.{aggregate_value, values_of, whole_value, exact_sum, least_value, greatest_value, first_value, last_value}
+use Rattle.plan_core.specs.Columns.{Row, Rows, columns_of, no_value, row_eq}
 use Rattle.plan_core.specs.Distinct.{distinct_rows}
 use Rattle.plan_core.specs.ExpressionKind.{expression_kind}
-use Rattle.plan_core.specs.ExpressionValue.{◌>>=◌, all_of, expression_value, value_of_cell}
+use Rattle.plan_core.specs.ExpressionValue.{all_of, expression_value, value_of_cell}
 use Rattle.plan_core.specs.Filter.{filter_rows, overflows, passes}
 use Rattle.plan_core.specs.Group.{keys_of, members_of, group_row, group_rows}
 use Rattle.plan_core.specs.Join.{join_rows, rows_agree}
@@ -37,9 +36,9 @@ use Rattle.plan_core.specs.PlainExpr.{PlainExpr}
 use Rattle.plan_core.specs.PlanTyping.{Kinds, same_kind, is_empty, all_there, column_kind, is_truth, filter_kinds, project_kinds, number_kind, agg_kind, group_kinds, pair_agrees, join_kinds, concat_kinds}
 use Rattle.plan_core.specs.Project.{column_value, project_row, project_rows}
 use Rattle.plan_core.specs.TypedRows.{HaveKinds}
-use Rattle.plan_evaluator.proofs.Answers.{both_ok, both_some, tested, otherwise, there_front, all_front, each_of, zipped}
-use Rattle.plan_evaluator.proofs.FirstOfEqual.{has_no_more, others_than, row_eq-Decides}
-use Rattle.plan_evaluator.proofs.Members.{at_front, kept, mapped_from}
+use Rattle.plan_evaluator.proofs.Answers.{both_ok, both_some, tested, otherwise, there_front, each_of, zipped}
+use Rattle.plan_evaluator.proofs.FirstOfEqual.{has_no_more, row_eq-Decides}
+use Rattle.plan_evaluator.proofs.Members.{kept, mapped_from}
 use Rattle.plan_evaluator.proofs.TypedValues.{column_has_kind, KindsOfValues, value_has_kind}
 
 abbrev HasKinds : Kinds → Row → Type 0

@@ -1,25 +1,23 @@
 -- The rows that a typed plan gives have its kinds.
-use Rattle.std.proofs.Common.{◌≡◌, refl, sym, ap, ◌∙◌, subst, ℕ, Bool, cond, List, [], ◌∷◌, ◌++◌, map, length, take, drop, Result, Ok, Err, Option, None, Some}
-use Rattle.std.specs.List.{All, list_all, slice_get}
+use Rattle.std.proofs.Common.{◌≡◌, refl, subst, ℕ, List, [], ◌∷◌, ◌++◌, map, length, take, drop, Result, Ok, Err, Option, None, Some}
+use Rattle.std.specs.List.{list_all, slice_get}
 use Rattle.std.specs.Cmp.{IsTotalOrder}
 use Rattle.std.specs.Option.{option_and_then, IfSome}
 use Rattle.std.specs.Result.{IfOk}
 use Rattle.std.proofs.lemmas.List.Elements.{recursion_from_All, All-append}
 use Rattle.std.proofs.lemmas.List.Sorted.{All-permutation}
-use Rattle.std.proofs.lemmas.Option.{option_and_then_some}
 use Rattle.rows_core.specs.declared.order.Key.{Key}
 use Rattle.rows_core.specs.declared.overflow.Overflow.{Overflow}
 use Rattle.rows_core.specs.RowOrder.{row_cmp}
 use Rattle.rows_core.specs.Value.{kind_of}
 use Rattle.plan_core.specs.Columns.{Rows}
 use Rattle.plan_core.specs.Distinct.{distinct_rows}
-use Rattle.plan_core.specs.ExpressionKind.{of_both}
 use Rattle.plan_core.specs.ExpressionValue.{◌>>=◌}
 use Rattle.plan_core.specs.Filter.{filter_rows}
 use Rattle.plan_core.specs.Group.{group_rows}
 use Rattle.plan_core.specs.Join.{join_rows}
 use Rattle.plan_core.specs.PlainPlan.{PlainPlan, Scan, Filter, Project, Distinct, Group, Join, Concat, Order, leaves, leaf_count}
-use Rattle.plan_core.specs.PlanMeaning.{plan_meaning, first_list}
+use Rattle.plan_core.specs.PlanMeaning.{plan_meaning}
 use Rattle.plan_core.specs.PlanTyping.{Kinds, plan_kinds, filter_kinds, project_kinds, group_kinds, join_kinds, concat_kinds, order_kinds, is_empty}
 use Rattle.plan_core.specs.Project.{project_rows}
 use Rattle.plan_core.specs.StableOrder.{order_rows}
@@ -37,7 +35,7 @@ lists_of_parts schemas (stream ∷ left) right [] typed = absurd typed
 lists_of_parts schemas (stream ∷ left) right (rows ∷ lists) typed =
     let rest = lists_of_parts schemas left right lists typed.1 in ((typed.0, rest.0), rest.1)
 
-and_then : {A B : Type 0} (f : A → Option B) (o : Option A) (y : B) → option_and_then f o ≡ Some y → (x : A) × (o ≡ Some x) × (f x ≡ Some y)
+pub and_then : {A B : Type 0} (f : A → Option B) (o : Option A) (y : B) → option_and_then f o ≡ Some y → (x : A) × (o ≡ Some x) × (f x ≡ Some y)
 and_then f (Some x) y is = (x, refl, is)
 and_then f None y is = absurd (cc)
 

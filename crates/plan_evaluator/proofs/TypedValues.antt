@@ -1,5 +1,5 @@
 -- The value of a typed expression has its kind.
-use Rattle.std.proofs.Common.{◌≡◌, refl, sym, ap, ◌∙◌, subst, ℕ, zero, suc, Bool, true, false, cond, not, ◌&&◌, List, [], ◌∷◌, map, Result, Ok, Err, Option, None, Some, unwrap_or}
+use Rattle.std.proofs.Common.{◌≡◌, refl, sym, ap, ◌∙◌, ℕ, zero, suc, Bool, true, false, cond, not, ◌&&◌, List, [], ◌∷◌, map, Ok, Option, None, Some, unwrap_or}
 use Rattle.std.specs.Bool.{Decides}
 use Rattle.std.specs.Cmp.Lexicographic.{pointwise, pointwise_decides}
 use Rattle.std.specs.List.{slice_get}
@@ -17,11 +17,10 @@ use Rattle.scalar_ops.specs.declared.table.OpRow.{OpRow}
 use Rattle.scalar_ops.specs.Cells.{kind_of_cell}
 use Rattle.scalar_ops.specs.Meaning.{row_at, op_at, kinds_at, result_at, meaning}
 use Rattle.scalar_ops.specs.Table.{kinds_of_args}
-use Rattle.plan_core.specs.Columns.{Row, column_of, no_value}
+use Rattle.plan_core.specs.Columns.{Row, column_of}
 use Rattle.plan_core.specs.ExpressionKind.{cell_kind_of, same_cell_kind, call_kind, is_division, is_divisor, both_truths, choice_kind, expression_kind}
-use Rattle.plan_core.specs.ExpressionValue.{◌>>=◌, cell_of_value, value_of_cell, is_true, expression_value}
+use Rattle.plan_core.specs.ExpressionValue.{◌>>=◌, cell_of_value, is_true, expression_value}
 use Rattle.plan_core.specs.PlainExpr.{PlainExpr, Column, Literal, Call1, Call2, And, Or, If}
-use Rattle.plan_core.specs.PlanTyping.{column_kind}
 use Rattle.plan_evaluator.proofs.Answers.{both_ok, both_some, tested, otherwise}
 
 pub column_has_kind : (row : Row) (i : ℕ) (k : Kind) → slice_get (map kind_of row) i ≡ Some k → kind_of (column_of row i) ≡ k
@@ -55,10 +54,11 @@ call_of row kinds k is = by (row_at row) refl is
         → option_and_then (λ r. cond (pointwise same_cell_kind kinds (kinds_of_args r.args)) (Some r.result) None) found ≡ Some k → IsCallOf row kinds k
     by None e h = absurd (cc)
     by (Some r) e h =
-        let both = tested (pointwise same_cell_kind kinds (kinds_of_args r.args)) r.result k h in
-        ((pointwise_decides same_cell_kind-Decides kinds (kinds_of_args r.args)).0 both.0
-        ∙ sym (ap (λ o. unwrap_or (option_map (λ r. kinds_of_args r.args) o) []) e),
-        ap (λ o. unwrap_or (option_map (λ r. r.result) o) kind.Bool) e ∙ both.1)
+        let both = tested (pointwise same_cell_kind kinds (kinds_of_args r.args)) r.result k h in (
+          (pointwise_decides same_cell_kind-Decides kinds (kinds_of_args r.args)).0 both.0
+              ∙ sym (ap (λ o. unwrap_or (option_map (λ r. kinds_of_args r.args) o) []) e),
+          ap (λ o. unwrap_or (option_map (λ r. r.result) o) kind.Bool) e ∙ both.1,
+        )
 
 abbrev AreTruths : Option CellKind → Option CellKind → CellKind → Type 0
 AreTruths a b k = (a ≡ Some kind.Bool) × (b ≡ Some kind.Bool) × (k ≡ kind.Bool)
