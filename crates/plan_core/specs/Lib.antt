@@ -15,4 +15,6 @@ pub mod PlanMeaning
 pub mod MachineTime
 pub mod Answer
 pub mod Typing
+pub mod TypedPlan
+pub mod PlanCode
 pub mod Examples

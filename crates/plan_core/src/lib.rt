@@ -8,6 +8,7 @@ pub mod plan;
 mod plan_types;
 pub mod refusal;
 pub mod schemas;
+pub mod typed;
 pub mod typing;
 
 pub use agg::Agg;
@@ -16,3 +17,5 @@ pub use expr::Expr;
 pub use plan::Plan;
 pub use refusal::{EvRefusal, PlanRefusal};
 pub use schemas::Schemas;
+pub use typed::{Typed, type_plan};
+pub use typing::expression_kind;
