@@ -17,4 +17,6 @@ pub mod Answer
 pub mod Typing
 pub mod TypedPlan
 pub mod PlanCode
+pub mod KindLaw
+pub mod ValueKinds
 pub mod Examples

@@ -4,6 +4,7 @@
 pub mod agg;
 pub mod evaluation;
 pub mod expr;
+pub mod laws;
 pub mod plan;
 mod plan_types;
 pub mod refusal;
