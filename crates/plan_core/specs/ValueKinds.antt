@@ -1,5 +1,5 @@
 -- The value of a typed expression has its kind: a lemma, which the crates above cite.
-use Rattle.std.proofs.Common.{◌≡◌, refl, sym, ap, subst, ◌∙◌, ℕ, zero, suc, ℤ, pos, Bool, true, false, ◌&&◌, not, cond, List, [], ◌∷◌, map, slice_get, Option, None, Some, unwrap_or, Result, Ok, Err}
+use Rattle.std.proofs.Common.{◌≡◌, refl, sym, ap, subst, ◌∙◌, ℕ, zero, suc, pos, Bool, true, false, ◌&&◌, cond, List, [], ◌∷◌, map, slice_get, Option, None, Some, unwrap_or, Result, Ok, Err}
 use Rattle.std.proofs.lemmas.Bool.{false≢true}
 use Rattle.std.specs.Bool.{Decides}
 use Rattle.std.specs.Option.{option_map, option_and_then}
@@ -21,8 +21,8 @@ use Rattle.scalar_ops.specs.declared.table.TheConstants.{OPS}
 use Rattle.scalar_ops.specs.Cells.{kind_of_cell}
 use Rattle.scalar_ops.specs.Table.{kinds_of_args}
 use Rattle.scalar_ops.specs.Meaning.{Exact, Whole, Truth, exact_value, fits_i64, overflow, cell_of, row_at, op_at, meaning}
-use Rattle.plan_core.specs.PlainExpr.{PlainExpr, Column, Literal, Call1, Call2, And, Or, If}
-use Rattle.plan_core.specs.Columns.{Row, column_of, no_value}
+use Rattle.plan_core.specs.PlainExpr.{Column, Literal, Call1, Call2, And, Or, If}
+use Rattle.plan_core.specs.Columns.{no_value}
 use Rattle.plan_core.specs.ExpressionValue.{◌>>=◌, expression_value, cell_of_value, is_true}
 use Rattle.plan_core.specs.ExpressionKind.{expression_kind, cell_kind_of, same_cell_kind, of_both, call_kind, both_truths, choice_kind}
 use Rattle.plan_core.specs.KindLaw.{ValuesHaveTheirKinds}
