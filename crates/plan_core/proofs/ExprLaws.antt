@@ -1,35 +1,23 @@
 -- What a typed expression says of its parts.
-use Rattle.std.proofs.Common.{◌≡◌, ◌≢◌, refl, sym, ap, subst, ◌∙◌, ℕ, zero, suc, ℤ, pos, negsuc, Bool, true, false, ◌&&◌, not, cond, List, [], ◌∷◌, map, slice_get, Option, None, Some, Result, Ok, Err, IsSome, arith}
+use Rattle.std.proofs.Common.{◌≡◌, ◌≢◌, refl, ap, subst, ◌∙◌, ℕ, zero, suc, ℤ, pos, negsuc, Bool, true, false, ◌&&◌, not, cond, List, [], ◌∷◌, map, slice_get, Option, None, Some, Ok, IsSome}
 use Rattle.std.proofs.lemmas.Bool.{false≢true}
-use Rattle.std.specs.Option.{option_map, option_and_then}
 use Rattle.rows_core.specs.declared.kind.Kind as column
 use Rattle.rows_core.specs.declared.value.Value.{Value}
-use Rattle.rows_core.specs.declared.value.Value.TheVariants as value
 use Rattle.rows_core.specs.Value.{kind_of}
 use Rattle.scalar_ops.specs.declared.cell.Cell.{Cell}
 use Rattle.scalar_ops.specs.declared.cell.Cell.TheVariants as cell
 use Rattle.scalar_ops.specs.declared.cell.CellKind.{CellKind}
 use Rattle.scalar_ops.specs.declared.table.Op.{Op}
 use Rattle.scalar_ops.specs.declared.table.Op.TheVariants as op
-use Rattle.scalar_ops.specs.declared.table.OpRow.{OpRow}
 use Rattle.scalar_ops.specs.Cells.{kind_of_cell}
-use Rattle.scalar_ops.specs.Table.{kinds_of_args}
-use Rattle.scalar_ops.specs.Meaning.{row_at, op_at, Divides}
+use Rattle.scalar_ops.specs.Meaning.{op_at, Divides}
 use Rattle.plan_core.specs.PlainExpr.{PlainExpr, Column, Literal, Call1, Call2, And, Or, If}
 use Rattle.plan_core.specs.Columns.{Row}
 use Rattle.plan_core.specs.ExpressionValue.{expression_value, cell_of_value}
-use Rattle.plan_core.specs.ExpressionKind.{IsTyped, expression_kind, cell_kind_of, of_both, call_kind, is_division, is_divisor}
+use Rattle.plan_core.specs.ValueKinds.{kind_of_cell-cell_of_value, slice_get-map}
+use Rattle.plan_core.specs.ExpressionKind.{IsTyped, expression_kind, of_both, call_kind, is_division, is_divisor}
 
 -- ---- columns
-
-pub kind_of_cell-cell_of_value : (v : Value) → kind_of_cell (cell_of_value v) ≡ cell_kind_of (kind_of v)
-kind_of_cell-cell_of_value (value.Int n) = refl
-kind_of_cell-cell_of_value (value.Text t) = refl
-
-pub slice_get-map : {A B : Type 0} (f : A → B) (xs : List A) (i : ℕ) → slice_get (map f xs) i ≡ option_map f (slice_get xs i)
-slice_get-map f [] i = refl
-slice_get-map f (x ∷ xs) zero = refl
-slice_get-map f (x ∷ xs) (suc i) = slice_get-map f xs i
 
 pub column_kind : (row : Row) (i : ℕ) (v : Value) → slice_get row i ≡ Some v → expression_kind (map kind_of row) (Column i) ≡ Some (kind_of_cell (cell_of_value v))
 column_kind row i v there = rw (slice_get-map kind_of row i, there, kind_of_cell-cell_of_value v) refl

@@ -10,7 +10,7 @@ use Rattle.scalar_ops.specs.Division.{floor_div}
 use Rattle.scalar_ops.specs.Meaning.{fits_i64, overflow}
 use Rattle.plan_core.specs.declared.agg.Agg.{Agg}
 use Rattle.plan_core.specs.declared.agg.Agg.TheVariants.{Count, Sum, Min, Max, First, Last, Avg}
-use Rattle.plan_core.specs.Columns.{Row, Rows, column_of, no_value}
+use Rattle.plan_core.specs.Columns.{Rows, column_of, no_value}
 
 -- a column's values, in the order of the rows
 abbrev pub values_of : ℕ → Rows → List Value

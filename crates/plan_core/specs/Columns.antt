@@ -1,5 +1,5 @@
 -- The columns of rows, and equality of rows.
-use Rattle.std.specs.Prelude.{ℕ, ℤ, pos, Bool, false, List, map, slice_get, unwrap_or, bytes_eq}
+use Rattle.std.specs.Prelude.{ℕ, pos, Bool, false, List, map, slice_get, unwrap_or, bytes_eq}
 use Rattle.std.specs.Ordering.{int_eq}
 use Rattle.std.specs.Cmp.Lexicographic.{pointwise}
 use Rattle.rows_core.specs.declared.value.Value.{Value}

@@ -1,5 +1,5 @@
 -- Worked plans, each with the rows that it gives: the definitions compute them.
-use Rattle.std.specs.Prelude.{◌≡◌, refl, ℕ, ℤ, pos, negsuc, true, false, List, [], ◌∷◌, ◌++◌, Result, Ok, Err, None, Some, codes}
+use Rattle.std.specs.Prelude.{◌≡◌, refl, ℕ, pos, negsuc, true, false, List, [], ◌∷◌, ◌++◌, Ok, Err, codes}
 use Rattle.rows_core.specs.declared.kind.Kind.TheVariants as kind
 use Rattle.rows_core.specs.declared.order.Key.{Key}
 use Rattle.rows_core.specs.declared.value.Value.{Value}
@@ -8,9 +8,9 @@ use Rattle.scalar_ops.specs.declared.cell.Cell.TheVariants as cell
 use Rattle.scalar_ops.specs.Meaning.{overflow}
 use Rattle.plan_core.specs.declared.agg.Agg.TheVariants.{Count, Sum, Min, Max, First, Last, Avg}
 use Rattle.plan_core.specs.declared.refusal.PlanRefusal.TheVariants.{Unknown, IllTyped}
-use Rattle.plan_core.specs.PlainExpr.{PlainExpr, Column, Literal, Call1, Call2, And, Or, If}
+use Rattle.plan_core.specs.PlainExpr.{PlainExpr, Column, Literal, Call2, And, Or, If}
 use Rattle.plan_core.specs.PlainPlan.{PlainPlan, Scan, Filter, Project, Distinct, Group, Join, Concat, Order, leaves}
-use Rattle.plan_core.specs.Columns.{Row, Rows}
+use Rattle.plan_core.specs.Columns.{Rows}
 use Rattle.plan_core.specs.ExpressionValue.{expression_value}
 use Rattle.plan_core.specs.PlanTyping.{Kinds, plan_typing}
 use Rattle.plan_core.specs.PlanMeaning.{plan_meaning}

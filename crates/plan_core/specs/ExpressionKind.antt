@@ -1,5 +1,5 @@
 -- The kind of an expression over columns of these kinds, if it has one. The rules are this project's own.
-use Rattle.std.specs.Prelude.{ℕ, zero, suc, pos, negsuc, Bool, true, false, ◌&&◌, not, ◌==◌, List, [], ◌∷◌, slice_get, Option, None, Some, if◌then◌else◌, IsSome}
+use Rattle.std.specs.Prelude.{ℕ, pos, negsuc, Bool, true, false, ◌&&◌, not, ◌==◌, List, [], ◌∷◌, slice_get, Option, None, Some, if◌then◌else◌, IsSome}
 use Rattle.std.specs.Option.{option_map, option_and_then}
 use Rattle.std.specs.Cmp.Lexicographic.{pointwise}
 use Rattle.rows_core.specs.declared.kind.Kind as column

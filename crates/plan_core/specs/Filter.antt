@@ -1,6 +1,6 @@
 -- The rows at which a test is true, in their order: `Where` of LINQ to Objects. Overflow where the test is an overflow
 -- at some row.
-use Rattle.std.specs.Prelude.{Bool, true, false, Result, Ok, Err, if◌then◌else◌, is_err}
+use Rattle.std.specs.Prelude.{Bool, false, Result, Ok, Err, if◌then◌else◌, is_err}
 use Rattle.std.specs.List.{list_any, filter}
 use Rattle.rows_core.specs.declared.overflow.Overflow.{Overflow}
 use Rattle.scalar_ops.specs.declared.cell.Cell.{Cell}

@@ -16,4 +16,8 @@ pub mod PlanMeaning
 pub mod MachineTime
 pub mod Answer
 pub mod Typing
+pub mod TypedPlan
+pub mod PlanCode
+pub mod KindLaw
+pub mod ValueKinds
 pub mod Examples

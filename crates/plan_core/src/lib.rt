@@ -4,10 +4,12 @@
 pub mod agg;
 pub mod evaluation;
 pub mod expr;
+pub mod laws;
 pub mod plan;
 mod plan_types;
 pub mod refusal;
 pub mod schemas;
+pub mod typed;
 pub mod typing;
 
 pub use agg::Agg;
@@ -16,3 +18,5 @@ pub use expr::Expr;
 pub use plan::Plan;
 pub use refusal::{EvRefusal, PlanRefusal};
 pub use schemas::Schemas;
+pub use typed::{Typed, type_plan};
+pub use typing::expression_kind;

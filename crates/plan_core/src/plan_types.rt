@@ -82,11 +82,7 @@ pub fn typing_of(
     }
 }
 
-fn scan_typing(
-    alloc: Global,
-    schemas: &[Seq<Kind>],
-    stream: u32,
-) -> Result<Option<Typing>, Memory>
+fn scan_typing(alloc: Global, schemas: &[Seq<Kind>], stream: u32) -> Result<Option<Typing>, Memory>
     ensures { IfOk result (λ typing. IsTypingOf schemas.now (Scan stream) typing) }
 {
     let Some(kinds) = schemas.get(stream as usize) else {
@@ -108,11 +104,7 @@ fn filter_typing(child: Typing, test: &Expr) -> Option<Typing>
 }
 
 #[tactic(auto, using(crate::proofs::PlanLaws::project_kinds_of, crate::proofs::PlanLaws::project_kinds_of_none))]
-fn project_typing(
-    alloc: Global,
-    child: &Typing,
-    columns: &[Expr],
-) -> Result<Option<Typing>, Memory>
+fn project_typing(alloc: Global, child: &Typing, columns: &[Expr]) -> Result<Option<Typing>, Memory>
     ensures { IfOk result (λ typing. typing
         ≡ option_map (typing_with (is_above_limit (length columns.now) || child.now.too_many))
         (project_kinds (map expr_of columns.now) child.now.kinds)) }
@@ -155,11 +147,7 @@ fn group_typing(
     }))
 }
 
-fn join_typing(
-    left: Typing,
-    right: &Typing,
-    on: &[(u32, u32)],
-) -> Result<Option<Typing>, Memory>
+fn join_typing(left: Typing, right: &Typing, on: &[(u32, u32)]) -> Result<Option<Typing>, Memory>
     ensures { IfOk result (λ typing. typing
         ≡ option_map (typing_with (is_above_limit (length left.kinds + length right.now.kinds) || is_above_limit (length on.now)
         || left.too_many || right.now.too_many))
@@ -302,8 +290,7 @@ fn is_truth(kind: Option<CellKind>) -> bool
 fn all_agree(left: &[Kind], right: &[Kind], on: &[(u32, u32)]) -> bool
     ensures { result ≡ list_all (pair_agrees left.now right.now) on.now }
 {
-    on.iter()
-        .all(|pair| are_one_kind(kind_at(left, pair.0), kind_at(right, pair.1)))
+    on.iter().all(|pair| are_one_kind(kind_at(left, pair.0), kind_at(right, pair.1)))
 }
 
 fn are_one_kind(left: Option<Kind>, right: Option<Kind>) -> bool

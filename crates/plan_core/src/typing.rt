@@ -59,9 +59,8 @@ fn kind_of_two(row: u32, left: CellKind, right: CellKind) -> Option<CellKind>
 {
     let row = op_row(row)?;
     match row.args {
-        Args::Two(first, second) if same_cell_kind(left, first) && same_cell_kind(right, second) => {
-            Some(row.result)
-        }
+        Args::Two(first, second) if same_cell_kind(left, first) && same_cell_kind(right, second) =>
+            { Some(row.result) }
         _ => None,
     }
 }
