@@ -12,8 +12,8 @@ use Rattle.row_blob.specs.declared.kept.TaggedRow.{TaggedRow}
 use Rattle.row_blob.specs.declared.shape.AccKind.{AccKind}
 use Rattle.row_blob.specs.declared.shape.AccKind.TheVariants as acc_kind
 use Rattle.row_blob.specs.Spelling.{signed, row_spelling, acc_spelling, group_spelling, tagged_spelling}
-use Rattle.row_blob.specs.Reading.{◌>>=◌, number_at, value_at, row_at, count_at, sum_at, acc_at, accs_at, row_eq, keys_of, group_at, group_after, last_left, tagged_at}
-use Rattle.row_blob.specs.Kept.{AreEach, IsCount, IsSum, IsAcc, IsNextGroup, IsNextTagged}
+use Rattle.row_blob.specs.Reading.{◌>>=◌, number_at, value_at, row_at, count_at, sum_at, acc_at, accs_at, group_at, group_after, tagged_at}
+use Rattle.row_blob.specs.Kept.{row_eq, keys_of, last_left, AreEach, IsCount, IsSum, IsAcc, IsNextGroup, IsNextTagged}
 use Rattle.row_blob.proofs.Readers.{IsBytes, bind_ok, guard_ok, ok_is, Takes, IsReader, each_reader}
 use Rattle.row_blob.proofs.Fields.{wide64, number_reader, bounded_reader, or_parts}
 use Rattle.row_blob.proofs.RowLaws.{value_reader, row_reader}
@@ -57,7 +57,7 @@ module _ (sums : IsReader sum_at (signed w128) IsSum) where
   acc_again (acc_kind.Pick kind) (acc.Pick v) rest fits = ap (λ r. r >>= λ m. Ok (acc.Pick m.0, m.1)) ((value_reader kind).again v rest fits)
   acc_again _ _ rest fits = absurd fits
 
-  acc_reader : (kind : AccKind) → IsReader (acc_at kind) acc_spelling (IsAcc kind)
+  pub acc_reader : (kind : AccKind) → IsReader (acc_at kind) acc_spelling (IsAcc kind)
   acc_reader kind = record { takes = acc_takes kind; again = acc_again kind }
 
   pub accs_reader : (kinds : List AccKind) → IsReader (accs_at kinds) (flat_map acc_spelling) (AreEach IsAcc kinds)

@@ -29,7 +29,7 @@ step_ok : {A : Type 0} (b : Bool) (r : Result A ℕ) (d : ℕ) (y : A) → cond 
 step_ok true r d y e = (refl, e)
 step_ok false r d y e = absurd cc
 
-literal_takes : (cs bytes rest : List ℕ) → literal_at cs bytes ≡ Ok rest → bytes ≡ cs ++ rest
+pub literal_takes : (cs bytes rest : List ℕ) → literal_at cs bytes ≡ Ok rest → bytes ≡ cs ++ rest
 literal_takes [] bytes rest e = ok_is bytes rest e
 literal_takes (c ∷ cs) [] rest e = absurd cc
 literal_takes (c ∷ cs) (b ∷ bs) rest e =
@@ -41,7 +41,7 @@ literal_again [] rest = refl
 literal_again (c ∷ cs) rest =
     ap (λ (b : Bool). cond b (literal_at cs (cs ++ rest)) (Err (suc (length (cs ++ rest))))) (eq-eqb c c refl) ∙ literal_again cs rest
 
-IsBytes-after : (cs rest : List ℕ) → IsBytes (cs ++ rest) → IsBytes rest
+pub IsBytes-after : (cs rest : List ℕ) → IsBytes (cs ++ rest) → IsBytes rest
 IsBytes-after [] rest fits = fits
 IsBytes-after (c ∷ cs) rest fits = IsBytes-after cs rest (λ i. fits (suc i))
 

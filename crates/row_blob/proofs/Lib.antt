@@ -9,3 +9,14 @@ pub mod Wide
 pub mod GroupLaws
 pub mod SumLaws
 pub mod KeptLaws
+pub mod Same
+pub mod Exact
+pub mod Between
+pub mod Characters
+pub mod TextPlaces
+pub mod ValuePlaces
+pub mod ItemPlaces
+pub mod RulePlaces
+pub mod FilePlaces
+pub mod Places
+pub mod PlaceLaws

@@ -17,7 +17,7 @@ use Rattle.row_blob.proofs.Texts.{is_text-true, is_text-parts}
 use Rattle.row_blob.proofs.Readers.{IsBytes, IsBytes-drop, bind_ok, guard_ok, ok_is, Takes, IsReader, each_reader}
 use Rattle.row_blob.proofs.Fields.{wide32, wide64, number_reader, bounded_reader}
 
-abbrev text_spelling : List ℕ → List ℕ
+abbrev pub text_spelling : List ℕ → List ℕ
 text_spelling t = to_be_bytes w32 (length t) ++ t
 
 -- a test that did not fail, the other way round

@@ -20,11 +20,11 @@ negatives : IsReader (bounded_at w128 sum_low sum_high) (to_be_bytes w128) (IsBe
 unfolding sum_low sum_high
 negatives = bounded_reader w128 (2 ^ 128) wide128 (2 ^ 128 - 2 ^ 95) (2 ^ 128 - 1) (omega arith)
 
-from_positive : (n : ℕ) → n ≤ 2 ^ 95 → IsSum (cast_signed w128 n) × (cast_unsigned w128 (cast_signed w128 n) ≡ n)
+pub from_positive : (n : ℕ) → n ≤ 2 ^ 95 → IsSum (cast_signed w128 n) × (cast_unsigned w128 (cast_signed w128 n) ≡ n)
 from_positive n le =
     subst (λ (z : ℤ). IsSum z × (cast_unsigned w128 z ≡ n)) (sym (to_z_pos w128 n (omega arith))) (le, refl)
 
-from_negative : (n : ℕ) → IsBetween (2 ^ 128 - 2 ^ 95) (2 ^ 128 - 1) n → IsSum (cast_signed w128 n) × (cast_unsigned w128 (cast_signed w128 n) ≡ n)
+pub from_negative : (n : ℕ) → IsBetween (2 ^ 128 - 2 ^ 95) (2 ^ 128 - 1) n → IsSum (cast_signed w128 n) × (cast_unsigned w128 (cast_signed w128 n) ≡ n)
 from_negative n between =
     let k = 2 ^ 128 - 1 - n in
     let small : k < 2 ^ 95 = omega (arith, between.0, between.1) in
@@ -32,7 +32,7 @@ from_negative n between =
     let z : cast_signed w128 n ≡ negsuc k = ap (λ (m : ℕ). cast_signed w128 m) (sym is) ∙ to_z-neg w128 k (omega arith) in
     subst (λ (z : ℤ). IsSum z × (cast_unsigned w128 z ≡ n)) (sym z) (small, is)
 
-chosen : {A : Type 0} (b : Bool) (x y z : A) (P : Type 0) → cond b x y ≡ z → (x ≡ z → P) → (y ≡ z → P) → P
+pub chosen : {A : Type 0} (b : Bool) (x y z : A) (P : Type 0) → cond b x y ≡ z → (x ≡ z → P) → (y ≡ z → P) → P
 chosen true x y z P e f g = f e
 chosen false x y z P e f g = g e
 
@@ -49,10 +49,10 @@ sum_takes bytes x fits e =
     (λ h. let t = negatives.takes bytes n fits h in made (record { parts = t.parts; rest = t.rest; fits = from_negative n.0 t.fits }))
 
 -- the first byte tells the two ranges apart
-first_of_positive : (n : ℕ) → n ≤ 2 ^ 95 → n / 256 ^ 15 % 256 < 128
+pub first_of_positive : (n : ℕ) → n ≤ 2 ^ 95 → n / 256 ^ 15 % 256 < 128
 first_of_positive n le = omega arith
 
-first_of_negative : (n : ℕ) → 2 ^ 128 - 2 ^ 95 ≤ n → n < 2 ^ 128 → 128 ≤ n / 256 ^ 15 % 256
+pub first_of_negative : (n : ℕ) → 2 ^ 128 - 2 ^ 95 ≤ n → n < 2 ^ 128 → 128 ≤ n / 256 ^ 15 % 256
 first_of_negative n low high = omega arith
 
 sum_again : (s : ℤ) (rest : List ℕ) → IsSum s → sum_at (signed w128 s ++ rest) ≡ Ok (s, rest)

@@ -1,8 +1,10 @@
 -- Which kept forms are of a shape, within the bounds of a file.
-use Rattle.std.specs.Prelude.{◌≡◌, ℕ, ℤ, pos, negsuc, ◌^◌, ◌<◌, ◌≤◌, false, List, [], ◌∷◌, ◌++◌, length}
+use Rattle.std.specs.Prelude.{◌≡◌, ℕ, ℤ, pos, negsuc, ◌-◌, ◌^◌, ◌<◌, ◌≤◌, Bool, false, List, [], ◌∷◌, ◌++◌, length, map, slice_get, Option, Some, None, bytes_eq}
 use Rattle.std.specs.Int.{w64}
 use Rattle.std.specs.Int.RustNames.{FitsSigned}
 use Rattle.std.specs.List.{list_any}
+use Rattle.std.specs.Ordering.{int_eq}
+use Rattle.std.specs.Cmp.Lexicographic.{pointwise}
 use Rattle.rows_core.specs.declared.kind.Kind as kind
 use Rattle.rows_core.specs.declared.kind.Kind.TheVariants as the_kind
 use Rattle.rows_core.specs.declared.value.Value.{Value}
@@ -18,7 +20,6 @@ use Rattle.row_blob.specs.declared.shape.AccKind.{AccKind}
 use Rattle.row_blob.specs.declared.shape.AccKind.TheVariants as acc_kind
 use Rattle.row_blob.specs.declared.shape.Shape.{Shape}
 use Rattle.row_blob.specs.declared.shape.Shape.TheVariants as shape
-use Rattle.row_blob.specs.Reading.{row_eq, keys_of, last_left}
 
 -- a number in i64, or a text of 1,000 bytes at most
 abbrev pub IsValue : kind.Kind → Value → Type 0
@@ -53,6 +54,18 @@ IsAcc acc_kind.Avg (acc.Avg s n) = IsSum s × IsCount n
 IsAcc (acc_kind.Pick kind) (acc.Pick v) = IsValue kind v
 IsAcc _ _ = ⊥
 
+abbrev pub value_eq : Value → Value → Bool
+value_eq (value.Int a) (value.Int b) = int_eq a b
+value_eq (value.Int a) (value.Text t) = false
+value_eq (value.Text s) (value.Int b) = false
+value_eq (value.Text s) (value.Text t) = bytes_eq s t
+
+abbrev pub row_eq : List Value → List Value → Bool
+row_eq = pointwise value_eq
+
+abbrev pub keys_of : List GroupRow → List (List Value)
+keys_of groups = map (λ group. group.key) groups
+
 -- each fits behind those before it
 abbrev pub AreInOrder : {A : Type 0} → (List A → A → Type 0) → List A → List A → Type 0
 AreInOrder P before [] = Unit {0}
@@ -62,6 +75,14 @@ AreInOrder P before (x ∷ xs) = P before x × AreInOrder P (before ++ x ∷ [])
 abbrev pub IsNextGroup : List kind.Kind → List AccKind → List GroupRow → GroupRow → Type 0
 IsNextGroup keys kinds before group =
     IsRow keys group.key × AreEach IsAcc kinds group.accs × (list_any (row_eq group.key) (keys_of before) ≡ false)
+
+abbrev pub left_or_zero : Option TaggedRow → ℕ
+left_or_zero None = 0
+left_or_zero (Some row) = row.left
+
+-- the left position of the last row
+abbrev pub last_left : List TaggedRow → ℕ
+last_left rows = left_or_zero (slice_get rows (length rows - 1))
 
 -- its position isn't below the one before it, and is below the left length
 abbrev pub IsNextTagged : ℕ → List kind.Kind → List TaggedRow → TaggedRow → Type 0

@@ -1,11 +1,10 @@
 -- What bytes are read as, from left to right: a value with the bytes after it, or how many bytes are left from the
--- place where reading stops.
-use Rattle.std.specs.Prelude.{◌≡◌, ℕ, zero, suc, ℤ, ◌-◌, ◌^◌, Bool, true, false, ◌&&◌, ◌||◌, ◌==◌, nat_lt, nat_le, if◌then◌else◌, List, [], ◌∷◌, ◌++◌, length, map, take, drop, slice_index, slice_get, Option, Some, None, Result, Ok, Err, bytes_eq}
+-- place where reading stops. The functions that read are told in these words; `Kept` and `Place` say what a file is and
+-- where it stops without them.
+use Rattle.std.specs.Prelude.{◌≡◌, ℕ, zero, suc, ℤ, ◌-◌, ◌^◌, Bool, true, ◌&&◌, ◌||◌, ◌==◌, nat_lt, nat_le, if◌then◌else◌, List, [], ◌∷◌, ◌++◌, length, take, drop, slice_index, Option, Some, None, Result, Ok, Err}
 use Rattle.std.specs.Int.{Width, w32, w64, w128, byte_len, from_be_bytes, to_be_bytes, cast_signed}
-use Rattle.std.specs.Ordering.{int_eq}
 use Rattle.std.specs.List.{list_any, list_all}
 use Rattle.std.specs.Str.{is_utf8}
-use Rattle.std.specs.Cmp.Lexicographic.{pointwise}
 use Rattle.rows_core.specs.declared.kind.Kind as kind
 use Rattle.rows_core.specs.declared.kind.Kind.TheVariants as the_kind
 use Rattle.rows_core.specs.declared.value.Value.{Value}
@@ -27,6 +26,7 @@ use Rattle.row_blob.specs.declared.refusal.Unread.{Unread}
 use Rattle.row_blob.specs.declared.refusal.Unread.TheVariants.{Left, Memory}
 use Rattle.row_blob.specs.declared.text.Followers.{Followers}
 use Rattle.row_blob.specs.Spelling.{opening}
+use Rattle.row_blob.specs.Kept.{row_eq, keys_of, last_left}
 
 infixl 10 ◌>>=◌
 abbrev pub ◌>>=◌ : {A B : Type 0} → Result A ℕ → (A → Result B ℕ) → Result B ℕ
@@ -187,18 +187,6 @@ acc_at (acc_kind.Pick kind) bytes = do
 unfoldable pub accs_at : List AccKind → List ℕ → Read (List Acc)
 accs_at kinds bytes = each_at acc_at kinds [] bytes
 
-abbrev pub value_eq : Value → Value → Bool
-value_eq (value.Int a) (value.Int b) = int_eq a b
-value_eq (value.Int a) (value.Text t) = false
-value_eq (value.Text s) (value.Int b) = false
-value_eq (value.Text s) (value.Text t) = bytes_eq s t
-
-abbrev pub row_eq : List Value → List Value → Bool
-row_eq = pointwise value_eq
-
-abbrev pub keys_of : List GroupRow → List (List Value)
-keys_of groups = map (λ group. group.key) groups
-
 -- a key that stood before stops reading at its last byte
 unfoldable pub group_at : List kind.Kind → List AccKind → List (List Value) → List ℕ → Read GroupRow
 group_at keys kinds seen bytes = do
@@ -207,14 +195,6 @@ group_at keys kinds seen bytes = do
 
 abbrev pub group_after : List kind.Kind → List AccKind → List GroupRow → List ℕ → Read GroupRow
 group_after keys kinds before bytes = group_at keys kinds (keys_of before) bytes
-
-abbrev pub left_or_zero : Option TaggedRow → ℕ
-left_or_zero None = 0
-left_or_zero (Some row) = row.left
-
--- the left position of the last row
-abbrev pub last_left : List TaggedRow → ℕ
-last_left rows = left_or_zero (slice_get rows (length rows - 1))
 
 -- a position that falls or isn't below the left length stops reading at its last byte
 unfoldable pub tagged_at : ℕ → List kind.Kind → List TaggedRow → List ℕ → Read TaggedRow

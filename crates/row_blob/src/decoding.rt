@@ -1,8 +1,9 @@
 //! What bytes are read as.
-ghost use Rattle.std.specs.Prelude.{◌≡◌, length, IfOk, MatchResult};
+ghost use Rattle.std.specs.Prelude.{◌≡◌, ◌≤◌, ◌↔◌, List, ℕ, length, IfOk, IfErr, MatchResult};
 ghost use Rattle.row_blob.specs.declared.kept.Kept.{Kept};
 ghost use Rattle.row_blob.specs.declared.shape.Shape.{Shape};
 ghost use Rattle.row_blob.specs.Kept.{IsKept};
+ghost use Rattle.row_blob.specs.Place.{IsKeptTo, StopsAt, IsPlace};
 ghost use Rattle.row_blob.specs.Reading.{Gives, Reads, kept_at, ended};
 ghost use Rattle.row_blob.specs.Spelling.{kept_spelling};
 
@@ -16,8 +17,10 @@ use crate::tagged::tagged_rows_at;
 use rows_core::Seq;
 use std::alloc::Global;
 
-/// The kept form of the shape that the bytes spell: `NotBlob` exactly where there is none, `at` being where reading
-/// stops. Bytes that are missing stop reading at the length of the input.
+/// The kept form of the shape that the bytes spell: `NotBlob` exactly where there is none. Its `at` is the first byte
+/// such that no spelling has the same bytes up to and with it, or the length of the input where bytes are missing. A
+/// group's key that stood before, and a left position that falls or isn't below the left length, count only where they
+/// stand, and stop reading at their last byte.
 pub fn decode(alloc: Global, bytes: &[u8], shape: &Shape) -> Result<Kept, BlobRefusal>
     // What is read is spelled so.
     ensures found { IfOk result (λ kept. IsKept shape.now kept × (bytes.now ≡ kept_spelling kept)) }
@@ -26,6 +29,8 @@ pub fn decode(alloc: Global, bytes: &[u8], shape: &Shape) -> Result<Kept, BlobRe
         → MatchResult result (λ found. found ≡ kept) (λ e. e ≡ BlobRefusal.Memory) }
     // Which value it is, or at which place reading stops.
     ensures exact { Reads result (kept_at shape.now bytes.now) (length bytes.now) }
+    // A spelling has the bytes up to the place, and none has the byte there too.
+    ensures place { IfErr result (λ e. IsPlace shape.now bytes.now e) }
 {
     read(alloc, bytes, shape)
 }
@@ -34,6 +39,17 @@ pub fn decode(alloc: Global, bytes: &[u8], shape: &Shape) -> Result<Kept, BlobRe
 pub fn one_spelling()
     ensures { (shape : Shape) (a b : Kept) → IsKept shape a → IsKept shape b → kept_spelling a ≡ kept_spelling b
         → a ≡ b }
+{}
+
+/// Bytes have one place at which reading stops.
+pub fn one_place()
+    ensures { (shape : Shape) (bytes : List ℕ) (a b : ℕ) → StopsAt shape bytes a → StopsAt shape bytes b → a ≡ b }
+{}
+
+/// What is said of a kept form by all the bytes of its spelling is that it is one of the shape.
+pub fn told_by_all()
+    ensures { (shape : Shape) (kept : Kept) (n : ℕ) → length (kept_spelling kept) ≤ n
+        → IsKeptTo n shape kept ↔ IsKept shape kept }
 {}
 
 fn read(alloc: Global, bytes: &[u8], shape: &Shape) -> Result<Kept, BlobRefusal>

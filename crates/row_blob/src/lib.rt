@@ -15,7 +15,7 @@ pub mod shape;
 mod tagged;
 mod text;
 
-pub use decoding::{decode, one_spelling};
+pub use decoding::{decode, one_place, one_spelling, told_by_all};
 pub use encoding::encode;
 pub use kept::{Acc, GroupRow, Kept, TaggedRow};
 pub use length::encoded_len;

@@ -1,6 +1,7 @@
 //! Rows of a join.
 ghost use Rattle.std.specs.Prelude.{◌≡◌, []};
-ghost use Rattle.row_blob.specs.Reading.{Gives, tagged_at, tagged_rows_at, items_at, last_left};
+ghost use Rattle.row_blob.specs.Reading.{Gives, tagged_at, tagged_rows_at, items_at};
+ghost use Rattle.row_blob.specs.Kept.{last_left};
 
 use crate::kept::TaggedRow;
 use crate::number::{MAX_COUNT, u64_at, u64_between};

@@ -1,6 +1,8 @@
 //! What no contract says: that the calls succeed with ample memory, and the places of files whose layout was laid
 //! out by hand.
 
+mod plain;
+
 use crate::{AccKind, BlobRefusal, Shape, decode, encode, encoded_len};
 use rows_core::{Kind, Seq};
 use std::alloc::Global;
@@ -28,6 +30,10 @@ const JOIN: &[u8] = b"NXT1\x02\x00\x00\x00\x00\x00\x00\x00\x00\x00\x00\x02\
 \x00\x00\x00\x00\x00\x00\x00\x03\
 \x00\x00\x00\x00\x00\x00\x00\x01\x00\x00\x00\x00\x00\x00\x00\x07\
 \x00\x00\x00\x00\x00\x00\x00\x02\x00\x00\x00\x00\x00\x00\x00\x08";
+
+/// A row of one text, with characters of two, three and four bytes.
+const TEXT: &[u8] = b"NXT1\x00\x00\x00\x00\x00\x00\x00\x00\x00\x00\x00\x01\
+\x00\x00\x00\x09\xC3\xA9\xE2\x82\xAC\xF0\x9F\x98\x80";
 
 /// A byte of a file, what it is changed to, and where reading stops then.
 type Change = (usize, u8, Option<u64>);
@@ -68,6 +74,26 @@ fn stops_at(alloc: Global, bytes: &[u8], shape: &Shape, changes: &[Change]) -> R
     Ok(true)
 }
 
+/// What the plain reader says of the place.
+fn plain_place(alloc: Global, bytes: &[u8], shape: &Shape) -> Result<Option<u64>, Fail> {
+    let left = plain::left(alloc, bytes, shape)?;
+    Ok(left.map(|left| bytes.len().saturating_sub(left) as u64))
+}
+
+/// Whether each change of one byte stops reading where the plain reader says.
+fn stops_as_plain(alloc: Global, bytes: &[u8], shape: &Shape) -> Result<bool, Fail> {
+    for index in 0..bytes.len() {
+        for byte in 0..=u8::MAX {
+            let mut changed = Vec::from_slice(alloc, bytes)?;
+            changed[index] = byte;
+            if place(alloc, &changed, shape)? != plain_place(alloc, &changed, shape)? {
+                return Ok(false);
+            }
+        }
+    }
+    Ok(true)
+}
+
 #[test]
 fn rows_stand_so(rt: HostRuntime) -> Result<(), Fail> {
     let alloc = rt.alloc();
@@ -75,6 +101,7 @@ fn rows_stand_so(rt: HostRuntime) -> Result<(), Fail> {
     assert_eq!(rt; ROWS.len(), 85);
     assert!(rt; is_read_and_written(alloc, ROWS, &shape)?);
     assert!(rt; stops_at_each_end(alloc, ROWS, &shape)?);
+    assert!(rt; stops_as_plain(alloc, ROWS, &shape)?);
     let changes = [
         (0, 0x4F, Some(0)),
         (4, 1, Some(4)),
@@ -105,6 +132,7 @@ fn groups_stand_so(rt: HostRuntime) -> Result<(), Fail> {
     assert_eq!(rt; SUMS.len(), 62);
     assert!(rt; is_read_and_written(alloc, SUMS, &shape)?);
     assert!(rt; stops_at_each_end(alloc, SUMS, &shape)?);
+    assert!(rt; stops_as_plain(alloc, SUMS, &shape)?);
     let changes = [
         (4, 0, Some(4)),
         (23, 0x7F, Some(23)),
@@ -134,6 +162,7 @@ fn accumulators_stand_so(rt: HostRuntime) -> Result<(), Fail> {
     };
     assert!(rt; is_read_and_written(alloc, ACCS, &shape)?);
     assert!(rt; stops_at_each_end(alloc, ACCS, &shape)?);
+    assert!(rt; stops_as_plain(alloc, ACCS, &shape)?);
     let changes = [
         (24, 1, Some(24)),
         (28, 1, None),
@@ -154,6 +183,7 @@ fn joins_stand_so(rt: HostRuntime) -> Result<(), Fail> {
     let shape = Shape::Tagged(Seq::new(vec![in alloc; Kind::Int]?));
     assert!(rt; is_read_and_written(alloc, JOIN, &shape)?);
     assert!(rt; stops_at_each_end(alloc, JOIN, &shape)?);
+    assert!(rt; stops_as_plain(alloc, JOIN, &shape)?);
     let changes = [
         (4, 1, Some(4)),
         (16, 1, Some(16)),
@@ -165,5 +195,23 @@ fn joins_stand_so(rt: HostRuntime) -> Result<(), Fail> {
         (47, 3, Some(47)),
     ];
     assert!(rt; stops_at(alloc, JOIN, &shape, &changes)?);
+    Ok(())
+}
+
+#[test]
+fn characters_stand_so(rt: HostRuntime) -> Result<(), Fail> {
+    let alloc = rt.alloc();
+    let shape = Shape::Rows(Seq::new(vec![in alloc; Kind::Text]?));
+    assert!(rt; is_read_and_written(alloc, TEXT, &shape)?);
+    assert!(rt; stops_at_each_end(alloc, TEXT, &shape)?);
+    assert!(rt; stops_as_plain(alloc, TEXT, &shape)?);
+    let changes = [
+        (20, 0xC1, Some(20)),
+        (22, 0xE0, Some(23)),
+        (25, 0xF4, Some(26)),
+        (25, 0xF5, Some(25)),
+        (28, 0x7F, Some(28)),
+    ];
+    assert!(rt; stops_at(alloc, TEXT, &shape, &changes)?);
     Ok(())
 }

@@ -1,0 +1,222 @@
+-- What a reader that fails owes: some spelling has the bytes up to the place where it stops, and none has the byte there.
+use Rattle.std.proofs.Common.{◌≡◌, ℕ, suc, ◌+◌, ◌-◌, ◌<◌, ◌≤◌, ◌⊎◌, List, [], ◌∷◌, ◌++◌, length, take, drop, Result, Ok, Err, refl, sym, ap, subst, ◌∙◌, append_assoc, arith, inl, inr}
+use Rattle.std.specs.List.{flat_map}
+use Rattle.std.proofs.lemmas.Bool.{cases_lt}
+use Rattle.std.proofs.lemmas.List.{take-append-drop, length-append}
+use Rattle.std.proofs.Math.Seq.{take-length}
+use Rattle.row_blob.specs.Reading.{◌>>=◌, Read, each_at}
+use Rattle.row_blob.specs.Kept.{AreEach}
+use Rattle.row_blob.proofs.Readers.{IsBytes, IsReader, Takes, bind_ok, ok_is}
+use Rattle.row_blob.proofs.Same.{Same, same_less, same_longer, same_behind, read_same}
+
+-- a step that failed, or that succeeded and was followed by one that failed
+pub bind_err : {A B : Type 0} (r : Result A ℕ) (f : A → Result B ℕ) (left : ℕ) → (r >>= f) ≡ Err left → (r ≡ Err left) ⊎ ((x : A) × (r ≡ Ok x) × (f x ≡ Err left))
+bind_err (Ok x) f left e = inr (x, refl, e)
+bind_err (Err d) f left e = inl (let p : d ≡ left = cc in ap (λ (n : ℕ). Err n) p)
+
+pub record GoesTo {A : Type 0} (spell : A → List ℕ) (P : A → Type 0) (bytes : List ℕ) (left : ℕ) : Type 0 where
+  pub within : left ≤ length bytes
+  pub item : A
+  pub fits : P item
+  pub same : Same (length bytes - left) (spell item) bytes
+
+pub record IsExact {A : Type 0} (read : List ℕ → Read A) (spell : A → List ℕ) (P : A → Type 0) : Type 0 where
+  pub some : A
+  pub some_fits : P some
+  pub goes : (bytes : List ℕ) (left : ℕ) → IsBytes bytes → read bytes ≡ Err left → GoesTo spell P bytes left
+  pub stops : (bytes : List ℕ) (left : ℕ) (a : A) (r : List ℕ) → IsBytes bytes → read bytes ≡ Err (suc left) → P a → Same (length bytes - left) (spell a ++ r) bytes → ⊥
+
+-- the spelling goes on past the place
+pub proper : {A : Type 0} (read : List ℕ → Read A) (spell : A → List ℕ) (P : A → Type 0) → IsReader read spell P → (bytes : List ℕ) (left n : ℕ) (a : A) → read bytes ≡ Err left → P a
+    → n ≤ length bytes → Same n (spell a) bytes → n < length (spell a)
+proper read spell P law bytes left n a e fits within same =
+    elim (cases_lt n (length (spell a))) [
+      | inl lt ↦ lt
+      | inr le ↦
+          let s = spell a in
+          let k = length s in
+          let front : s ≡ take k bytes = sym (take-length s) ∙ same_less k n s bytes le same in
+          let parts : s ++ drop k bytes ≡ bytes = ap (λ (l : List ℕ). l ++ drop k bytes) front ∙ take-append-drop k bytes in
+          absurd (let clash : Ok (a, drop k bytes) ≡ Err left = sym (law.again a (drop k bytes) fits) ∙ ap read parts ∙ e in cc)
+    ]
+
+pub goes_longer : {A : Type 0} (read : List ℕ → Read A) (spell : A → List ℕ) (P : A → Type 0) → IsReader read spell P → (bytes : List ℕ) (left : ℕ) → read bytes ≡ Err left → (g : GoesTo spell P bytes left) (more : List ℕ)
+    → Same (length bytes - left) (spell g.item ++ more) bytes
+goes_longer read spell P law bytes left e g more =
+    let n = length bytes - left in
+    let lt = proper read spell P law bytes left n g.item e g.fits (omega arith) g.same in
+    same_longer n (spell g.item) more bytes (omega arith) g.same
+
+-- behind a part that was read
+module _ {A : Type 0} (read : List ℕ → Read A) (spell : A → List ℕ) (P : A → Type 0) (law : IsReader read spell P) (bytes : List ℕ) (x : A × List ℕ) (t : Takes spell P bytes x) where
+  parts_len : length bytes ≡ length (spell x.0) + length x.1
+  parts_len = ap length t.parts ∙ length-append (spell x.0) x.1
+
+  place_behind : (left : ℕ) → length x.1 - left ≡ length bytes - left - length (spell x.0)
+  place_behind left = let e = parts_len in omega arith
+
+  pub behind_goes : (n : ℕ) (ys : List ℕ) → Same (n - length (spell x.0)) ys x.1 → Same n (spell x.0 ++ ys) bytes
+  behind_goes n ys same = same_behind n (spell x.0) ys x.1 same ∙ ap (λ (l : List ℕ). take n l) (sym t.parts)
+
+  pub behind_stops : (n : ℕ) (a : A) (ys : List ℕ) → P a → length (spell x.0) ≤ n → Same n (spell a ++ ys) bytes → (a ≡ x.0) × Same (n - length (spell x.0)) ys x.1
+  behind_stops n a ys fits le same =
+      read_same read spell P law a x.0 n ys x.1 fits t.fits le (same ∙ ap (λ (l : List ℕ). take n l) t.parts)
+
+  pub behind_within : (left : ℕ) → left ≤ length x.1 → left ≤ length bytes
+  behind_within left le = let e = parts_len in omega arith
+
+  pub behind_left_goes : (left : ℕ) (ys : List ℕ) → Same (length x.1 - left) ys x.1 → Same (length bytes - left) (spell x.0 ++ ys) bytes
+  behind_left_goes left ys same = behind_goes (length bytes - left) ys (subst (λ (m : ℕ). Same m ys x.1) (place_behind left) same)
+
+  pub behind_left_stops : (left : ℕ) (a : A) (ys : List ℕ) → P a → left ≤ length x.1 → Same (length bytes - left) (spell a ++ ys) bytes → (a ≡ x.0) × Same (length x.1 - left) ys x.1
+  behind_left_stops left a ys fits le same =
+      let e = parts_len in
+      let b = behind_stops (length bytes - left) a ys fits (omega arith) same in
+      (b.0, subst (λ (m : ℕ). Same m ys x.1) (sym (place_behind left)) b.1)
+
+-- a value made of what was read
+pub record IsMapped {A B : Type 0} (f : A → B) (s : A → List ℕ) (P : A → Type 0) (spell : B → List ℕ) (Q : B → Type 0) : Type 0 where
+  pub to : (a : A) → P a → Q (f a) × (spell (f a) ≡ s a)
+  pub from : (b : B) → Q b → (a : A) × P a × (spell b ≡ s a)
+
+pub mapped_exact : {A B : Type 0} (f : A → B) (read : List ℕ → Read A) (s : A → List ℕ) (P : A → Type 0) (spell : B → List ℕ) (Q : B → Type 0) → IsMapped f s P spell Q → IsExact read s P
+    → IsExact (λ bytes. read bytes >>= λ x. Ok (f x.0, x.1)) spell Q
+mapped_exact f read s P spell Q m exact = record {
+  some = f exact.some;
+  some_fits = (m.to exact.some exact.some_fits).0;
+  goes = λ bytes left fits e. elim (bind_err (read bytes) (λ x. Ok (f x.0, x.1)) left e) [
+    | inl h ↦
+        let g = exact.goes bytes left fits h in
+        let to = m.to g.item g.fits in
+        record { within = g.within; item = f g.item; fits = to.0; same = subst (λ (l : List ℕ). Same (length bytes - left) l bytes) (sym to.1) g.same }
+    | inr h ↦ absurd (let clash = h.2 in cc)
+  ];
+  stops = λ bytes left b r fits e q same. elim (bind_err (read bytes) (λ x. Ok (f x.0, x.1)) (suc left) e) [
+    | inl h ↦
+        let from = m.from b q in
+        exact.stops bytes left from.0 r fits h from.1 (subst (λ (l : List ℕ). Same (length bytes - left) (l ++ r) bytes) from.2 same)
+    | inr h ↦ absurd (let clash = h.2 in cc)
+  ];
+}
+
+-- two values, one after the other
+module _ {A B : Type 0} (r1 : List ℕ → Read A) (s1 : A → List ℕ) (P1 : A → Type 0) (law1 : IsReader r1 s1 P1) (exact1 : IsExact r1 s1 P1)
+    (r2 : List ℕ → Read B) (s2 : B → List ℕ) (P2 : B → Type 0) (exact2 : IsExact r2 s2 P2) where
+  abbrev pair_at : List ℕ → Read (A × B)
+  pair_at bytes = r1 bytes >>= λ x. r2 x.1 >>= λ y. Ok ((x.0, y.0), y.1)
+
+  abbrev pair_spelling : A × B → List ℕ
+  pair_spelling p = s1 p.0 ++ s2 p.1
+
+  abbrev IsPair : A × B → Type 0
+  IsPair p = P1 p.0 × P2 p.1
+
+  pair_goes : (bytes : List ℕ) (left : ℕ) → IsBytes bytes → pair_at bytes ≡ Err left → GoesTo pair_spelling IsPair bytes left
+  pair_goes bytes left fits e = elim (bind_err (r1 bytes) (λ x. r2 x.1 >>= λ y. Ok ((x.0, y.0), y.1)) left e) [
+    | inl h ↦
+        let g = exact1.goes bytes left fits h in
+        record { within = g.within; item = (g.item, exact2.some); fits = (g.fits, exact2.some_fits); same = goes_longer r1 s1 P1 law1 bytes left h g (s2 exact2.some) }
+    | inr h ↦
+        let x = h.0 in
+        let t = law1.takes bytes x fits h.1 in
+        elim (bind_err (r2 x.1) (λ y. Ok ((x.0, y.0), y.1)) left h.2) [
+          | inl k ↦
+              let g = exact2.goes x.1 left t.rest k in
+              record { within = behind_within r1 s1 P1 law1 bytes x t left g.within; item = (x.0, g.item); fits = (t.fits, g.fits); same = behind_left_goes r1 s1 P1 law1 bytes x t left (s2 g.item) g.same }
+          | inr k ↦ absurd (let clash = k.2 in cc)
+        ]
+  ]
+
+  pair_stops : (bytes : List ℕ) (left : ℕ) (p : A × B) (r : List ℕ) → IsBytes bytes → pair_at bytes ≡ Err (suc left) → IsPair p → Same (length bytes - left) (pair_spelling p ++ r) bytes → ⊥
+  pair_stops bytes left p r fits e q same =
+      let n = length bytes - left in
+      let regrouped : Same n (s1 p.0 ++ (s2 p.1 ++ r)) bytes = subst (λ (l : List ℕ). Same n l bytes) (append_assoc (s1 p.0) (s2 p.1) r) same in
+      elim (bind_err (r1 bytes) (λ x. r2 x.1 >>= λ y. Ok ((x.0, y.0), y.1)) (suc left) e) [
+        | inl h ↦ exact1.stops bytes left p.0 (s2 p.1 ++ r) fits h q.0 regrouped
+        | inr h ↦
+            let x = h.0 in
+            let t = law1.takes bytes x fits h.1 in
+            elim (bind_err (r2 x.1) (λ y. Ok ((x.0, y.0), y.1)) (suc left) h.2) [
+              | inl k ↦
+                  let g = exact2.goes x.1 (suc left) t.rest k in
+                  let within : suc left ≤ length x.1 = g.within in
+                  let b = behind_left_stops r1 s1 P1 law1 bytes x t left p.0 (s2 p.1 ++ r) q.0 (omega arith) regrouped in
+                  exact2.stops x.1 left p.1 r t.rest k q.1 b.1
+              | inr k ↦ absurd (let clash = k.2 in cc)
+            ]
+      ]
+
+  pub pair_exact : IsExact (λ bytes. r1 bytes >>= λ x. r2 x.1 >>= λ y. Ok ((x.0, y.0), y.1)) (λ (p : A × B). s1 p.0 ++ s2 p.1) (λ (p : A × B). P1 p.0 × P2 p.1)
+  pair_exact = record { some = (exact1.some, exact2.some); some_fits = (exact1.some_fits, exact2.some_fits); goes = pair_goes; stops = pair_stops }
+
+-- one value for each kind
+module _ {K A : Type 0} (read : K → List ℕ → Read A) (spell : A → List ℕ) (P : K → A → Type 0) (law : (k : K) → IsReader (read k) spell (P k)) (exact : (k : K) → IsExact (read k) spell (P k)) where
+  fill : List K → List A
+  fill [] = []
+  fill (k ∷ ks) = (exact k).some ∷ fill ks
+
+  fill_fits : (ks : List K) → AreEach P ks (fill ks)
+  unfolding fill
+  fill_fits [] = tt
+  fill_fits (k ∷ ks) = ((exact k).some_fits, fill_fits ks)
+
+  each_goes : (ks : List K) (front : List A) (bytes : List ℕ) (left : ℕ) → IsBytes bytes → each_at read ks front bytes ≡ Err left → GoesTo (flat_map spell) (AreEach P ks) bytes left
+  each_goes [] front bytes left fits e = absurd cc
+  each_goes (k ∷ ks) front bytes left fits e = elim (bind_err (read k bytes) (λ y. each_at read ks (front ++ y.0 ∷ []) y.1) left e) [
+    | inl h ↦
+        let g = (exact k).goes bytes left fits h in
+        record { within = g.within; item = g.item ∷ fill ks; fits = (g.fits, fill_fits ks); same = goes_longer (read k) spell (P k) (law k) bytes left h g (flat_map spell (fill ks)) }
+    | inr h ↦
+        let t = (law k).takes bytes h.0 fits h.1 in
+        let g = each_goes ks (front ++ h.0.0 ∷ []) h.0.1 left t.rest h.2 in
+        record {
+          within = behind_within (read k) spell (P k) (law k) bytes h.0 t left g.within;
+          item = h.0.0 ∷ g.item;
+          fits = (t.fits, g.fits);
+          same = behind_left_goes (read k) spell (P k) (law k) bytes h.0 t left (flat_map spell g.item) g.same;
+        }
+  ]
+
+  each_stops : (ks : List K) (front : List A) (bytes : List ℕ) (left : ℕ) (xs : List A) (r : List ℕ) → IsBytes bytes → each_at read ks front bytes ≡ Err (suc left) → AreEach P ks xs
+      → Same (length bytes - left) (flat_map spell xs ++ r) bytes → ⊥
+  each_stops [] front bytes left xs r fits e q same = absurd cc
+  each_stops (k ∷ ks) front bytes left [] r fits e q same = absurd q
+  each_stops (k ∷ ks) front bytes left (x ∷ xs) r fits e q same =
+      let n = length bytes - left in
+      let regrouped : Same n (spell x ++ (flat_map spell xs ++ r)) bytes = subst (λ (l : List ℕ). Same n l bytes) (append_assoc (spell x) (flat_map spell xs) r) same in
+      elim (bind_err (read k bytes) (λ y. each_at read ks (front ++ y.0 ∷ []) y.1) (suc left) e) [
+        | inl h ↦ (exact k).stops bytes left x (flat_map spell xs ++ r) fits h q.0 regrouped
+        | inr h ↦
+            let t = (law k).takes bytes h.0 fits h.1 in
+            let g = each_goes ks (front ++ h.0.0 ∷ []) h.0.1 (suc left) t.rest h.2 in
+            let within : suc left ≤ length h.0.1 = g.within in
+            let b = behind_left_stops (read k) spell (P k) (law k) bytes h.0 t left x (flat_map spell xs ++ r) q.0 (omega arith) regrouped in
+            each_stops ks (front ++ h.0.0 ∷ []) h.0.1 left xs r t.rest h.2 q.1 b.1
+      ]
+
+  pub each_exact : (ks : List K) → IsExact (each_at read ks []) (flat_map spell) (AreEach P ks)
+  each_exact ks = record { some = fill ks; some_fits = fill_fits ks; goes = each_goes ks []; stops = each_stops ks [] }
+
+module _ {A B : Type 0} (r1 : List ℕ → Read A) (s1 : A → List ℕ) (P1 : A → Type 0) (law1 : IsReader r1 s1 P1) (r2 : List ℕ → Read B) (s2 : B → List ℕ) (P2 : B → Type 0) (law2 : IsReader r2 s2 P2) where
+  abbrev pair_of : Read A → Read (A × B)
+  pair_of m = m >>= λ x. r2 x.1 >>= λ y. Ok ((x.0, y.0), y.1)
+
+  abbrev second_of : A → Read B → Read (A × B)
+  second_of a m = m >>= λ y. Ok ((a, y.0), y.1)
+
+  both_take : (bytes : List ℕ) (x : (A × B) × List ℕ) → IsBytes bytes → pair_of (r1 bytes) ≡ Ok x → Takes (λ (p : A × B). s1 p.0 ++ s2 p.1) (λ (p : A × B). P1 p.0 × P2 p.1) bytes x
+  both_take bytes x fits e =
+      let a = bind_ok (r1 bytes) (λ x. second_of x.0 (r2 x.1)) x e in
+      let b = bind_ok (r2 a.0.1) (λ y. Ok ((a.0.0, y.0), y.1)) x a.2 in
+      let s = law1.takes bytes a.0 fits a.1 in
+      let t = law2.takes a.0.1 b.0 s.rest b.1 in
+      let made : (A × B) × List ℕ = ((a.0.0, b.0.0), b.0.1) in
+      subst (λ y. Takes (λ (p : A × B). s1 p.0 ++ s2 p.1) (λ (p : A × B). P1 p.0 × P2 p.1) bytes y) (ok_is made x b.2)
+      (record { parts = s.parts ∙ ap (λ (l : List ℕ). s1 a.0.0 ++ l) t.parts ∙ sym (append_assoc (s1 a.0.0) (s2 b.0.0) b.0.1); rest = t.rest; fits = (s.fits, t.fits) })
+
+  both_again : (p : A × B) (rest : List ℕ) → P1 p.0 × P2 p.1 → pair_of (r1 ((s1 p.0 ++ s2 p.1) ++ rest)) ≡ Ok (p, rest)
+  both_again p rest q =
+      ap (λ (l : List ℕ). pair_of (r1 l)) (append_assoc (s1 p.0) (s2 p.1) rest) ∙ ap pair_of (law1.again p.0 (s2 p.1 ++ rest) q.0) ∙ ap (second_of p.0) (law2.again p.1 rest q.1)
+
+  pub pair_reader : IsReader (λ bytes. r1 bytes >>= λ x. r2 x.1 >>= λ y. Ok ((x.0, y.0), y.1)) (λ (p : A × B). s1 p.0 ++ s2 p.1) (λ (p : A × B). P1 p.0 × P2 p.1)
+  pair_reader = record { takes = both_take; again = both_again }
