@@ -1,9 +1,10 @@
+pub mod AnswerLemmas
 pub mod BlockLemmas
 pub mod Examples
 pub mod LineLemmas
-pub mod NumberLemmas
 pub mod OptionLemmas
 pub mod ReaderLemmas
 pub mod ScriptLemmas
+pub mod StreamLemmas
 pub mod TakeLemmas
 pub mod WordLemmas

@@ -1,6 +1,6 @@
 pub mod Answer
 pub mod Line
-pub mod Number
 pub mod Reader
 pub mod Script
+pub mod StreamLine
 pub mod Words

@@ -2,13 +2,14 @@
 #![tactic(auto)]
 
 pub mod answer;
+mod block;
 pub mod item;
 mod line;
 pub mod lines;
-pub mod number;
 mod place;
+mod stream_line;
 mod words;
 
-pub use answer::{Answer, Refusal, line_count, print_line};
+pub use answer::{Answer, LimitKind, Refusal, line_count, print_line};
 pub use item::{Command, Item};
 pub use lines::Lines;
