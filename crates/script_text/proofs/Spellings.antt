@@ -1,20 +1,14 @@
 -- Words between spaces, and texts that a mark parts.
-use Rattle.std.proofs.Common.{◌≡◌, ℕ, ◌+◌, ◌<◌, ◌≤◌, Bool, true, false, cond, ◌&&◌, not, nat_eq, nat_lt, List, [], ◌∷◌, ◌++◌, length, take, drop, get_or, codes, Option, Some, None, option_and_then, refl, sym, ap, ◌∙◌, subst, append_assoc, append-nil, length-append, bytes_eq, arith}
-use Rattle.std.specs.List.{slice_split, position_or_len, before_first, after_first, AllByRecursion, join_with_byte}
+use Rattle.std.proofs.Common.{◌≡◌, ℕ, ◌+◌, ◌<◌, ◌≤◌, Bool, true, false, cond, ◌&&◌, not, nat_eq, nat_lt, List, [], ◌∷◌, ◌++◌, length, take, drop, get_or, Some, None, refl, sym, ap, ◌∙◌, subst, append-nil, length-append, arith}
+use Rattle.std.specs.List.{position_or_len, before_first, after_first, AllByRecursion}
 use Rattle.std.specs.Option.{option_map}
 use Rattle.std.proofs.Math.Seq.{drop-append-add}
 use Rattle.std.proofs.lemmas.Bool.Decides.{Decides-ltb, nat_tests}
 use Rattle.std.proofs.lemmas.List.{take_at, take_all}
-use Rattle.std.proofs.lemmas.List.Splits.{slice_split_first, slice_split_none}
 use Rattle.std.proofs.lemmas.List.Sums.{split_at_first, passes_at_first}
-use Rattle.rows_core.specs.Name.{IsName, is_name, is_name_byte}
-use Rattle.rows_core.specs.Kind.{kind_word, kind_with_word}
-use Rattle.rows_core.specs.declared.kind.Kind.{Kind}
-use Rattle.rows_core.specs.declared.kind.Kind.TheVariants.{Int, Text}
-use Rattle.rows_core.specs.declared.schema.Column.{Column}
 use Rattle.script_text.specs.Spelling.{AreSpaces, Padded}
 use Rattle.script_text.specs.StreamLine.{is_mark, Parts, parts_round, parts_at}
-use Rattle.script_text.specs.Words.{is_space, is_blank, trimmed, ends_word, behind_word, word_alone, only_word, name_if, only_name}
+use Rattle.script_text.specs.Words.{is_space, is_blank, trimmed, word_alone, only_word}
 
 pub same_byte : (a b : ℕ) → nat_eq a b ≡ true → a ≡ b
 same_byte a b e = grind (arith, nat_tests)

@@ -1,7 +1,6 @@
 -- A line spells a stream or a head exactly where one is read from it.
-use Rattle.std.proofs.Common.{◌≡◌, ℕ, ◌<◌, ◌≤◌, Bool, true, false, cond, ◌&&◌, nat_eq, nat_lt, List, [], ◌∷◌, ◌++◌, length, codes, Option, Some, None, option_and_then, bytes_eq, refl, sym, ap, ◌∙◌, subst, length-append, arith}
-use Rattle.std.specs.List.{slice_split, list_all, position_or_len, join_with_byte, AllByRecursion}
-use Rattle.std.specs.Option.{option_map}
+use Rattle.std.proofs.Common.{◌≡◌, ℕ, ◌<◌, Bool, true, false, cond, ◌&&◌, nat_eq, List, [], ◌∷◌, ◌++◌, length, codes, Option, Some, None, option_and_then, bytes_eq, refl, sym, ap, ◌∙◌, subst, length-append, arith}
+use Rattle.std.specs.List.{slice_split, list_all, join_with_byte}
 use Rattle.std.proofs.lemmas.Bool.Decides.{nat_tests}
 use Rattle.std.proofs.lemmas.Slice.Eq.{bytes_eq-Decides}
 use Rattle.std.proofs.lemmas.List.Splits.{join_with_byte-slice_split, length-slice_split}
@@ -10,10 +9,9 @@ use Rattle.rows_core.specs.Kind.{kind_word, kind_with_word}
 use Rattle.rows_core.specs.declared.kind.Kind.{Kind}
 use Rattle.rows_core.specs.declared.kind.Kind.TheVariants.{Int, Text}
 use Rattle.rows_core.specs.declared.schema.Column.{Column}
-use Rattle.script_text.specs.Spelling.{AreSpaces, Padded, SpellsName, SpellsColumn, WithComma, SpellsColumns, SpellsStream, SpellsAppend}
-use Rattle.script_text.specs.StreamLine.{is_mark, Parts, parts_round, parts_at, only_kind, column_with, column_of_parts, column_of, columns_with, columns_of_parts, columns_of, columns_before, closed_columns, stream_with, stream_of_parts, stream_of, line_command}
-use Rattle.script_text.specs.Words.{is_space, is_blank, trimmed, ends_word, behind_word, only_word, name_if, only_name, head_name}
-use Rattle.script_text.specs.declared.item.Command.{Command}
+use Rattle.script_text.specs.Spelling.{AreSpaces, Padded, SpellsName, SpellsColumn, SpellsColumns, SpellsStream, SpellsAppend}
+use Rattle.script_text.specs.StreamLine.{is_mark, Parts, parts_at, only_kind, column_with, column_of_parts, column_of, columns_with, columns_of_parts, columns_of, columns_before, closed_columns, stream_with, stream_of_parts, stream_of, line_command}
+use Rattle.script_text.specs.Words.{is_blank, trimmed, ends_word, behind_word, only_word, name_if, only_name, head_name}
 use Rattle.script_text.specs.declared.item.Command.TheVariants.{Stream}
 use Rattle.script_text.proofs.StreamLemmas.{columns_of-next, columns_of-last}
 use Rattle.script_text.proofs.Spellings.{same_byte, is_blank-spaces, AreSpaces-blank, trimmed-spaces, trimmed-whole, Lacks, Lacks-append, parts_at-first, parts_at-lacking, parts_at-whole, only_word-padded, Padded-only_word}
