@@ -1,47 +1,72 @@
 -- The definitions, held against worked examples.
-use Rattle.std.proofs.Common.{◌≡◌, pos, negsuc, [], ◌∷◌, codes, Some, None, refl}
+use Rattle.std.proofs.Common.{◌≡◌, [], ◌∷◌, codes, refl}
 use Rattle.std.specs.Fmt.{digits}
 use Rattle.rows_core.specs.Name.{is_name, is_reserved}
+use Rattle.rows_core.specs.Kind.{kind_with_word}
+use Rattle.rows_core.specs.declared.kind.Kind.TheVariants.{Int, Text}
 use Rattle.script_text.specs.Answer.{answer_text}
-use Rattle.script_text.specs.Number.{number_if, number_of}
 use Rattle.script_text.specs.Script.{items_by, items, all_items}
+use Rattle.script_text.specs.StreamLine.{parts_at, columns_of}
 use Rattle.script_text.specs.Words.{only_word}
-use Rattle.script_text.specs.declared.answer.Answer.TheVariants.{Held}
-use Rattle.script_text.specs.declared.answer.Refusal.TheVariants.{Syntax}
-use Rattle.script_text.specs.declared.item.Command.TheVariants.{Append}
+use Rattle.script_text.specs.declared.answer.Answer.TheVariants.{Held, Refused}
+use Rattle.script_text.specs.declared.answer.LimitKind.TheVariants as limit
+use Rattle.script_text.specs.declared.answer.Refusal.TheVariants.{Limit, Syntax, Unknown, Row}
+use Rattle.script_text.specs.declared.item.Command.TheVariants.{Stream, Append}
 use Rattle.script_text.specs.declared.item.Item.TheVariants as item
 
--- zero and numbers below it have one spelling
-zero_is_read : number_of (codes "0") ≡ Some (pos 0)
-unfolding number_of number_if digits
-zero_is_read = refl
+-- a stream, with and without spaces
+stream_is_read : items (codes "stream s (a:int, t:text)\n") ≡ item.Command (Stream (codes "s") (record { name = codes "a"; kind = Int } ∷ record { name = codes "t"; kind = Text } ∷ [])) ∷ []
+unfolding items_by only_word is_name is_reserved parts_at columns_of kind_with_word
+stream_is_read = refl
 
-minus_zero_is_not : number_of (codes "-0") ≡ None
-unfolding number_of number_if digits
-minus_zero_is_not = refl
+spaces_stand_anywhere : items (codes "  stream  s( a :int ,a: int )  \n") ≡ item.Command (Stream (codes "s") (record { name = codes "a"; kind = Int } ∷ record { name = codes "a"; kind = Int } ∷ [])) ∷ []
+unfolding items_by only_word is_name is_reserved parts_at columns_of kind_with_word
+spaces_stand_anywhere = refl
 
-least_is_read : number_of (codes "-9223372036854775808") ≡ Some (negsuc 9223372036854775807)
-unfolding number_of number_if digits
-least_is_read = refl
+no_column_is_refused : items (codes "stream s ()\n") ≡ item.Refused Syntax ∷ []
+unfolding items_by only_word is_name is_reserved parts_at columns_of kind_with_word
+no_column_is_refused = refl
 
-one_past_is_not : number_of (codes "9223372036854775808") ≡ None
-unfolding number_of number_if digits
-one_past_is_not = refl
+reserved_word_is_refused : items (codes "stream s (end:int)\n") ≡ item.Refused Syntax ∷ []
+unfolding items_by only_word is_name is_reserved parts_at columns_of kind_with_word
+reserved_word_is_refused = refl
 
--- a block, a remark, a refused block and a line that is no command
+other_kind_is_refused : items (codes "stream s (a:real)\n") ≡ item.Refused Syntax ∷ []
+unfolding items_by only_word is_name is_reserved parts_at columns_of kind_with_word
+other_kind_is_refused = refl
 
-stored_front : items (codes "append s\n1\n2\nend\nappend t\n") ≡ item.Command (Append (codes "s") (pos 1 ∷ pos 2 ∷ [])) ∷ []
-unfolding items_by only_word is_name is_reserved number_of number_if digits
+tab_is_refused : items (codes "stream s (a:int)\t\n") ≡ item.Refused Syntax ∷ []
+unfolding items_by only_word is_name is_reserved parts_at columns_of kind_with_word
+tab_is_refused = refl
+
+-- a block, a blank row line, a block that isn't ended, and one without a row line
+
+stored_front : items (codes "append s\n1\n\nend\nappend t\n") ≡ item.Command (Append (codes "s") (codes "1" ∷ [] ∷ [])) ∷ []
+unfolding items_by only_word is_name is_reserved
 stored_front = refl
 
 unended_is_refused : all_items (codes "append t\n1\n") ≡ item.Refused Syntax ∷ []
-unfolding items_by only_word is_name is_reserved number_of number_if digits
+unfolding items_by only_word is_name is_reserved
 unended_is_refused = refl
 
-last_line_counts : all_items (codes "# one\n append t \n-0\nend") ≡ item.Refused Syntax ∷ []
-unfolding items_by only_word is_name is_reserved number_of number_if digits
+no_row_is_refused : all_items (codes "# one\n append t \nend") ≡ item.Refused Syntax ∷ []
+unfolding items_by only_word is_name is_reserved
+no_row_is_refused = refl
+
+last_line_counts : all_items (codes " append t \n end\nend") ≡ item.Command (Append (codes "t") (codes " end" ∷ [])) ∷ []
+unfolding items_by only_word is_name is_reserved
 last_line_counts = refl
 
 held_text : answer_text (Held 12) ≡ codes "ok 12\n"
 unfolding digits
 held_text = refl
+
+row_text : answer_text (Refused (Row 2)) ≡ codes "refused row 2\n"
+unfolding digits
+row_text = refl
+
+unknown_text : answer_text (Refused (Unknown (codes "nope"))) ≡ codes "refused unknown nope\n"
+unknown_text = refl
+
+limit_is_printed : answer_text (Refused (Limit limit.Text)) ≡ codes "refused limit text 1000\n"
+limit_is_printed = refl

@@ -1,9 +1,13 @@
+pub mod AnswerLemmas
 pub mod BlockLemmas
 pub mod Examples
 pub mod LineLemmas
-pub mod NumberLemmas
 pub mod OptionLemmas
 pub mod ReaderLemmas
 pub mod ScriptLemmas
+pub mod Spellings
+pub mod StreamLemmas
+pub mod StreamSpelling
 pub mod TakeLemmas
+pub mod WholeLemmas
 pub mod WordLemmas

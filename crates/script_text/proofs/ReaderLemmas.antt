@@ -14,10 +14,6 @@ is_outside-StandsFor place.Outside None stands = refl
 is_outside-StandsFor place.Outside (Some block) stands = absurd stands
 is_outside-StandsFor (place.Block b) None stands = absurd stands
 is_outside-StandsFor (place.Block b) (Some block) stands = refl
-is_outside-StandsFor place.Refused None stands = absurd stands
-is_outside-StandsFor place.Refused (Some block) stands = refl
-is_outside-StandsFor place.NoMemory None stands = absurd stands
-is_outside-StandsFor place.NoMemory (Some block) stands = refl
 
 -- nothing was taken of a command
 pub StandsAt-new : (p : Place) (text : List ℕ) (len : ℕ) → StandsFor p None → ((outside : Bool) → Holds outside text len []) → StandsAt p text len []

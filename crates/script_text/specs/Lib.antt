@@ -1,6 +1,7 @@
 pub mod Answer
 pub mod Line
-pub mod Number
 pub mod Reader
 pub mod Script
+pub mod Spelling
+pub mod StreamLine
 pub mod Words

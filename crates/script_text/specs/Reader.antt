@@ -1,13 +1,13 @@
 -- What the reader knows of the bytes that it has taken, and forgets of them.
-use Rattle.std.specs.Prelude.{◌≡◌, ℕ, ◌≤◌, Bool, true, false, is_none, List, ◌++◌, All, Option, Some, None, ⊤}
-use Rattle.std.specs.List.{list_all}
+use Rattle.std.specs.Prelude.{◌≡◌, ℕ, ◌-◌, ◌^◌, min, Bool, true, false, is_none, List, ◌++◌, All, Option, Some, None, ⊤}
 use Rattle.script_text.specs.Words.{head_name}
-use Rattle.script_text.specs.Script.{Block, block_len, fits_line, largest_block, numbers_of, block_item, line_item, line_block, is_newline, items_from, items, all_items_from, all_items, Given}
+use Rattle.script_text.specs.Script.{Block, block_len, fit_lines, block_limit, line_item, line_block, is_newline, items_from, items, all_items_from, all_items, Given}
 use Rattle.script_text.specs.Line.{Holds}
-use Rattle.script_text.specs.declared.answer.Refusal.TheVariants.{Syntax}
 use Rattle.script_text.specs.declared.item.Item.{Item}
-use Rattle.script_text.specs.declared.item.Item.TheVariants as item
-use Rattle.script_text.specs.declared.place.OpenBlock.{OpenBlock}
+use Rattle.script_text.specs.declared.block.Kept.{Kept}
+use Rattle.script_text.specs.declared.block.Kept.TheVariants as kept
+use Rattle.script_text.specs.declared.block.OpenBlock.{OpenBlock}
+use Rattle.script_text.specs.declared.block.Size.{Size}
 use Rattle.script_text.specs.declared.place.Place.{Place}
 use Rattle.script_text.specs.declared.place.Place.TheVariants as place
 use Rattle.script_text.specs.declared.lines.Lines.{Lines}
@@ -16,30 +16,28 @@ use Rattle.script_text.specs.declared.lines.Lines.{Lines}
 abbrev pub with_rows : Block → List (List ℕ) → Block
 with_rows block rows = record { head = block.head; rows = block.rows ++ rows }
 
--- a block that is sound so far, of which the name and the numbers are kept
-pub record IsSound (open_block : OpenBlock) (block : Block) : Type 0 where
-  pub name : head_name block.head ≡ Some open_block.name
-  pub head_fits : fits_line block.head ≡ true
-  pub numbers : numbers_of block.rows ≡ Some open_block.rows.items
-  pub rows_fit : list_all fits_line block.rows ≡ true
-  pub len : open_block.len ≡ block_len block.rows
-  pub block_fits : block_len block.rows ≤ largest_block
+-- what counts for the limits of a block: whether its lines fit, and the bytes of its row lines, up to the greatest u64
+pub record IsSizeOf (size : Size) (block : Block) : Type 0 where
+  pub lines_fit : size.lines_fit ≡ fit_lines block
+  pub len : size.len ≡ min (block_len block.rows) (2 ^ 64 - 1)
 
--- a block that is refused whatever rows it still gets
-abbrev pub IsRefused : Block → Type 0
-IsRefused block = (more : List (List ℕ)) → block_item (with_rows block more) ≡ item.Refused Syntax
+-- what is kept of a block: its name and its row lines; nothing where the block is refused already, whatever rows it
+-- still gets; or nothing where memory was refused
+abbrev pub Keeps : Kept → Block → Type 0
+Keeps (kept.Append name rows) block = (head_name block.head ≡ Some name) × (rows.items ≡ block.rows)
+Keeps kept.Nothing block = block_limit block ≡ None → head_name block.head ≡ None
+Keeps kept.NoMemory block = ⊤
 
--- where the reader is: outside of a block, in a sound one, in one that is refused already, or in one for which memory
--- was refused, of which nothing is kept
+pub record IsOf (open_block : OpenBlock) (block : Block) : Type 0 where
+  pub size : IsSizeOf open_block.size block
+  pub keeps : Keeps open_block.kept block
+
+-- where the reader is: outside of a block, or in one
 abbrev pub StandsFor : Place → Option Block → Type 0
 StandsFor place.Outside None = ⊤
 StandsFor place.Outside (Some block) = ⊥
 StandsFor (place.Block open_block) None = ⊥
-StandsFor (place.Block open_block) (Some block) = IsSound open_block block
-StandsFor place.Refused None = ⊥
-StandsFor place.Refused (Some block) = IsRefused block
-StandsFor place.NoMemory None = ⊥
-StandsFor place.NoMemory (Some block) = ⊤
+StandsFor (place.Block open_block) (Some block) = IsOf open_block block
 
 -- what the reader gives where the bytes may spell an item
 abbrev pub GivenIfAny : Option Item → Option Item → Type 0
@@ -56,8 +54,6 @@ pub record AfterLine (block : Option Block) (line : List ℕ) (place : Place) (g
 abbrev pub is_outside : Place → Bool
 is_outside place.Outside = true
 is_outside (place.Block open_block) = false
-is_outside place.Refused = false
-is_outside place.NoMemory = false
 
 -- no line ends in these bytes
 abbrev pub IsUnbroken : List ℕ → Type 0

@@ -1,10 +1,13 @@
 -- What a script spells: its commands, as functions of whole texts that go line by line.
-use Rattle.std.specs.Prelude.{◌≡◌, ℕ, ℤ, ◌+◌, Bool, ◌&&◌, ◌||◌, ◌==◌, nat_le, if◌then◌else◌, List, [], ◌∷◌, ◌++◌, length, sum_by, Option, Some, None, option_to_list, codes, bytes_eq, ◌⊎◌}
+use Rattle.std.specs.Prelude.{◌≡◌, ℕ, ◌+◌, ◌<◌, Bool, ◌&&◌, ◌||◌, ◌==◌, nat_le, if◌then◌else◌, List, [], ◌∷◌, ◌++◌, length, sum_by, Option, Some, None, option_to_list, codes, bytes_eq, ◌⊎◌, ⊤}
 use Rattle.std.specs.List.{slice_split, list_all}
-use Rattle.script_text.specs.Number.{number_of}
 use Rattle.script_text.specs.Words.{is_skipped, begins_block, head_name}
-use Rattle.script_text.specs.declared.answer.Refusal.TheVariants.{Syntax, Memory}
-use Rattle.script_text.specs.declared.item.Command.TheVariants.{Append}
+use Rattle.script_text.specs.StreamLine.{line_command}
+use Rattle.script_text.specs.declared.answer.LimitKind.{LimitKind}
+use Rattle.script_text.specs.declared.answer.LimitKind.TheVariants as limit
+use Rattle.script_text.specs.declared.answer.Refusal.TheVariants.{Limit, Syntax, Memory}
+use Rattle.script_text.specs.declared.item.Command.{Command}
+use Rattle.script_text.specs.declared.item.Command.TheVariants.{Stream, Append}
 use Rattle.script_text.specs.declared.item.Item.{Item}
 use Rattle.script_text.specs.declared.item.Item.TheVariants as item
 
@@ -15,6 +18,9 @@ longest_line = 65536
 abbrev pub largest_block : ℕ
 largest_block = 67108864
 
+abbrev pub fits_line : List ℕ → Bool
+fits_line line = nat_le (length line) longest_line
+
 -- a block that isn't ended: its head line, and its row lines so far
 pub record Block : Type 0 where
   pub head : List ℕ
@@ -24,40 +30,47 @@ pub record Block : Type 0 where
 abbrev pub block_len : List (List ℕ) → ℕ
 block_len rows = sum_by (λ row. length row + 1) rows
 
-abbrev pub fits_line : List ℕ → Bool
-fits_line line = nat_le (length line) longest_line
+-- each line fits
+abbrev pub fit_lines : Block → Bool
+fit_lines block = fits_line block.head && list_all fits_line block.rows
 
--- no line and no block is too long
-abbrev pub is_within_limits : Block → Bool
-is_within_limits block = fits_line block.head && list_all fits_line block.rows && nat_le (block_len block.rows) largest_block
+abbrev pub fits_block : Block → Bool
+fits_block block = nat_le (block_len block.rows) largest_block
 
--- the numbers that row lines spell, where each spells one
-abbrev pub numbers_onto : Option ℤ → Option (List ℤ) → Option (List ℤ)
-numbers_onto (Some number) (Some numbers) = Some (number ∷ numbers)
-numbers_onto None numbers = None
-numbers_onto (Some number) None = None
+-- the limit that a line passes, if it does
+abbrev pub line_limit : List ℕ → Option LimitKind
+line_limit line = if fits_line line then None else Some limit.Line
 
-abbrev pub numbers_of : List (List ℕ) → Option (List ℤ)
-numbers_of [] = Some []
-numbers_of (row ∷ rows) = numbers_onto (number_of row) (numbers_of rows)
+-- the limit that a block passes: that on lines comes before that on blocks
+abbrev pub block_limit : Block → Option LimitKind
+block_limit block = if fit_lines block then (if fits_block block then None else Some limit.Block) else Some limit.Line
 
--- an append of these rows to the stream of this name; there is one row or more
-abbrev pub append_item : Option (List ℕ) → Option (List ℤ) → Item
-append_item (Some name) (Some (number ∷ numbers)) = item.Command (Append name (number ∷ numbers))
-append_item (Some name) (Some []) = item.Refused Syntax
-append_item (Some name) None = item.Refused Syntax
-append_item None numbers = item.Refused Syntax
+-- what a text spells: a limit comes before its grammar
+abbrev pub spelled_item : Option LimitKind → Option Command → Item
+spelled_item (Some kind) command = item.Refused (Limit kind)
+spelled_item None (Some command) = item.Command command
+spelled_item None None = item.Refused Syntax
+
+-- an append of these row lines to the stream of this name; there is one row line or more
+abbrev pub append_with : Option (List ℕ) → List (List ℕ) → Option Command
+append_with (Some name) (row ∷ rows) = Some (Append name (row ∷ rows))
+append_with (Some name) [] = None
+append_with None rows = None
 
 -- what a block spells that is ended
 abbrev pub block_item : Block → Item
-block_item block = if is_within_limits block then append_item (head_name block.head) (numbers_of block.rows) else item.Refused Syntax
+block_item block = spelled_item (block_limit block) (append_with (head_name block.head) block.rows)
+
+-- what a line spells that is neither passed over nor of a block
+abbrev pub command_item : List ℕ → Item
+command_item line = spelled_item (line_limit line) (line_command line)
 
 abbrev pub is_end : List ℕ → Bool
 is_end line = bytes_eq line (codes "end")
 
 -- the item that this line ends, after the lines before it left this block open, or none
 abbrev pub line_item : Option Block → List ℕ → Option Item
-line_item None line = if is_skipped line || begins_block line then None else Some (item.Refused Syntax)
+line_item None line = if is_skipped line || begins_block line then None else Some (command_item line)
 line_item (Some block) line = if is_end line then Some (block_item block) else None
 
 -- the block that is open after this line
@@ -68,7 +81,7 @@ line_block (Some block) line = if is_end line then None else Some (record { head
 -- what a block spells that the script doesn't end
 abbrev pub unended_item : Option Block → Option Item
 unended_item None = None
-unended_item (Some block) = Some (item.Refused Syntax)
+unended_item (Some block) = Some (spelled_item (block_limit block) None)
 
 -- the last line, which lacks its LF and is no line where it is empty
 abbrev pub last_items : Option Block → List ℕ → List Item
@@ -117,3 +130,12 @@ pub record Completes (text : List ℕ) (given : Item) : Type 0 where
   pub is_given : Given spelled given
   pub goes_on : (more : List ℕ) → items (text ++ more) ≡ spelled ∷ items more
   pub ends : (more : List ℕ) → all_items (text ++ more) ≡ spelled ∷ all_items more
+
+-- a stream of one column or more, or an append of one row line or more
+abbrev pub IsWhole : Command → Type 0
+IsWhole (Stream name columns) = 0 < length columns
+IsWhole (Append name lines) = 0 < length lines
+
+abbrev pub IsWholeItem : Item → Type 0
+IsWholeItem (item.Command command) = IsWhole command
+IsWholeItem (item.Refused refusal) = ⊤

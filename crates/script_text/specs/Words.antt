@@ -39,9 +39,16 @@ behind_append line = behind_word (codes "append") (trimmed line)
 abbrev pub begins_block : List ℕ → Bool
 begins_block line = is_some (behind_append line)
 
+-- what stands behind `stream`, where it is the line's first word
+abbrev pub behind_stream : List ℕ → Option (List ℕ)
+behind_stream line = behind_word (codes "stream") (trimmed line)
+
+abbrev pub is_blank : List ℕ → Bool
+is_blank text = list_all is_space text
+
 -- the one word of a text that begins with it, where only spaces stand behind it
 abbrev pub word_alone : List ℕ → Option (List ℕ)
-word_alone text = if list_all is_space (after_first is_space text) then Some (before_first is_space text) else None
+word_alone text = if is_blank (after_first is_space text) then Some (before_first is_space text) else None
 
 -- the one word of a text, where it has no other
 unfoldable pub only_word : List ℕ → Option (List ℕ)
@@ -50,6 +57,10 @@ only_word text = word_alone (trimmed text)
 abbrev pub name_if : List ℕ → Option (List ℕ)
 name_if word = if is_name word then Some word else None
 
+-- the one word of a text, where it is a name
+abbrev pub only_name : List ℕ → Option (List ℕ)
+only_name text = option_and_then name_if (only_word text)
+
 -- the name in a block's head line `append NAME`
 abbrev pub head_name : List ℕ → Option (List ℕ)
-head_name line = option_and_then name_if (option_and_then only_word (behind_append line))
+head_name line = option_and_then only_name (behind_append line)

@@ -1,23 +1,54 @@
 //! What a command is answered, and the text of it.
-ghost use Rattle.std.specs.Prelude.{◌≡◌, ◌∷◌, ◌+◌, ◌<◌, ◌≤◌, ◌++◌, length, vec_len, vec_capacity, OnOk, OnErr, IsOk, slice_index_or, [], All};
-ghost use Rattle.script_text.specs.Answer.{IsShort, answer_lines, printed_line};
+ghost use Rattle.std.specs.Prelude.{◌≡◌, ◌∷◌, ◌+◌, ◌<◌, ◌≤◌, ◌++◌, length, vec_len, vec_capacity, OnOk, OnErr, IsOk, slice_index_or, [], All, decimal};
+ghost use Rattle.script_text.specs.Answer.{IsShort, answer_lines, refusal_line, limit_text, printed_line};
 
 use itoa::Buffer;
-use rows_core::Memory;
+use rows_core::{Memory, Name};
+
+/// What a command has more of than it may. Each has its word and its number in the answer's line.
+#[derive(Clone, Copy, Debug, PartialEq, Eq)]
+pub enum LimitKind {
+    /// `line 65536`: the bytes of a line of the command, without its LF.
+    Line,
+    /// `block 67108864`: the bytes of the row lines of a block, with their LFs.
+    Block,
+    /// `text 1000`: the bytes of a text in a row.
+    Text,
+    /// `columns 32`: the columns of a stream.
+    Columns,
+    /// `streams 1024`: the streams.
+    Streams,
+    /// `extents 65535`: the extents of one stream.
+    Extents,
+    /// `allextents 262144`: the extents of all streams.
+    AllExtents,
+}
 
 /// Why a command changed nothing.
-#[derive(Clone, Copy, Debug, PartialEq, Eq)]
+#[derive(Debug, PartialEq, Eq, Drop)]
 pub enum Refusal {
-    /// The bytes spell no command.
+    /// `refused limit WHAT N`: there would be more than N.
+    Limit(LimitKind),
+    /// `refused syntax`: the bytes spell no command.
     Syntax,
-    /// Memory was asked for and refused.
+    /// `refused unknown NAME`: there is no stream of this name.
+    Unknown(Name),
+    /// `refused exists NAME`: there is a stream of this name already.
+    Exists(Name),
+    /// `refused type`: two columns have one name.
+    IllTyped,
+    /// `refused row K`: this row line, counted from 1, is the first that spells no row of the stream's schema.
+    Row(u64),
+    /// `refused memory`: memory was asked for and refused.
     Memory,
 }
 
 /// What a command is answered.
-#[derive(Clone, Copy, Debug, PartialEq, Eq)]
+#[derive(Debug, PartialEq, Eq, Drop)]
 pub enum Answer {
-    /// The rows that the stream now holds.
+    /// `ok`
+    Ok,
+    /// `ok N`: the rows that the stream now holds.
     Held(u64),
     Refused(Refusal),
 }
@@ -29,10 +60,42 @@ pub fn line_count(answer: &Answer, quiet: bool) -> u64
     ensures short { All IsShort (answer_lines quiet answer.now) }
 {
     let _ = quiet;
-    match *answer {
-        Answer::Held(_rows) => 1,
-        Answer::Refused(_) => 1,
+    match answer {
+        Answer::Ok => 1,
+        Answer::Held(rows) => numbered_line(*rows),
+        Answer::Refused(refusal) => refusal_line_count(refusal),
     }
+}
+
+// The number of lines of a refusal.
+fn refusal_line_count(refusal: &Refusal) -> u64
+    ensures one { result ≡ 1 }
+    ensures short { IsShort (refusal_line refusal.now) }
+{
+    match refusal {
+        Refusal::Unknown(name) => named_line(name),
+        Refusal::Exists(name) => named_line(name),
+        Refusal::Row(number) => numbered_line(*number),
+        Refusal::Limit(_) | Refusal::Syntax | Refusal::IllTyped | Refusal::Memory => 1,
+    }
+}
+
+// One line, which ends with a name.
+fn named_line(name: &Name) -> u64
+    ensures one { result ≡ 1 }
+    ensures short { length name.now ≤ 64 }
+{
+    let _ = name.bytes();
+    1
+}
+
+// One line, which ends with a number.
+fn numbered_line(number: u64) -> u64
+    ensures one { result ≡ 1 }
+    ensures short { length (decimal number) ≤ 20 }
+{
+    let _ = number;
+    1
 }
 
 /// Appends the line of this number, from 0, with its LF. After want of memory `to` has what it had.
@@ -45,25 +108,61 @@ pub fn print_line(answer: &Answer, quiet: bool, line: u64, to: &mut Vec<u8>) -> 
 {
     let _ = (quiet, line);
     match answer {
+        Answer::Ok => append_line(to, b"ok", b""),
         Answer::Held(rows) => {
             let mut digits = Buffer::new();
             append_line(to, b"ok ", digits.format(*rows).as_bytes())
         }
-        Answer::Refused(Refusal::Syntax) => append_line(to, b"refused ", b"syntax"),
-        Answer::Refused(Refusal::Memory) => append_line(to, b"refused ", b"memory"),
+        Answer::Refused(refusal) => print_refusal(refusal, to),
     }
 }
 
-// Appends the word, the text behind it and LF, or nothing.
-fn append_line(to: &mut Vec<u8>, word: &[u8], text: &[u8]) -> Result<(), Memory>
-    ensures printed { OnOk result (to.new.items ≡ to.old.items ++ (word.now ++ text.now ++ 10 ∷ [])) }
+// Appends the line of a refusal with its LF, or nothing.
+fn print_refusal(refusal: &Refusal, to: &mut Vec<u8>) -> Result<(), Memory>
+    ensures printed { OnOk result (to.new.items ≡ to.old.items ++ printed_line (refusal_line refusal.now)) }
     ensures err { OnErr result (to.new.items ≡ to.old.items) }
-    ensures room { vec_len to.old + (length word.now + length text.now + 1) ≤ vec_capacity to.old → IsOk result }
+    ensures room { vec_len to.old + length (printed_line (refusal_line refusal.now)) ≤ vec_capacity to.old → IsOk result }
+    ensures capacity { vec_capacity to.old ≤ vec_capacity to.new }
+{
+    match refusal {
+        Refusal::Limit(kind) => append_line(to, b"refused limit ", limit_text(*kind)),
+        Refusal::Syntax => append_line(to, b"refused ", b"syntax"),
+        Refusal::Unknown(name) => append_line(to, b"refused unknown ", name.bytes()),
+        Refusal::Exists(name) => append_line(to, b"refused exists ", name.bytes()),
+        Refusal::IllTyped => append_line(to, b"refused ", b"type"),
+        Refusal::Row(number) => {
+            let mut digits = Buffer::new();
+            append_line(to, b"refused row ", digits.format(*number).as_bytes())
+        }
+        Refusal::Memory => append_line(to, b"refused ", b"memory"),
+    }
+}
+
+// What is counted, and the most that there may be.
+fn limit_text(kind: LimitKind) -> &'static [u8]
+    ensures { result.now ≡ limit_text kind }
+{
+    match kind {
+        LimitKind::Line => b"line 65536",
+        LimitKind::Block => b"block 67108864",
+        LimitKind::Text => b"text 1000",
+        LimitKind::Columns => b"columns 32",
+        LimitKind::Streams => b"streams 1024",
+        LimitKind::Extents => b"extents 65535",
+        LimitKind::AllExtents => b"allextents 262144",
+    }
+}
+
+// Appends the words, the text behind them and LF, or nothing.
+fn append_line(to: &mut Vec<u8>, words: &[u8], text: &[u8]) -> Result<(), Memory>
+    ensures printed { OnOk result (to.new.items ≡ to.old.items ++ (words.now ++ text.now ++ 10 ∷ [])) }
+    ensures err { OnErr result (to.new.items ≡ to.old.items) }
+    ensures room { vec_len to.old + (length words.now + length text.now + 1) ≤ vec_capacity to.old → IsOk result }
     ensures capacity { vec_capacity to.old ≤ vec_capacity to.new }
 {
     let len = to.len();
-    to.try_reserve(word.len() + text.len() + 1)?;
-    to.extend_from_slice(word)?;
+    to.try_reserve(words.len() + text.len() + 1)?;
+    to.extend_from_slice(words)?;
     to.extend_from_slice(text)?;
     to.push(b'\n')?;
     Ok(())

@@ -1,19 +1,34 @@
 //! What a script consists of.
+ghost use Rattle.std.specs.Prelude.{◌≡◌, ℕ, List, [], ◌∷◌};
+ghost use Rattle.std.specs.List.{AllByRecursion};
+ghost use Rattle.script_text.specs.Script.{items, all_items, Given, Completes, IsWholeItem};
 
 use crate::answer::Refusal;
-use rows_core::{Name, Seq};
+use rows_core::{Column, Name, Seq, Text};
 
 /// What a person asks for.
 #[derive(Drop)]
 pub enum Command {
-    /// Appends rows of one number each to a stream, which is made where it isn't there. There is one row or more.
-    Append { name: Name, rows: Seq<i64> },
+    /// Makes a stream. It has one column or more, as written: names may repeat, and there may be more than a schema
+    /// has.
+    Stream { name: Name, columns: Seq<Column> },
+    /// Appends rows to a stream. There is one row line or more, as written and without its LF, blank ones too.
+    Append { name: Name, lines: Seq<Text> },
 }
 
 /// What the reader of a script gives for each command, in the order of the script.
 #[derive(Drop)]
 pub enum Item {
     Command(Command),
-    /// The bytes spell no command, or there was no memory for it.
+    /// A limit of lines or blocks is passed, the bytes spell no command, or there was no memory for it.
     Refused(Refusal),
 }
+
+/// Each stream that a script spells has one column or more, and each append one row line or more. So has each command
+/// that the reader gives.
+pub fn commands_are_whole()
+    ensures front { (bytes : List ℕ) → AllByRecursion IsWholeItem (items bytes) }
+    ensures all { (bytes : List ℕ) → AllByRecursion IsWholeItem (all_items bytes) }
+    ensures given { (text : List ℕ) (given : Item) → Completes text given → IsWholeItem given }
+    ensures last { (bytes : List ℕ) (spelled given : Item) → all_items bytes ≡ spelled ∷ [] → Given spelled given → IsWholeItem given }
+{}

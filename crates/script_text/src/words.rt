@@ -1,7 +1,10 @@
 //! The words of a command's line, which spaces part.
-ghost use Rattle.std.specs.Prelude.{◌≡◌, ◌<◌, length, option_copied, IfSome, position, codes};
-ghost use Rattle.std.specs.List.{list_all, before_first, after_first};
-ghost use Rattle.script_text.specs.Words.{is_space, trimmed, is_empty_or_remark, ends_word, behind_word, word_alone, only_word};
+ghost use Rattle.std.specs.Prelude.{◌≡◌, ◌<◌, length, option_copied, IfSome, IfOk, position, codes};
+ghost use Rattle.std.specs.List.{before_first, after_first};
+ghost use Rattle.script_text.specs.Words.{is_space, is_blank, trimmed, is_empty_or_remark, ends_word, behind_word, word_alone, only_word, only_name};
+
+use rows_core::{Memory, Name, NameRefusal};
+use std::alloc::Global;
 
 /// The line without the spaces at its front.
 pub fn trim_start(line: &[u8]) -> &[u8]
@@ -32,6 +35,27 @@ pub fn behind_append(text: &[u8]) -> Option<&[u8]>
     ensures { option_copied result ≡ behind_word (codes "append") text.now }
 {
     behind_word(b"append", text)
+}
+
+/// What stands behind `stream`, where it is the first word of a line without spaces at its front.
+pub fn behind_stream(text: &[u8]) -> Option<&[u8]>
+    ensures { option_copied result ≡ behind_word (codes "stream") text.now }
+{
+    behind_word(b"stream", text)
+}
+
+/// The one word of a text, where it is a name.
+pub fn only_name(alloc: Global, text: &[u8]) -> Result<Option<Name>, Memory>
+    ensures { IfOk result (λ name. name ≡ only_name text.now) }
+{
+    let Some(word) = only_word(text) else {
+        return Ok(None);
+    };
+    match Name::new(alloc, word) {
+        Ok(name) => Ok(Some(name)),
+        Err(NameRefusal::NotName) => Ok(None),
+        Err(NameRefusal::Memory) => Err(Memory),
+    }
 }
 
 /// The one word of a text, where it has no other.
@@ -87,8 +111,9 @@ fn first_space(text: &[u8]) -> Option<usize>
     text.iter().position(|byte| *byte == b' ')
 }
 
-fn is_blank(text: &[u8]) -> bool
-    ensures { result ≡ list_all is_space text.now }
+/// Whether there are only spaces.
+pub fn is_blank(text: &[u8]) -> bool
+    ensures { result ≡ is_blank text.now }
 {
     text.iter().all(|byte| *byte == b' ')
 }

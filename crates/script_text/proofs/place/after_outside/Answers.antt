@@ -1,13 +1,16 @@
-use Rattle.std.proofs.Common.{◌≡◌, Some, codes, ap, ◌∙◌, rules, arith}
-use Rattle.std.proofs.lemmas.Bool.Decides.{nat_tests}
-use Rattle.script_text.specs.Words.{behind_word, behind_append}
-use Rattle.script_text.proofs.LineLemmas.{IsWhole-from_short}
-use Rattle.script_text.proofs.BlockLemmas.{AfterLine-begun}
+use Rattle.std.proofs.Common.{◌≡◌, true, false, is_some, codes, ◌∙◌, rules}
+use Rattle.script_text.specs.Words.{is_empty_or_remark, behind_word}
+use Rattle.script_text.specs.declared.place.Place.TheVariants as place
+use Rattle.script_text.proofs.BlockLemmas.{AfterLine-begun, AfterLine-command, begins_block-kept, is_skipped-kept}
 use Rattle.script_text.proofs.place.after_outside.Goals as goal
 
-pub returns-in-Some-2 : goal.returns-in-Some-2
-returns-in-Some-2 c = λ bytes held.
-    let whole = IsWhole-from_short _ _ bytes c.args.line.now.len (search rules) held in
-    let read : behind_word (codes "append") c.args.line.now.text.items ≡ Some c.in-Some.field-0.now = search rules in
-    let behind : behind_append bytes ≡ Some c.in-Some.field-0.now = ap (behind_word (codes "append")) whole.text_is ∙ read in
-    AfterLine-begun bytes c.in-Some.field-0.now c.begun.result behind (c.begun.ensures bytes behind (let fits = whole.fits in grind (arith, nat_tests)))
+pub returns-in-Some : goal.returns-in-Some
+returns-in-Some c = λ bytes held.
+    let some : is_some (behind_word (codes "append") c.args.line.now.text.items) ≡ true = search rules in
+    AfterLine-begun bytes (place.Block c.new.result) (begins_block-kept _ bytes _ held ∙ some) (c.new.ensures bytes held)
+
+pub returns-in-None : goal.returns-in-None
+returns-in-None c = λ bytes held.
+    let none : is_some (behind_word (codes "append") c.args.line.now.text.items) ≡ false = search rules in
+    let read : is_empty_or_remark c.args.line.now.text.items ≡ false = search rules in
+    AfterLine-command bytes c.command_item.result (is_skipped-kept _ bytes _ held ∙ read) (begins_block-kept _ bytes _ held ∙ none) (c.command_item.ensures bytes held)
