@@ -1,0 +1,4 @@
+pub mod RefusalLemmas
+pub mod OutcomeLemmas
+pub mod ReadingLemmas
+pub mod StreamLemmas

@@ -1,0 +1,9 @@
+//! The streams that a script makes and fills, and what each of its commands is answered.
+#![tactic(auto)]
+
+mod reading;
+pub mod session;
+pub mod stream;
+
+pub use session::Session;
+pub use stream::Stream;
