@@ -7,4 +7,5 @@ pub mod ReaderLemmas
 pub mod ScriptLemmas
 pub mod StreamLemmas
 pub mod TakeLemmas
+pub mod WholeLemmas
 pub mod WordLemmas

@@ -11,5 +11,5 @@ mod stream_line;
 mod words;
 
 pub use answer::{Answer, LimitKind, Refusal, line_count, print_line};
-pub use item::{Command, Item};
+pub use item::{Command, Item, commands_are_whole};
 pub use lines::Lines;
