@@ -1,3 +1,4 @@
+pub mod Examples
 pub mod RefusalLemmas
 pub mod OutcomeLemmas
 pub mod ReadingLemmas

@@ -48,7 +48,7 @@ module _ (state : State) (name : List ℕ) (columns : List Column) where
   Step-taken taken = inl (sym (made_taken taken))
 
 module _ (state : State) (name : List ℕ) where
-  appended_rows : (stream : Stream) (rows : List (List Value)) → IsTrue (not (have_long rows)) → length stream.extents < 65535 → extent_count state < 262144
+  pub appended_rows : (stream : Stream) (rows : List (List Value)) → IsTrue (not (have_long rows)) → length stream.extents < 65535 → extent_count state < 262144
       → appended state name stream (Rows rows) ≡ outcome (Held (row_count (grown stream rows))) (with_rows state name rows)
   appended_rows stream rows short room all_room =
       let few : nat_le 65535 (length stream.extents) ≡ false = grind (arith, nat_tests) in

@@ -96,7 +96,7 @@ module _ (state : State) (name : List ℕ) where
       rw (free h.0, not-true _ h.1, few, full)
   making_refused columns _ h = absurd h
 
-  above_limit : (stream : Stream) (rows : List (List Value)) (kind : LimitKind) → IsAboveLimit state stream rows kind → refused state (refusal.Limit kind) ≡ appended state name stream (Rows rows)
+  pub above_limit : (stream : Stream) (rows : List (List Value)) (kind : LimitKind) → IsAboveLimit state stream rows kind → refused state (refusal.Limit kind) ≡ appended state name stream (Rows rows)
   above_limit stream rows limit.Text h = rw h
   above_limit stream rows limit.Extents h =
       let full : nat_le 65535 (length stream.extents) ≡ true = let at = h.1 in grind (arith, nat_tests) in

@@ -7,3 +7,6 @@ pub mod stream;
 
 pub use session::Session;
 pub use stream::Stream;
+
+#[cfg(test)]
+mod tests;

@@ -17,7 +17,7 @@ pub struct Stream {
 impl Stream {
     /// Puts these rows behind the older ones, as an extent of their own, and gives the number of rows that the stream
     /// then holds. After want of memory it is as before; a number above u64 is want of memory too.
-    pub fn grow(&mut self, alloc: Global, rows: Vec<Row>) -> Result<u64, Memory>
+    pub(crate) fn grow(&mut self, alloc: Global, rows: Vec<Row>) -> Result<u64, Memory>
         ensures stream { IfOk result (λ held. self.new ≡ grown self.old rows.items) }
         ensures held { IfOk result (λ held. held ≡ row_count (grown self.old rows.items)) }
         ensures err { OnErr result (self.new ≡ self.old) }
