@@ -14,7 +14,15 @@ pub record Spell (kinds : List Kind) (lines : List (List ℕ)) (rows : List (Lis
   pub loose : AllByRecursion (IsLooseRow kinds) rows
   pub spelled : lines ≡ map row_spelling rows
 
--- the line of this number, counted from 1, is the first that spells no row
+-- the line spells a row of these kinds, with texts of any length
+abbrev pub SpellsRow : List Kind → List ℕ → Type 0
+SpellsRow kinds line = (row : List Value) × IsLooseRow kinds row × (line ≡ row_spelling row)
+
+-- the line spells no such row
+abbrev pub SpellsNone : List Kind → List ℕ → Type 0
+SpellsNone kinds line = (row : List Value) → IsLooseRow kinds row → line ≢ row_spelling row
+
+-- the line of this number, counted from 1, is the first that spells no such row
 pub record IsFirstBad (kinds : List Kind) (lines : List (List ℕ)) (number : ℕ) : Type 0 where
   pub before : List (List ℕ)
   pub line : List ℕ
@@ -23,7 +31,7 @@ pub record IsFirstBad (kinds : List Kind) (lines : List (List ℕ)) (number : �
   pub parts : lines ≡ before ++ line ∷ others
   pub spell : Spell kinds before rows
   pub number_is : number ≡ length before + 1
-  pub bad : (row : List Value) → IsLooseRow kinds row → line ≢ row_spelling row
+  pub bad : SpellsNone kinds line
 
 -- what the lines spell: a row each, or no row on the first bad line, by its number
 pub data Reading : Type 0 where
@@ -43,19 +51,11 @@ is_long (Text text) = nat_lt 1000 (length text)
 abbrev pub have_long : List (List Value) → Bool
 have_long rows = list_any (list_any is_long) rows
 
--- the line spells a row
-abbrev pub SpellsRow : List Kind → List ℕ → Type 0
-SpellsRow kinds line = (row : List Value) × IsLooseRow kinds row × (line ≡ row_spelling row)
-
--- the line spells no row
-abbrev pub SpellsNone : List Kind → List ℕ → Type 0
-SpellsNone kinds line = (row : List Value) → IsLooseRow kinds row → line ≢ row_spelling row
-
 -- the lines spell rows, of which one has a text above 1,000 bytes
 abbrev pub SpellLong : List Kind → List (List ℕ) → Type 0
 SpellLong kinds lines = (rows : List (List Value)) × Spell kinds lines rows × IsTrue (have_long rows)
 
--- the lines are refused for this
+-- the lines are refused for this: a bad line comes before a long text
 abbrev pub AreRefused : List Kind → List (List ℕ) → Refusal → Type 0
 AreRefused kinds lines (Row number) = IsFirstBad kinds lines number
 AreRefused kinds lines (Limit limit.Text) = SpellLong kinds lines
