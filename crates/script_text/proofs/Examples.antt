@@ -1,5 +1,5 @@
 -- The definitions, held against worked examples.
-use Rattle.std.proofs.Common.{◌≡◌, [], ◌∷◌, codes, Some, None, refl}
+use Rattle.std.proofs.Common.{◌≡◌, [], ◌∷◌, codes, refl}
 use Rattle.std.specs.Fmt.{digits}
 use Rattle.rows_core.specs.Name.{is_name, is_reserved}
 use Rattle.rows_core.specs.Kind.{kind_with_word}

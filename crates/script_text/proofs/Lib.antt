@@ -5,7 +5,9 @@ pub mod LineLemmas
 pub mod OptionLemmas
 pub mod ReaderLemmas
 pub mod ScriptLemmas
+pub mod Spellings
 pub mod StreamLemmas
+pub mod StreamSpelling
 pub mod TakeLemmas
 pub mod WholeLemmas
 pub mod WordLemmas

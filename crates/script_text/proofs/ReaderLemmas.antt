@@ -1,5 +1,5 @@
 -- What the reader knows of the bytes that it has taken, as more are taken.
-use Rattle.std.proofs.Common.{◌≡◌, ℕ, ◌<◌, Bool, true, false, List, [], ◌∷◌, ◌++◌, length, is_none, Option, Some, None, option_to_list, refl, sym, ap, ◌∙◌, subst, append_assoc, append-nil, inl, arith}
+use Rattle.std.proofs.Common.{◌≡◌, ℕ, ◌<◌, Bool, true, false, List, [], ◌∷◌, ◌++◌, length, is_none, Option, Some, None, option_to_list, refl, sym, ap, ◌∙◌, subst, append_assoc, append-nil, arith}
 use Rattle.std.proofs.lemmas.List.Elements.{All-append}
 use Rattle.script_text.specs.Line.{Holds}
 use Rattle.script_text.specs.Script.{Block, line_item, line_block, last_items, unended_item, is_newline, no_items, items_from, items, all_items_from, all_items, Given, Completes}
@@ -134,11 +134,6 @@ module _ (p q p' : Place) (text text' before rest : List ℕ) (len len' : ℕ) (
         StandsAt-item p p' text text' (before ++ rest) len len' item at ended empty,
         subst (λ t. Completes t item) (append_assoc before rest (10 ∷ [])) (Completes-line p p' text (before ++ rest) len item at ended),
       )
-
--- what is spelled may be given
-pub GivenIfAny-same : (spelled given : Option Item) → given ≡ spelled → GivenIfAny spelled given
-GivenIfAny-same None given e = subst (λ g. GivenIfAny None g) (sym e) tt
-GivenIfAny-same (Some item) given e = subst (λ g. GivenIfAny (Some item) g) (sym e) (inl refl)
 
 -- what is given of an item that may be spelled
 pub none_spelled : (spelled : Option Item) (given : Option Item) → GivenIfAny spelled given → given ≡ None → option_to_list spelled ≡ []

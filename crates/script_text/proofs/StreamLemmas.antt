@@ -1,5 +1,5 @@
 -- The parts of a line `stream NAME (COL:KIND, COL:KIND)`.
-use Rattle.std.proofs.Common.{◌≡◌, ℕ, ◌+◌, ◌-◌, ◌≤◌, Bool, true, false, cond, nat_lt, List, [], ◌∷◌, ◌++◌, length, take, drop, position, Option, Some, None, refl, sym, ap, ◌∙◌, subst, append_assoc, append-nil, arith}
+use Rattle.std.proofs.Common.{◌≡◌, ℕ, ◌+◌, ◌-◌, ◌≤◌, Bool, true, false, cond, nat_lt, List, [], ◌∷◌, ◌++◌, length, take, drop, position, Option, Some, None, refl, sym, ap, ◌∙◌, subst, append_assoc, arith}
 use Rattle.std.specs.List.{slice_split, position_or_len}
 use Rattle.std.specs.Option.{option_map}
 use Rattle.std.proofs.lemmas.Bool.Decides.{Decides-ltb, nat_tests}
@@ -42,11 +42,11 @@ module _ (mark : ℕ) (text : List ℕ) where
       by false test e = let all : length text ≤ place = grind (arith, nat_tests) in
           slice_split_none (is_mark mark) text (λ k d h. fails_before_first (is_mark mark) text k d (omega (arith, h, all)))
 
-columns_of-next : (text : List ℕ) (parts : Parts) → parts_at 44 text ≡ Some parts → columns_of text ≡ columns_with (column_of parts.before) (columns_of parts.behind)
+pub columns_of-next : (text : List ℕ) (parts : Parts) → parts_at 44 text ≡ Some parts → columns_of text ≡ columns_with (column_of parts.before) (columns_of parts.behind)
 unfolding columns_of
 columns_of-next text parts e = ap columns_of_parts (slice_split-next 44 text parts e)
 
-columns_of-last : (text : List ℕ) → parts_at 44 text ≡ None → columns_of text ≡ columns_with (column_of text) (Some [])
+pub columns_of-last : (text : List ℕ) → parts_at 44 text ≡ None → columns_of text ≡ columns_with (column_of text) (Some [])
 unfolding columns_of
 columns_of-last text e = ap columns_of_parts (slice_split-last 44 text e)
 

@@ -1,5 +1,5 @@
 -- Each command that a script spells has a column or a row line.
-use Rattle.std.proofs.Common.{◌≡◌, ℕ, ◌+◌, ◌<◌, Bool, true, false, cond, ◌||◌, List, [], ◌∷◌, ◌++◌, length, Option, Some, None, option_to_list, option_and_then, subst, sym, append-nil, ◌∙◌, inl, inr, arith}
+use Rattle.std.proofs.Common.{◌≡◌, ℕ, ◌<◌, true, false, cond, ◌||◌, List, [], ◌∷◌, ◌++◌, length, Option, Some, None, option_to_list, option_and_then, subst, sym, inl, inr, arith}
 use Rattle.std.specs.List.{slice_split, AllByRecursion}
 use Rattle.std.specs.Prelude.{⊤}
 use Rattle.std.proofs.lemmas.List.Splits.{length-slice_split}
@@ -8,10 +8,8 @@ use Rattle.script_text.specs.Words.{is_skipped, is_blank, only_name, begins_bloc
 use Rattle.script_text.specs.StreamLine.{is_mark, Parts, parts_at, column_of, columns_with, columns_of_parts, columns_of, columns_before, closed_columns, stream_with, stream_of_parts, stream_of, line_command}
 use Rattle.script_text.specs.Script.{Block, block_limit, line_limit, spelled_item, append_with, command_item, is_end, line_item, line_block, unended_item, no_items, last_items, items_of_lines, is_newline, items_by, items, all_items, Given, Completes, IsWhole, IsWholeItem}
 use Rattle.script_text.specs.declared.answer.LimitKind.{LimitKind}
-use Rattle.script_text.specs.declared.answer.Refusal.TheVariants.{Memory}
 use Rattle.script_text.specs.declared.item.Command.{Command}
 use Rattle.script_text.specs.declared.item.Item.{Item}
-use Rattle.script_text.specs.declared.item.Item.TheVariants as item
 
 -- columns, where there are any, are one or more
 abbrev HasColumns : Option (List Column) → Type 0

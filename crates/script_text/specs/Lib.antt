@@ -2,5 +2,6 @@ pub mod Answer
 pub mod Line
 pub mod Reader
 pub mod Script
+pub mod Spelling
 pub mod StreamLine
 pub mod Words

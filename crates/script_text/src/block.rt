@@ -4,6 +4,7 @@ ghost use Rattle.script_text.specs.Line.{Holds};
 ghost use Rattle.script_text.specs.Script.{Block, block_item, block_limit, spelled_item, append_with, Given};
 ghost use Rattle.script_text.specs.Words.{behind_word, behind_append, head_name};
 ghost use Rattle.script_text.specs.Reader.{IsOf, IsSizeOf, Keeps, with_rows};
+ghost use Rattle.script_text.specs.declared.item.Item.TheVariants.{Refused};
 
 use crate::answer::{LimitKind, Refusal};
 use crate::item::{Command, Item};
@@ -113,25 +114,36 @@ impl OpenBlock {
     pub fn ended(self) -> Item
         ensures { (block : Block) → IsOf self block → Given (block_item block) result }
     {
-        match self.size.limit() {
-            Some(kind) => Item::Refused(Refusal::Limit(kind)),
-            None => self.kept.into_item(),
+        let OpenBlock { size, kept } = self;
+        match size.limit() {
+            Some(kind) => kept.refused(Refusal::Limit(kind)),
+            None => kept.into_item(),
         }
     }
 
     /// What the block gives where the script doesn't end it.
     pub fn unended(&self) -> Item
-        ensures { (block : Block) → IsOf self.now block → result ≡ spelled_item (block_limit block) None }
+        ensures { (block : Block) → IsOf self.now block → Given (spelled_item (block_limit block) None) result }
     {
         match self.size.limit() {
-            Some(kind) => Item::Refused(Refusal::Limit(kind)),
-            None => Item::Refused(Refusal::Syntax),
+            Some(kind) => self.kept.refused(Refusal::Limit(kind)),
+            None => self.kept.refused(Refusal::Syntax),
         }
     }
 }
 
 impl Kept {
-    // What a block spells that passes no limit.
+    // What a block gives that is refused: this refusal, or that for want of memory.
+    fn refused(&self, refusal: Refusal) -> Item
+        ensures { Given (Refused refusal) result }
+    {
+        match self {
+            Kept::NoMemory => Item::Refused(Refusal::Memory),
+            Kept::Append { .. } | Kept::Nothing => Item::Refused(refusal),
+        }
+    }
+
+    // What a block gives that passes no limit.
     fn into_item(self) -> Item
         ensures { (block : Block) → Keeps self block → block_limit block ≡ None → Given (block_item block) result }
     {

@@ -7,9 +7,14 @@ pub mod item;
 mod line;
 pub mod lines;
 mod place;
+mod spelling;
 mod stream_line;
 mod words;
 
 pub use answer::{Answer, LimitKind, Refusal, line_count, print_line};
 pub use item::{Command, Item, commands_are_whole};
 pub use lines::Lines;
+pub use spelling::{append_spelling, stream_spelling};
+
+#[cfg(test)]
+mod tests;

@@ -20,7 +20,7 @@ pub struct Lines {
 }
 
 impl Lines {
-    /// A reader that has taken nothing. It has the memory for a line; only a block's name and rows ask for more.
+    /// A reader that has taken nothing. It has the memory for a line; only names, columns and row lines ask for more.
     pub fn new(alloc: Global) -> Result<Lines, Memory>
         ensures { IfOk result (λ lines. Stands lines []) }
     {

@@ -2,7 +2,7 @@
 ghost use Rattle.std.specs.Prelude.{◌≡◌, true, false, ℕ, List, Option, Some, None, is_none};
 ghost use Rattle.script_text.specs.Line.{Holds};
 ghost use Rattle.script_text.specs.Script.{Block, is_end, unended_item, command_item, Given};
-ghost use Rattle.script_text.specs.Reader.{is_outside, StandsFor, AfterLine};
+ghost use Rattle.script_text.specs.Reader.{is_outside, StandsFor, GivenIfAny, AfterLine};
 
 use crate::answer::{LimitKind, Refusal};
 use crate::block::OpenBlock;
@@ -43,7 +43,7 @@ impl Place {
 
     /// What a block gives that the script doesn't end.
     pub fn unended(&self) -> Option<Item>
-        ensures { (block : Option Block) → StandsFor self.now block → result ≡ unended_item block }
+        ensures { (block : Option Block) → StandsFor self.now block → GivenIfAny (unended_item block) result }
     {
         match self {
             Place::Outside => None,

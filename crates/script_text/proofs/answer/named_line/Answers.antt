@@ -1,4 +1,4 @@
-use Rattle.std.proofs.Common.{◌≡◌, ℕ, ◌≤◌, List, length, arith, rules}
+use Rattle.std.proofs.Common.{ℕ, ◌≤◌, List, length, arith, rules}
 use Rattle.std.proofs.lemmas.Bool.Decides.{nat_tests}
 use Rattle.rows_core.specs.Name.{IsName, is_name}
 use Rattle.script_text.proofs.answer.named_line.Goals as goal

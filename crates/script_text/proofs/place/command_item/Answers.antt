@@ -1,6 +1,6 @@
 use Rattle.std.proofs.Common.{◌≡◌, Some, None, option_and_then, codes, sym, ap, ◌∙◌, inl, rules}
 use Rattle.script_text.specs.Words.{behind_word}
-use Rattle.script_text.specs.StreamLine.{stream_of, line_command}
+use Rattle.script_text.specs.StreamLine.{stream_of}
 use Rattle.script_text.proofs.LineLemmas.{IsWhole-from_short}
 use Rattle.script_text.proofs.BlockLemmas.{command_item-fits}
 use Rattle.script_text.proofs.place.command_item.Goals as goal

@@ -1,4 +1,4 @@
-use Rattle.std.proofs.Common.{◌≡◌, sym, ◌∙◌}
+use Rattle.std.proofs.Common.{sym, ◌∙◌}
 use Rattle.script_text.proofs.StreamLemmas.{parts_at-some, parts_at-none}
 use Rattle.script_text.proofs.stream_line.split_at_mark.Goals as goal
 

@@ -1,0 +1,64 @@
+-- The spellings of a command's line: its parts, with any number of spaces before and behind each.
+use Rattle.std.specs.Prelude.{◌≡◌, ℕ, List, [], ◌∷◌, ◌++◌, codes}
+use Rattle.std.specs.List.{AllByRecursion}
+use Rattle.rows_core.specs.Kind.{kind_word}
+use Rattle.rows_core.specs.Name.{IsName}
+use Rattle.rows_core.specs.declared.schema.Column.{Column}
+
+abbrev pub AreSpaces : List ℕ → Type 0
+AreSpaces text = AllByRecursion (λ c. c ≡ 32) text
+
+-- a word with spaces before and behind it
+pub record Padded (word text : List ℕ) : Type 0 where
+  pub front : List ℕ
+  pub back : List ℕ
+  pub before : AreSpaces front
+  pub behind : AreSpaces back
+  pub whole : text ≡ front ++ (word ++ back)
+
+-- `NAME`
+pub record SpellsName (name text : List ℕ) : Type 0 where
+  pub is_name : IsName name
+  pub padded : Padded name text
+
+-- `COL:KIND`
+pub record SpellsColumn (column : Column) (text : List ℕ) : Type 0 where
+  pub name : List ℕ
+  pub kind : List ℕ
+  pub named : SpellsName column.name name
+  pub kinded : Padded (kind_word column.kind) kind
+  pub whole : text ≡ name ++ 58 ∷ kind
+
+-- two texts with a comma between them
+pub record WithComma (First Rest : List ℕ → Type 0) (text : List ℕ) : Type 0 where
+  pub first : List ℕ
+  pub rest : List ℕ
+  pub spells_first : First first
+  pub spells_rest : Rest rest
+  pub whole : text ≡ first ++ 44 ∷ rest
+
+-- `COL:KIND, COL:KIND`, one column or more
+abbrev pub SpellsColumns : List Column → List ℕ → Type 0
+SpellsColumns [] text = ⊥
+SpellsColumns (column ∷ []) text = SpellsColumn column text
+SpellsColumns (column ∷ next ∷ more) text = WithComma (SpellsColumn column) (SpellsColumns (next ∷ more)) text
+
+-- `stream NAME (COL:KIND, COL:KIND)`
+pub record SpellsStream (name : List ℕ) (columns : List Column) (line : List ℕ) : Type 0 where
+  pub front : List ℕ
+  pub named : List ℕ
+  pub listed : List ℕ
+  pub back : List ℕ
+  pub before : AreSpaces front
+  pub spells_name : SpellsName name named
+  pub spells_columns : SpellsColumns columns listed
+  pub behind : AreSpaces back
+  pub whole : line ≡ front ++ (codes "stream" ++ 32 ∷ (named ++ 40 ∷ (listed ++ 41 ∷ back)))
+
+-- `append NAME`
+pub record SpellsAppend (name line : List ℕ) : Type 0 where
+  pub front : List ℕ
+  pub named : List ℕ
+  pub before : AreSpaces front
+  pub spells_name : SpellsName name named
+  pub whole : line ≡ front ++ (codes "append" ++ 32 ∷ named)
