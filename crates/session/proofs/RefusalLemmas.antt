@@ -73,9 +73,9 @@ one_append : (state : State) (stream : Option Stream) (name : List ℕ) (lines :
 one_append state None name lines a b p q = p ∙ sym q
 one_append state (Some stream) name lines a b p q = p.2 ∙ ap (appended state name stream) (one_reading (kinds_of stream.schema) lines p.0 q.0 p.1 q.1) ∙ sym q.2
 
-pub one_outcome : (state : State) (asked : Command) (a b : Outcome) → Performs state asked a → Performs state asked b → a ≡ b
-one_outcome state (command.Stream name columns) a b p q = p ∙ sym q
-one_outcome state (command.Append name lines) a b p q = one_append state (stream_of state name) name lines a b p q
+pub same_outcome : (state : State) (asked : Command) (a b : Outcome) → Performs state asked a → Performs state asked b → a ≡ b
+same_outcome state (command.Stream name columns) a b p q = p ∙ sym q
+same_outcome state (command.Append name lines) a b p q = one_append state (stream_of state name) name lines a b p q
 
 none_there : (stream : Option Stream) → is_some stream ≡ false → stream ≡ None
 none_there None e = refl
@@ -121,7 +121,7 @@ performs_refused state (command.Append name lines) why h = append_refused state 
 -- where the condition of a refusal holds, it comes, or want of memory
 pub refused_exactly : (old new : State) (asked : Command) (answer : Answer) → Step old asked answer new → (why : Refusal) → IsRefusedFor old asked why → (answer ≡ Refused why) ⊎ (answer ≡ Refused refusal.Memory)
 refused_exactly old new asked answer step why h = elim step [
-  | inl done ↦ inl (ap (λ o. o.answer) (one_outcome old asked (outcome answer new) (refused old why) done (performs_refused old asked why h)))
+  | inl done ↦ inl (ap (λ o. o.answer) (same_outcome old asked (outcome answer new) (refused old why) done (performs_refused old asked why h)))
   | inr none ↦ inr (ap (λ o. o.answer) none)
 ]
 

@@ -1,10 +1,10 @@
 //! The session: what the commands of a script make and fill, and what they are answered.
 ghost use Rattle.std.specs.Prelude.{◌≡◌, ◌⊎◌, ℕ, ◌<◌, ◌-◌, ◌^◌, min, not, IsTrue, List, [], length, slice_index_or, IfSome};
 ghost use Rattle.script_text.specs.Script.{IsWhole};
+ghost use Rattle.script_text.specs.declared.answer.Refusal.{Refusal};
 ghost use Rattle.session.specs.Rows.{Rows, have_long};
 ghost use Rattle.session.specs.Machine.{IsGiven, Step, place_of, extent_count, added, appended};
 ghost use Rattle.session.specs.Refusals.{IsRefusedFor};
-ghost use Rattle.script_text.specs.declared.answer.Refusal.{Refusal};
 ghost use Rattle.session.specs.declared.stream.Stream.{Stream};
 
 use crate::reading::read_rows;
@@ -57,7 +57,8 @@ impl Session {
         ensures step { Step self.old command result self.new }
 
         // Each refusal but want of memory comes exactly where its condition holds, unless memory is wanted first.
-        ensures cause { (why : Refusal) → result ≡ Answer.Refused why → IsRefusedFor self.old command why ⊎ (why ≡ Refusal.Memory) }
+        ensures cause { (why : Refusal) → result ≡ Answer.Refused why
+            → IsRefusedFor self.old command why ⊎ (why ≡ Refusal.Memory) }
         ensures exactly { (why : Refusal) → IsRefusedFor self.old command why
             → (result ≡ Answer.Refused why) ⊎ (result ≡ Answer.Refused Refusal.Memory) }
         ensures unchanged { (why : Refusal) → result ≡ Answer.Refused why → self.new ≡ self.old }
@@ -122,7 +123,8 @@ fn add_rows(streams: &mut Vec<Stream>, alloc: Global, place: usize, rows: Vec<Ro
     requires place { place < length streams.old.items }
     requires short { IsTrue (not (have_long rows.items)) }
     ensures { (name : List ℕ) (stream : Stream) → place_of streams.old.items name ≡ Some place
-        → IsGiven streams.old.items (appended streams.old.items name (slice_index_or streams.old.items place stream) (Rows rows.items)) result streams.new.items }
+        → let there = slice_index_or streams.old.items place stream in
+        IsGiven streams.old.items (appended streams.old.items name there (Rows rows.items)) result streams.new.items }
 {
     if streams[place].extents.items().len() >= MAX_EXTENTS {
         return Answer::Refused(Refusal::Limit(LimitKind::Extents));
