@@ -6,9 +6,10 @@ use std::io::{ErrorKind, Read, Write};
 use std::test::Fail;
 use std::{env, fs, io, process};
 
-const STORED: &str = "append s\n1\n2\nend\nappend s\n3\nend\nappend t\n-0\nend\nrun x = from s\n";
+const STORED: &str =
+    "stream s (a:int)\nappend s\n1\n2\nend\nappend s\n3\nend\nappend t\n-0\nend\nrun x = from s\n";
 
-const STORED_ANSWERS: &str = "ok 2\nok 3\nrefused syntax\nrefused syntax\n";
+const STORED_ANSWERS: &str = "ok\nok 2\nok 3\nrefused unknown t\nrefused syntax\n";
 
 // Gives at most `piece` bytes a read, and fails from the call of number `fails` on.
 #[derive(Drop)]
@@ -124,61 +125,97 @@ fn other_words_are_usage_and_nothing_is_written(rt: HostRuntime) {
     }
 }
 
+// The exit of a run on a script and what it writes, where no call fails.
+fn answers_to(rt: &HostRuntime, script: &[u8]) -> (Exit, Vec<u8>) {
+    outcome(rt, script, usize::MAX, u64::MAX, u64::MAX)
+}
+
 #[test]
-fn scripts_and_their_answers(rt: HostRuntime) {
+fn lines_that_spell_no_command(rt: HostRuntime) {
     let cases = [
         ("", ""),
         ("\n   \n# append s\n  # 1", ""),
-        ("  append   s  \n7\nend", "ok 1\n"),
-        (
-            "append s\n9223372036854775807\n-9223372036854775808\nend\n",
-            "ok 2\n",
-        ),
-        ("append s\n9223372036854775808\nend\n", "refused syntax\n"),
-        ("append s\n-9223372036854775809\nend\n", "refused syntax\n"),
-        (
-            "append s\n+1\nend\nappend s\n01\nend\nappend s\n 1\nend\nappend s\n1 \nend\n",
-            "refused syntax\nrefused syntax\nrefused syntax\nrefused syntax\n",
-        ),
-        (
-            "append s\n\nend\nappend s\nend\n",
-            "refused syntax\nrefused syntax\n",
-        ),
-        (
-            "append s\n1\nendless\nend\nappend s\n1\nend \nend\n",
-            "refused syntax\nrefused syntax\n",
-        ),
         ("append s\n1\n", "refused syntax\n"),
         ("append s", "refused syntax\n"),
         ("append end\n1\nend\n", "refused syntax\n"),
+        ("append s\nend\n", "refused syntax\n"),
         (
             "append S\n1\nend\nappend s t\n1\nend\nappend\n1\nend\n",
             "refused syntax\nrefused syntax\nrefused syntax\n",
         ),
         ("appends s\nend\n", "refused syntax\nrefused syntax\n"),
+        ("append s\r\n1\nend\n", "refused syntax\n"),
         (
-            "append s\r\n1\nend\nappend s\n1\r\nend\n",
-            "refused syntax\nrefused syntax\n",
+            "stream s\nstream s ()\nstream s (a)\nstream s (a:bool)\nstream s (a:int,)\n",
+            "refused syntax\nrefused syntax\nrefused syntax\nrefused syntax\nrefused syntax\n",
         ),
         (
-            "append last\n0\nend\nappend a_1\n0\nend\nappend last\n1\nend\n",
-            "ok 1\nok 1\nok 2\n",
+            "streams (a:int)\nstream s (a:int) x\nstream int (a:int)\nstream s (end:int)\n",
+            "refused syntax\nrefused syntax\nrefused syntax\nrefused syntax\n",
         ),
-        (LONGEST_NAME, "ok 1\n"),
         (TOO_LONG_NAME, "refused syntax\n"),
     ];
     for (script, answers) in cases {
-        let (exit, written) = outcome(&rt, script.as_bytes(), usize::MAX, u64::MAX, u64::MAX);
-        assert_eq!(rt; exit, Exit::Done, "on {script:?}");
-        assert_eq!(rt; written.as_slice(), answers.as_bytes(), "on {script:?}");
+        let (exit, written) = answers_to(&rt, script.as_bytes());
+        assert_eq!(rt; exit, Exit::Done);
+        assert_eq!(rt; written.as_slice(), answers.as_bytes());
+    }
+}
+
+#[test]
+fn streams_and_rows(rt: HostRuntime) {
+    let cases = [
+        (
+            "stream s (a:int, t:text)\nappend s\n-5,\"q\\\"z\"\nend\nappend s\n1\nend\n",
+            "ok\nok 1\nrefused row 1\n",
+        ),
+        (
+            "  stream   s( a :int ,t: text )  \n  append   s  \n7,\"\"\nend",
+            "ok\nok 1\n",
+        ),
+        (
+            "stream s (a:int)\nappend s\n9223372036854775807\n-9223372036854775808\nend\n",
+            "ok\nok 2\n",
+        ),
+        (
+            "stream s (a:int)\nappend s\n0\n9223372036854775808\nend\nappend s\n1\nend\n",
+            "ok\nrefused row 2\nok 1\n",
+        ),
+        (
+            "stream s (a:int)\nappend s\n+1\nend\nappend s\n01\nend\nappend s\n 1\nend\nappend s\n1\r\nend\n",
+            "ok\nrefused row 1\nrefused row 1\nrefused row 1\nrefused row 1\n",
+        ),
+        (
+            "stream s (a:int)\nappend s\n1\n\nend\nappend s\n1\nend \nend\n",
+            "ok\nrefused row 2\nrefused row 2\n",
+        ),
+        (
+            "stream last (a:int)\nstream a_1 (a:int)\nappend last\n0\nend\nappend a_1\n0\nend\nappend last\n1\nend\n",
+            "ok\nok\nok 1\nok 1\nok 2\n",
+        ),
+        ("append nope\nx\nend\n", "refused unknown nope\n"),
+        (
+            "stream orders (x:int)\nstream orders (x:int)\nstream orders (a:int, a:int)\n",
+            "ok\nrefused exists orders\nrefused exists orders\n",
+        ),
+        (
+            "stream u (a:int, a:int)\nappend u\n1,1\nend\n",
+            "refused type\nrefused unknown u\n",
+        ),
+        (LONGEST_NAME, "ok\n"),
+    ];
+    for (script, answers) in cases {
+        let (exit, written) = answers_to(&rt, script.as_bytes());
+        assert_eq!(rt; exit, Exit::Done);
+        assert_eq!(rt; written.as_slice(), answers.as_bytes());
     }
 }
 
 const LONGEST_NAME: &str =
-    "append a23456789012345678901234567890123456789012345678901234567890_234\n0\nend\n";
+    "stream a23456789012345678901234567890123456789012345678901234567890_234 (a:int)\n";
 
 const TOO_LONG_NAME: &str =
-    "append a23456789012345678901234567890123456789012345678901234567890_2345\n0\nend\n";
+    "stream a23456789012345678901234567890123456789012345678901234567890_2345 (a:int)\n";
 
 #[test]
 fn lines_of_any_length(rt: HostRuntime) -> Result<(), Fail> {
@@ -187,12 +224,12 @@ fn lines_of_any_length(rt: HostRuntime) -> Result<(), Fail> {
         ("#", 70_000, "", ""),
         ("", 70_000, "", ""),
         ("", 65_528, "append s", "ok 1\n"),
-        ("", 65_529, "append s", "refused syntax\n"),
+        ("", 65_529, "append s", "refused limit line 65536\n"),
         ("append s", 65_528, "", "ok 1\n"),
-        ("append s", 65_529, "", "refused syntax\n"),
+        ("append s", 65_529, "", "refused limit line 65536\n"),
     ];
     for (front, spaces, behind, answers) in cases {
-        let mut script = Vec::new(rt.alloc());
+        let mut script = Vec::from_slice(rt.alloc(), b"stream s (a:int)\n")?;
         script.extend_from_slice(front.as_bytes())?;
         script.extend_from_slice(vec![in rt.alloc(); b' '; spaces]?.as_slice())?;
         script.extend_from_slice(behind.as_bytes())?;
@@ -201,16 +238,70 @@ fn lines_of_any_length(rt: HostRuntime) -> Result<(), Fail> {
         }
         let (exit, written) = outcome(&rt, &script, 1000, u64::MAX, u64::MAX);
         assert_eq!(rt; exit, Exit::Done);
+        let answers = format!(in rt.alloc(); "ok\n{answers}")?;
         assert_eq!(rt; written.as_slice(), answers.as_bytes(), "{spaces} spaces");
     }
     Ok(())
 }
 
 #[test]
+fn texts_of_any_length(rt: HostRuntime) -> Result<(), Fail> {
+    let cases = [
+        (1000, "", "ok\nok 1\n"),
+        (1001, "", "ok\nrefused limit text 1000\n"),
+        (1001, "x\n", "ok\nrefused row 2\n"),
+    ];
+    for (len, more, answers) in cases {
+        let mut script = Vec::from_slice(rt.alloc(), b"stream s (a:int, t:text)\nappend s\n1,\"")?;
+        script.extend_from_slice(vec![in rt.alloc(); b't'; len]?.as_slice())?;
+        script.extend_from_slice(b"\"\n")?;
+        script.extend_from_slice(more.as_bytes())?;
+        script.extend_from_slice(b"end\n")?;
+        let (exit, written) = answers_to(&rt, &script);
+        assert_eq!(rt; exit, Exit::Done);
+        assert_eq!(rt; written.as_slice(), answers.as_bytes());
+    }
+    Ok(())
+}
+
+#[test]
+fn many_columns(rt: HostRuntime) -> Result<(), Fail> {
+    for (count, answers) in [(32, "ok\n"), (33, "refused limit columns 32\n")] {
+        let mut script = Vec::from_slice(rt.alloc(), b"stream s (a0:int")?;
+        for number in 1..count {
+            let column = format!(in rt.alloc(); ", a{number}:text")?;
+            script.extend_from_slice(column.as_bytes())?;
+        }
+        script.extend_from_slice(b")\n")?;
+        let (exit, written) = answers_to(&rt, &script);
+        assert_eq!(rt; exit, Exit::Done);
+        assert_eq!(rt; written.as_slice(), answers.as_bytes());
+    }
+    Ok(())
+}
+
+#[test]
+fn many_streams(rt: HostRuntime) -> Result<(), Fail> {
+    let mut script = Vec::new(rt.alloc());
+    let mut answers = String::new(rt.alloc());
+    for number in 0..1024 {
+        let line = format!(in rt.alloc(); "stream s{number} (a:int)\n")?;
+        script.extend_from_slice(line.as_bytes())?;
+        answers.push_str("ok\n")?;
+    }
+    script.extend_from_slice(b"stream more (a:int)\nstream s7 (a:int)\nappend s1023\n1\nend\n")?;
+    answers.push_str("refused limit streams 1024\nrefused exists s7\nok 1\n")?;
+    let (exit, written) = answers_to(&rt, &script);
+    assert_eq!(rt; exit, Exit::Done);
+    assert_eq!(rt; written.as_slice(), answers.as_bytes());
+    Ok(())
+}
+
+#[test]
 fn each_read_and_each_write_may_fail(rt: HostRuntime) {
-    for call in 0..40 {
+    for call in 0..60 {
         let (exit, written) = outcome(&rt, STORED.as_bytes(), 2, call, u64::MAX);
-        let ends = if call < 33 {
+        let ends = if call < 41 {
             Exit::SourceFault
         } else {
             Exit::Done
@@ -218,7 +309,7 @@ fn each_read_and_each_write_may_fail(rt: HostRuntime) {
         assert_eq!(rt; exit, ends, "read {call}");
         assert!(rt; STORED_ANSWERS.as_bytes().starts_with(&written));
         let (exit, written) = outcome(&rt, STORED.as_bytes(), 2, u64::MAX, call);
-        let ends = if call < 22 {
+        let ends = if call < 25 {
             Exit::SinkFault
         } else {
             Exit::Done

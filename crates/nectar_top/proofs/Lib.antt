@@ -2,6 +2,6 @@ pub mod Examples
 pub mod ProgressLemmas
 pub mod ResultLemmas
 pub mod SendingLemmas
-pub mod TableLemmas
 pub mod TakingLemmas
 pub mod TurnLemmas
+pub mod WholeLemmas

@@ -7,12 +7,12 @@ use Rattle.script_text.specs.Answer.{answer_text}
 use Rattle.script_text.specs.Reader.{Stands}
 use Rattle.script_text.specs.Script.{items, all_items, Given, Completes}
 use Rattle.script_text.specs.declared.answer.Answer.{Answer}
-use Rattle.script_text.specs.declared.answer.Answer.TheVariants as answer
 use Rattle.script_text.specs.declared.answer.Refusal.TheVariants.{Memory}
 use Rattle.script_text.specs.declared.item.Item.{Item}
 use Rattle.script_text.specs.declared.item.Item.TheVariants as item
 use Rattle.script_text.specs.declared.lines.Lines.{Lines}
 use Rattle.script_text.proofs.ReaderLemmas.{items-unbroken}
+use Rattle.session.specs.Machine as session
 use Rattle.nectar_top.specs.Machine.{State, Step, Run, texts_of}
 use Rattle.nectar_top.specs.Progress.{Progress, Sends, SendsInPart}
 use Rattle.nectar_top.specs.Run.{Answered, AnsweredInPart}
@@ -28,11 +28,15 @@ Run-push old mid new (c ∷ cs) (a ∷ more) command given run step = (run.0, ru
 pub Step-spelled : (old new : State) (spelled given : Item) (a : Answer) → Given spelled given → Step old given a new → Step old spelled a new
 Step-spelled old new spelled given a is step = elim is [
   | inl same ↦ subst (λ i. Step old i a new) same step
-  | inr none ↦ inr (refused (subst (λ i. Step old i a new) none step))
+  | inr none ↦ at spelled (refused (subst (λ i. Step old i a new) none step))
 ]
   where
-    refused : Step old (item.Refused Memory) a new → (new ≡ old) × (a ≡ answer.Refused Memory)
+    refused : Step old (item.Refused Memory) a new → session.outcome a new ≡ session.refused old Memory
     refused s = elim s [ inl h ↦ h | inr h ↦ h ]
+
+    at : (i : Item) → session.outcome a new ≡ session.refused old Memory → Step old i a new
+    at (item.Command command) h = inr h
+    at (item.Refused why) h = inr h
 
 texts_of-push : (answers : List Answer) (a : Answer) → texts_of answers ++ answer_text a ≡ texts_of (answers ++ a ∷ [])
 texts_of-push answers a = ap (λ t. texts_of answers ++ t) (sym (append-nil (answer_text a))) ∙ sym (flat_map-append answer_text answers (a ∷ []))

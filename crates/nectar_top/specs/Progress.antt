@@ -10,6 +10,10 @@ use Rattle.script_text.specs.declared.lines.Lines.{Lines}
 use Rattle.nectar_top.specs.Machine.{State, Step, Run, texts_of}
 use Rattle.nectar_top.specs.Sending.{SentInPart}
 
+-- these are the bytes of a command that isn't ended, or of none
+abbrev pub IsReading : Lines → Type 0
+IsReading reader = (part : List ℕ) × Stands reader part
+
 -- of the bytes taken the commands that are ended were performed from the empty state, and their answers written, and
 -- the reader stands at the rest
 pub record Progress (reader : Lines) (state : State) (taken : List ℕ) (written written' : Option (List ℕ)) : Type 0 where

@@ -5,7 +5,6 @@ pub mod exit;
 pub mod program;
 mod sending;
 mod server;
-mod table;
 mod words;
 
 pub use exit::Exit;

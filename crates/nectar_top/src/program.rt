@@ -66,7 +66,7 @@ pub fn nectar<S: Source, K: Sink, D: Store>(
 // All the memory that a run needs but for its rows.
 fn begin(alloc: Global) -> Result<(Server, Vec<u8>), Memory>
     ensures server { IfOk result (λ begun. (written : Option (List ℕ))
-        → Progress begun.0.reader begun.0.table.streams.items [] written written) }
+        → Progress begun.0.reader begun.0.session [] written written) }
     ensures piece { IfOk result (λ begun. 0 < length begun.1.items) }
 {
     let server = Server::new(alloc)?;
@@ -82,7 +82,7 @@ fn serve<S: Source, K: Sink>(
     sink: &mut K,
 ) -> Exit
     requires room { 0 < length piece.old }
-    requires server { (written : Option (List ℕ)) → Progress server.reader server.table.streams.items [] written written }
+    requires server { (written : Option (List ℕ)) → Progress server.reader server.session [] written written }
     ensures { Ends result (shown (S.left source.old) (K.written sink.old) (S.faults source.old) (K.faults sink.old))
         (shown (S.left source.new) (K.written sink.new) (S.faults source.new) (K.faults sink.new)) }
 {
@@ -112,11 +112,11 @@ fn serve_piece<S: Source, K: Sink>(
     ensures bound { IfOk result (λ count. count ≤ length piece.old) }
     ensures end { IfOk result (λ count. count ≡ 0 → IsAtEnd (S.left source.new)) }
     ensures ok { IfOk result (λ count. (taken : List ℕ) (start : Outside)
-        → Reading server.old.reader server.old.table.streams.items taken start (shown (S.left source.old) (K.written sink.old) (S.faults source.old) (K.faults sink.old))
+        → Reading server.old.reader server.old.session taken start (shown (S.left source.old) (K.written sink.old) (S.faults source.old) (K.faults sink.old))
         → (more : List ℕ) × (length more ≡ count)
-        × Reading server.new.reader server.new.table.streams.items (taken ++ more) start (shown (S.left source.new) (K.written sink.new) (S.faults source.new) (K.faults sink.new))) }
+        × Reading server.new.reader server.new.session (taken ++ more) start (shown (S.left source.new) (K.written sink.new) (S.faults source.new) (K.faults sink.new))) }
     ensures err { IfErr result (λ exit. (taken : List ℕ) (start : Outside)
-        → Reading server.old.reader server.old.table.streams.items taken start (shown (S.left source.old) (K.written sink.old) (S.faults source.old) (K.faults sink.old))
+        → Reading server.old.reader server.old.session taken start (shown (S.left source.old) (K.written sink.old) (S.faults source.old) (K.faults sink.old))
         → length taken + length piece.old ≤ longest_script
         → Ends exit start (shown (S.left source.new) (K.written sink.new) (S.faults source.new) (K.faults sink.new))) }
 {
@@ -132,7 +132,7 @@ fn serve_piece<S: Source, K: Sink>(
 // As many bytes were taken as a script may have: the run ends where there is one more, which isn't served.
 fn serve_limit<S: Source, K: Sink>(server: Server, source: &mut S, sink: &mut K) -> Exit
     ensures { (taken : List ℕ) (start : Outside)
-        → Reading server.reader server.table.streams.items taken start (shown (S.left source.old) (K.written sink.old) (S.faults source.old) (K.faults sink.old))
+        → Reading server.reader server.session taken start (shown (S.left source.old) (K.written sink.old) (S.faults source.old) (K.faults sink.old))
         → length taken ≡ longest_script
         → Ends result start (shown (S.left source.new) (K.written sink.new) (S.faults source.new) (K.faults sink.new)) }
 {
@@ -147,7 +147,7 @@ fn serve_limit<S: Source, K: Sink>(server: Server, source: &mut S, sink: &mut K)
 // The script is taken whole.
 fn serve_end<K: Sink>(server: Server, sink: &mut K) -> Exit
     ensures { (taken : List ℕ) (start : Outside) (left : Option (List ℕ)) (source_faults : ℕ)
-        → Reading server.reader server.table.streams.items taken start (shown left (K.written sink.old) source_faults (K.faults sink.old))
+        → Reading server.reader server.session taken start (shown left (K.written sink.old) source_faults (K.faults sink.old))
         → IsAtEnd left → length taken ≤ longest_script
         → Ends result start (shown left (K.written sink.new) source_faults (K.faults sink.new)) }
 {

@@ -1,24 +1,26 @@
-//! What serves a script: the reader of its commands, the streams, and the room for a line of an answer.
+//! What serves a script: the reader of its commands, the session, and the room for a line of an answer.
 ghost use Rattle.std.specs.Prelude.{◌≡◌, ℕ, ◌<◌, ◌≤◌, List, [], ◌++◌, length, take, Option, IfOk, OnOk, OnErr, vec_capacity};
 ghost use Rattle.outside_traits.specs.Counts.{Rose};
-ghost use Rattle.script_text.specs.Script.{items, all_items};
+ghost use Rattle.script_text.specs.Script.{items, all_items, IsWholeItem};
 ghost use Rattle.nectar_top.specs.Machine.{Step};
 ghost use Rattle.nectar_top.specs.Run.{Answered, AnsweredInPart};
-ghost use Rattle.nectar_top.specs.Progress.{Progress, Sends, SendsInPart};
+ghost use Rattle.nectar_top.specs.Progress.{IsReading, Progress, Sends, SendsInPart};
 
 use crate::sending::{LINE_LEN, send};
-use crate::table::Table;
 use outside_traits::{Failed, Sink};
 use rows_core::Memory;
-use script_text::{Answer, Command, Item, Lines, Refusal};
+use script_text::{Answer, Item, Lines};
+use session::Session;
 use std::alloc::Global;
 
 /// What serves a script, command by command.
 #[derive(Drop)]
 pub struct Server {
     pub reader: Lines,
-    pub table: Table,
+    pub session: Session,
     room: Vec<u8>,
+    // It stands at some bytes, so each command that it gives has a column or a row line.
+    ghost reading: { ∥ IsReading reader ∥₁ },
     ghost roomy: { 65536 ≤ vec_capacity room },
 }
 
@@ -26,11 +28,11 @@ impl Server {
     /// The empty state, with all the memory that answers will need.
     pub fn new(alloc: Global) -> Result<Server, Memory>
         ensures { IfOk result (λ server. (written : Option (List ℕ))
-            → Progress server.reader server.table.streams.items [] written written) }
+            → Progress server.reader server.session [] written written) }
     {
         Ok(Server {
             reader: Lines::new(alloc)?,
-            table: Table::new(alloc),
+            session: Session::new(alloc),
             room: Vec::with_capacity(alloc, LINE_LEN)?,
         })
     }
@@ -38,10 +40,10 @@ impl Server {
     /// Takes a piece of the script, and answers the commands that end in it.
     pub fn take<K: Sink>(&mut self, piece: &[u8], sink: &mut K) -> Result<(), Failed>
         ensures ok { OnOk result ((taken : List ℕ) (written : Option (List ℕ))
-            → Progress self.old.reader self.old.table.streams.items taken written (K.written sink.old)
-            → Progress self.new.reader self.new.table.streams.items (taken ++ piece.now) written (K.written sink.new)) }
+            → Progress self.old.reader self.old.session taken written (K.written sink.old)
+            → Progress self.new.reader self.new.session (taken ++ piece.now) written (K.written sink.new)) }
         ensures err { OnErr result ((taken : List ℕ) (written : Option (List ℕ))
-            → Progress self.old.reader self.old.table.streams.items taken written (K.written sink.old)
+            → Progress self.old.reader self.old.session taken written (K.written sink.old)
             → AnsweredInPart (items (taken ++ piece.now)) written (K.written sink.new)) }
         ensures cause { OnErr result (Rose (K.faults sink.old) (K.faults sink.new)) }
         ensures counts { K.faults sink.old ≤ K.faults sink.new }
@@ -59,21 +61,21 @@ impl Server {
     /// The script ends here: answers the command that it leaves unfinished.
     pub fn end<K: Sink>(self, sink: &mut K) -> Result<(), Failed>
         ensures ok { OnOk result ((taken : List ℕ) (written : Option (List ℕ))
-            → Progress self.reader self.table.streams.items taken written (K.written sink.old)
+            → Progress self.reader self.session taken written (K.written sink.old)
             → Answered (all_items taken) written (K.written sink.new)) }
         ensures err { OnErr result ((taken : List ℕ) (written : Option (List ℕ))
-            → Progress self.reader self.table.streams.items taken written (K.written sink.old)
+            → Progress self.reader self.session taken written (K.written sink.old)
             → AnsweredInPart (all_items taken) written (K.written sink.new)) }
         ensures cause { OnErr result (Rose (K.faults sink.old) (K.faults sink.new)) }
         ensures counts { K.faults sink.old ≤ K.faults sink.new }
     {
         let Server {
             reader,
-            mut table,
+            mut session,
             mut room,
         } = self;
         match reader.finish() {
-            Some(item) => answer(&mut table, item, &mut room, sink),
+            Some(item) => answer(&mut session, item, &mut room, sink),
             None => Ok(()),
         }
     }
@@ -83,10 +85,10 @@ impl Server {
         requires { 0 < length piece.now }
         ensures bound { IfOk result (λ count. (0 < count) × (count ≤ length piece.now)) }
         ensures ok { IfOk result (λ count. (taken : List ℕ) (written : Option (List ℕ))
-            → Progress self.old.reader self.old.table.streams.items taken written (K.written sink.old)
-            → Progress self.new.reader self.new.table.streams.items (taken ++ take count piece.now) written (K.written sink.new)) }
+            → Progress self.old.reader self.old.session taken written (K.written sink.old)
+            → Progress self.new.reader self.new.session (taken ++ take count piece.now) written (K.written sink.new)) }
         ensures err { OnErr result ((taken : List ℕ) (written : Option (List ℕ))
-            → Progress self.old.reader self.old.table.streams.items taken written (K.written sink.old)
+            → Progress self.old.reader self.old.session taken written (K.written sink.old)
             → AnsweredInPart (items (taken ++ piece.now)) written (K.written sink.new)) }
         ensures cause { OnErr result (Rose (K.faults sink.old) (K.faults sink.new)) }
         ensures counts { K.faults sink.old ≤ K.faults sink.new }
@@ -94,7 +96,7 @@ impl Server {
         let (count, item) = self.reader.take(piece);
         match item {
             None => Ok(count),
-            Some(item) => match answer(&mut self.table, item, &mut self.room, sink) {
+            Some(item) => match answer(&mut self.session, item, &mut self.room, sink) {
                 Ok(()) => Ok(count),
                 Err(Failed) => Err(Failed),
             },
@@ -104,31 +106,30 @@ impl Server {
 
 // Performs a command and sends its answer.
 fn answer<K: Sink>(
-    table: &mut Table,
+    session: &mut Session,
     item: Item,
     room: &mut Vec<u8>,
     sink: &mut K,
 ) -> Result<(), Failed>
-    requires { 65536 ≤ vec_capacity room.old }
+    requires room { 65536 ≤ vec_capacity room.old }
+    requires whole { IsWholeItem item }
     ensures room { vec_capacity room.old ≤ vec_capacity room.new }
-    ensures ok { OnOk result (Sends table.old.streams.items item table.new.streams.items (K.written sink.old) (K.written sink.new)) }
-    ensures err { OnErr result (SendsInPart table.old.streams.items item (K.written sink.old) (K.written sink.new)) }
+    ensures ok { OnOk result (Sends session.old item session.new (K.written sink.old) (K.written sink.new)) }
+    ensures err { OnErr result (SendsInPart session.old item (K.written sink.old) (K.written sink.new)) }
     ensures cause { OnErr result (Rose (K.faults sink.old) (K.faults sink.new)) }
     ensures counts { K.faults sink.old ≤ K.faults sink.new }
 {
-    let answer = perform(table, item);
+    let answer = perform(session, item);
     send(&answer, room, sink)
 }
 
 // What a command is answered, and the state after it.
-fn perform(table: &mut Table, item: Item) -> Answer
-    ensures { Step table.old.streams.items item result table.new.streams.items }
+fn perform(session: &mut Session, item: Item) -> Answer
+    requires { IsWholeItem item }
+    ensures { Step session.old item result session.new }
 {
     match item {
-        Item::Command(Command::Append { name, rows }) => match table.append(name, rows) {
-            Ok(count) => Answer::Held(count),
-            Err(Memory) => Answer::Refused(Refusal::Memory),
-        },
+        Item::Command(command) => session.step(command),
         Item::Refused(refusal) => Answer::Refused(refusal),
     }
 }

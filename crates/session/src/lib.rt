@@ -1,0 +1,14 @@
+//! The streams that a script makes and fills, and what each of its commands is answered.
+#![tactic(auto)]
+
+pub mod laws;
+mod reading;
+pub mod session;
+pub mod stream;
+
+pub use laws::one_outcome;
+pub use session::Session;
+pub use stream::Stream;
+
+#[cfg(test)]
+mod tests;
