@@ -32,8 +32,7 @@ pub fn cmp_by(a: &Row, b: &Row, keys: &[Key]) -> Ordering
 /// By any keys rows stand in a total order, up to rows that no key tells apart. So a stable sort by it has one answer.
 pub fn total_order()
     ensures { (keys : List Key) → IsTotalOrder (row_cmp keys) }
-{
-}
+{}
 
 fn cmp_at(a: &Row, b: &Row, key: &Key) -> Ordering
     ensures { result ≡ key_cmp key.now a.now b.now }
