@@ -20,3 +20,6 @@ pub use refusal::{EvRefusal, PlanRefusal};
 pub use schemas::Schemas;
 pub use typed::{Typed, type_plan};
 pub use typing::expression_kind;
+
+#[cfg(test)]
+mod tests;
