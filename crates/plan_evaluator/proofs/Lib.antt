@@ -3,7 +3,6 @@ pub mod FirstOfEqual
 pub mod Insertion
 pub mod Members
 pub mod StableLists
-pub mod TypedValues
 pub mod TypedOperators
 pub mod TypedPlans
 pub mod Loops

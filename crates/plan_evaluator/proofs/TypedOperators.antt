@@ -1,5 +1,5 @@
 -- Each operator gives rows of its kinds where it takes in rows of theirs.
-use Rattle.std.proofs.Common.{◌≡◌, refl, sym, ap, ◌∙◌, subst, ℕ, ◌-◌, ℤ, pos, Bool, true, false, cond, List, [], ◌∷◌, ◌++◌, map, length, get_or, Result, Ok, Err, Option, None, Some, arith}
+use Rattle.std.proofs.Common.{zero, suc, ◌≡◌, refl, sym, ap, ◌∙◌, subst, ℕ, ◌-◌, ℤ, pos, Bool, true, false, cond, List, [], ◌∷◌, ◌++◌, map, length, get_or, Result, Ok, Err, Option, None, Some, arith}
 use Rattle.std.specs.Bool.{Decides}
 use Rattle.std.specs.Cmp.Lexicographic.{pointwise, pointwise_decides}
 use Rattle.std.specs.List.{AllByRecursion, Contains, filter, list_all, list_any, slice_get}
@@ -25,7 +25,7 @@ use Rattle.scalar_ops.specs.Meaning.{fits_i64, overflow}
 use Rattle.plan_core.specs.declared.agg.Agg.{Agg}
 use Rattle.plan_core.specs.declared.agg.Agg.TheVariants as agg
 use Rattle.plan_core.specs.Aggregate.{aggregate_value, values_of, whole_value, exact_sum, least_value, greatest_value, first_value, last_value}
-use Rattle.plan_core.specs.Columns.{Row, Rows, columns_of, no_value, row_eq}
+use Rattle.plan_core.specs.Columns.{Row, Rows, column_of, columns_of, no_value, row_eq}
 use Rattle.plan_core.specs.Distinct.{distinct_rows}
 use Rattle.plan_core.specs.ExpressionKind.{expression_kind}
 use Rattle.plan_core.specs.ExpressionValue.{all_of, expression_value, value_of_cell}
@@ -36,13 +36,18 @@ use Rattle.plan_core.specs.PlainExpr.{PlainExpr}
 use Rattle.plan_core.specs.PlanTyping.{Kinds, same_kind, is_empty, all_there, column_kind, is_truth, filter_kinds, project_kinds, number_kind, agg_kind, group_kinds, pair_agrees, join_kinds, concat_kinds}
 use Rattle.plan_core.specs.Project.{column_value, project_row, project_rows}
 use Rattle.plan_core.specs.TypedRows.{HaveKinds}
+use Rattle.plan_core.specs.ValueKinds.{typed_value}
 use Rattle.plan_evaluator.proofs.Answers.{both_ok, both_some, tested, otherwise, there_front, each_of, zipped}
 use Rattle.plan_evaluator.proofs.FirstOfEqual.{has_no_more, row_eq-Decides}
 use Rattle.plan_evaluator.proofs.Members.{kept, mapped_from}
-use Rattle.plan_evaluator.proofs.TypedValues.{column_has_kind, KindsOfValues, value_has_kind}
 
 abbrev HasKinds : Kinds → Row → Type 0
 HasKinds kinds row = map kind_of row ≡ kinds
+
+column_has_kind : (row : Row) (i : ℕ) (k : Kind) → slice_get (map kind_of row) i ≡ Some k → kind_of (column_of row i) ≡ k
+column_has_kind [] i k is = absurd (cc)
+column_has_kind (v ∷ row) zero k is = cc
+column_has_kind (v ∷ row) (suc i) k is = column_has_kind row i k is
 
 -- ---- tests
 
@@ -63,22 +68,22 @@ value_typed (cell.Int n) k j same is = let one : k ≡ cell_kind.Int = sym same 
 value_typed (cell.Text t) k j same is = let one : k ≡ cell_kind.Text = sym same in let two : column_kind cell_kind.Text ≡ Some j = ap column_kind (sym one) ∙ is in cc
 value_typed (cell.Bool b) k j same is = let one : k ≡ cell_kind.Bool = sym same in let two : column_kind cell_kind.Bool ≡ Some j = ap column_kind (sym one) ∙ is in absurd (cc)
 
-column_typed : KindsOfValues → (kinds : Kinds) (row : Row) → HasKinds kinds row → (e : PlainExpr) (v : Value) (j : Kind) → column_value e row ≡ Ok v → option_and_then column_kind (expression_kind kinds e) ≡ Some j → kind_of v ≡ j
-column_typed law kinds row typed e v j is there =
+column_typed : (kinds : Kinds) (row : Row) → HasKinds kinds row → (e : PlainExpr) (v : Value) (j : Kind) → column_value e row ≡ Ok v → option_and_then column_kind (expression_kind kinds e) ≡ Some j → kind_of v ≡ j
+column_typed kinds row typed e v j is there =
     let c = both_ok (expression_value e row) (λ c. Ok (value_of_cell c)) v is in
     let value : value_of_cell c.0 ≡ v = let h = c.2 in cc in
     ap kind_of (sym value) ∙ by c.0 c.1 (expression_kind kinds e) refl there
   where
     by : (c : Cell) → expression_value e row ≡ Ok c → (o : Option CellKind) → expression_kind kinds e ≡ o → option_and_then column_kind o ≡ Some j → kind_of (value_of_cell c) ≡ j
     by c v None h k = absurd (cc)
-    by c v (Some i) h k = value_typed c i j (value_has_kind law e row i c (ap (λ l. expression_kind l e) typed ∙ h) v) k
+    by c v (Some i) h k = value_typed c i j (typed_value e row i c (ap (λ l. expression_kind l e) typed ∙ h) v) k
 
-pub project_typed : KindsOfValues → (columns : List PlainExpr) (kinds out_kinds : Kinds) (rows out : Rows) → HaveKinds kinds rows
+pub project_typed : (columns : List PlainExpr) (kinds out_kinds : Kinds) (rows out : Rows) → HaveKinds kinds rows
     → project_kinds columns kinds ≡ Some out_kinds → project_rows columns rows ≡ Ok out → HaveKinds out_kinds out
-project_typed law columns kinds out_kinds rows out typed there is =
+project_typed columns kinds out_kinds rows out typed there is =
     All-from_recursion (HasKinds out_kinds) out
     (each_of (project_row columns) (HasKinds kinds) (HasKinds out_kinds)
-    (λ row r has gives. zipped (λ e. column_value e row) (λ e. option_and_then column_kind (expression_kind kinds e)) (column_typed law kinds row has) columns out_kinds r (otherwise (is_empty columns) _ out_kinds there) gives)
+    (λ row r has gives. zipped (λ e. column_value e row) (λ e. option_and_then column_kind (expression_kind kinds e)) (column_typed kinds row has) columns out_kinds r (otherwise (is_empty columns) _ out_kinds there) gives)
     rows out (recursion_from_All (HasKinds kinds) rows typed) is)
 
 -- ---- the first of equal rows

@@ -25,7 +25,6 @@ use Rattle.plan_core.specs.TypedRows.{HaveKinds, AreOfStreams}
 use Rattle.plan_evaluator.proofs.Answers.{both_ok, both_some, tested, otherwise}
 use Rattle.plan_evaluator.proofs.Insertion.{permutes}
 use Rattle.plan_evaluator.proofs.TypedOperators.{filter_typed, filter_same_kinds, project_typed, distinct_typed, groups_typed, join_typed, join_kinds_are, concat_kinds_are}
-use Rattle.plan_evaluator.proofs.TypedValues.{KindsOfValues}
 
 -- the lists of the left part's leaves, and those of the right part's
 pub lists_of_parts : (schemas : List Kinds) (left right : List ℕ) (lists : List Rows) → AreOfStreams schemas (left ++ right) lists
@@ -39,7 +38,7 @@ pub and_then : {A B : Type 0} (f : A → Option B) (o : Option A) (y : B) → op
 and_then f (Some x) y is = (x, refl, is)
 and_then f None y is = absurd (cc)
 
-module _ (law : KindsOfValues) (total : (keys : List Key) → IsTotalOrder (row_cmp keys)) (schemas : List Kinds) where
+module _ (total : (keys : List Key) → IsTotalOrder (row_cmp keys)) (schemas : List Kinds) where
   abbrev GivesTyped : PlainPlan → Type 0
   GivesTyped plan = (kinds : Kinds) (lists : List Rows) (rows : Rows) → plan_kinds schemas plan ≡ Some kinds → AreOfStreams schemas (leaves plan) lists → plan_meaning plan lists ≡ Ok rows → HaveKinds kinds rows
 
@@ -59,7 +58,7 @@ module _ (law : KindsOfValues) (total : (keys : List Key) → IsTotalOrder (row_
   gives_typed (Project child columns) kinds lists rows there typed is =
       let k = and_then (project_kinds columns) (plan_kinds schemas child) kinds there in
       let r = both_ok (plan_meaning child lists) (project_rows columns) rows is in
-      project_typed law columns k.0 kinds r.0 rows (gives_typed child k.0 lists r.0 k.1 typed r.1) k.2 r.2
+      project_typed columns k.0 kinds r.0 rows (gives_typed child k.0 lists r.0 k.1 typed r.1) k.2 r.2
   gives_typed (Distinct child) kinds lists rows there typed is =
       let r = both_ok (plan_meaning child lists) (λ rows. Ok (distinct_rows rows)) rows is in
       let same : distinct_rows r.0 ≡ rows = let h = r.2 in cc in

@@ -7,7 +7,6 @@ ghost use Rattle.plan_core.specs.PlanTyping.{Kinds, plan_kinds};
 ghost use Rattle.plan_core.specs.TypedRows.{HaveKinds, AreOfStreams};
 
 use rows_core::total_order;
-use scalar_ops::kinds_of_values;
 
 /// The rows that a typed plan gives have its kinds, on lists whose rows have those of their streams.
 pub fn typed_plans_give_typed_rows()
@@ -15,5 +14,4 @@ pub fn typed_plans_give_typed_rows()
         → AreOfStreams schemas (leaves plan) lists → IfOk (plan_meaning plan lists) (HaveKinds kinds) }
 {
     total_order();
-    kinds_of_values();
 }

@@ -7,7 +7,7 @@ pub mod operations;
 pub mod table;
 
 pub use cell::{Cell, CellKind};
-pub use operations::{apply, kinds_of_values};
+pub use operations::apply;
 pub use table::{Args, OPS, Op, OpRow, OpTable};
 
 #[cfg(test)]

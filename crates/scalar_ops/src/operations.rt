@@ -1,6 +1,5 @@
 //! What each operation gives.
-ghost use Rattle.std.specs.Prelude.{◌≡◌, ◌<◌, ℕ, List, map, Ok, IsTrue, IsErr, IfOk};
-ghost use Rattle.scalar_ops.specs.declared.cell.Cell.{Cell};
+ghost use Rattle.std.specs.Prelude.{◌≡◌, ◌<◌, map, IsTrue, IsErr, IfOk};
 ghost use Rattle.scalar_ops.specs.Cells.{kind_of_cell};
 ghost use Rattle.scalar_ops.specs.Meaning.{meaning, checked_cell, op_at, kinds_at, result_at, overflows_at, Divides};
 
@@ -56,12 +55,6 @@ pub fn apply(row: usize, cells: &[Cell]) -> Result<Cell, Overflow>
         23 [Bool(a)] => Ok(Bool(!*a)),
     )
 }
-
-/// Each value of a row has the row's kind, at cells of its kinds.
-pub fn kinds_of_values()
-    ensures { (row : ℕ) (cells : List Cell) (cell : Cell) → map kind_of_cell cells ≡ kinds_at row → meaning row cells ≡ Ok cell
-        → kind_of_cell cell ≡ result_at row }
-{}
 
 fn whole(number: Option<i64>) -> Result<Cell, Overflow>
     ensures { result ≡ checked_cell number }
