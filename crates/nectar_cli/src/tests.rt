@@ -1,8 +1,8 @@
 use crate::folder_store::FolderStore;
+use mem_outside::{MemSink, MemSource};
 use nectar_top::{Exit, nectar};
-use outside_traits::{ReaderSource, Store, WriterSink};
-use std::alloc::{AllocError, Global};
-use std::io::{ErrorKind, Read, Write};
+use outside_traits::{ReaderSource, Sink, Store, WriterSink};
+use std::io::Write;
 use std::test::Fail;
 use std::{env, fs, io, process};
 
@@ -11,44 +11,15 @@ const STORED: &str =
 
 const STORED_ANSWERS: &str = "ok\nok 2\nok 3\nrefused unknown t\nrefused syntax\n";
 
-// Gives at most `piece` bytes a read, and fails from the call of number `fails` on.
+// Takes at most `piece` bytes a write.
 #[derive(Drop)]
-struct Pieces<'a> {
-    left: &'a [u8],
-    piece: usize,
-    calls: u64,
-    fails: u64,
-}
-
-impl Read for Pieces<'_> {
-    fn read(&mut self, buf: &mut [u8]) -> io::Result<usize> {
-        if self.calls >= self.fails {
-            return Err(io::Error::from(ErrorKind::Other));
-        }
-        self.calls = self.calls.saturating_add(1);
-        let count = self.piece.min(buf.len()).min(self.left.len());
-        let (front, rest) = self.left.split_at(count);
-        buf[..count].copy_from_slice(front);
-        self.left = rest;
-        Ok(count)
-    }
-}
-
-// Takes at most `piece` bytes a write, and fails from the call of number `fails` on.
-#[derive(Drop)]
-struct Drops {
+struct InPart {
     taken: Vec<u8>,
     piece: usize,
-    calls: u64,
-    fails: u64,
 }
 
-impl Write for Drops {
+impl Write for InPart {
     fn write(&mut self, buf: &[u8]) -> io::Result<usize> {
-        if self.calls >= self.fails {
-            return Err(io::Error::from(ErrorKind::Other));
-        }
-        self.calls = self.calls.saturating_add(1);
         let count = self.piece.min(buf.len());
         self.taken.extend_from_slice(&buf[..count])?;
         Ok(count)
@@ -59,41 +30,42 @@ impl Write for Drops {
     }
 }
 
-// The exit of a run on a script and what it writes, in reads and writes of `piece` bytes that fail from a call on.
-fn outcome(
+// The exit of a run on a script, in reads of at most `piece` bytes of which those of the numbers `fails` fail.
+fn run_on<K: Sink>(
     rt: &HostRuntime,
     script: &[u8],
     piece: usize,
-    read_fails: u64,
-    write_fails: u64,
-) -> (Exit, Vec<u8>) {
-    let mut source = ReaderSource::new(Pieces {
-        left: script,
-        piece,
-        calls: 0,
-        fails: read_fails,
-    });
-    let mut writer = Drops {
-        taken: Vec::new(rt.alloc()),
-        piece,
-        calls: 0,
-        fails: write_fails,
-    };
-    let exit = {
-        let mut sink = WriterSink::new(&mut writer);
-        let mut store = FolderStore::new(rt);
-        nectar(rt.alloc(), &["folder"], &mut source, &mut sink, &mut store)
-    };
-    (exit, writer.taken)
+    fails: &[u64],
+    sink: &mut K,
+) -> Result<Exit, Fail> {
+    let alloc = rt.alloc();
+    let bytes = Vec::from_slice(alloc, script)?;
+    let fails = Vec::from_slice(alloc, fails)?;
+    let mut source = MemSource::new(bytes, piece.max(1), fails);
+    let mut store = FolderStore::new(rt);
+    Ok(nectar(alloc, &["folder"], &mut source, sink, &mut store))
+}
+
+// The exit of a run on a script and what it writes, in reads of at most `piece` bytes, where no call fails.
+fn outcome(rt: &HostRuntime, script: &[u8], piece: usize) -> Result<(Exit, MemSink), Fail> {
+    let mut sink = MemSink::new(rt.alloc(), Vec::new(rt.alloc()));
+    let exit = run_on(rt, script, piece, &[], &mut sink)?;
+    Ok((exit, sink))
 }
 
 #[test]
-fn stored_script_whole_and_byte_by_byte(rt: HostRuntime) {
+fn stored_script_whole_and_byte_by_byte(rt: HostRuntime) -> Result<(), Fail> {
     for piece in [usize::MAX, 1] {
-        let (exit, written) = outcome(&rt, STORED.as_bytes(), piece, u64::MAX, u64::MAX);
+        let taken = Vec::new(rt.alloc());
+        let mut writer = InPart { taken, piece };
+        let exit = {
+            let mut sink = WriterSink::new(&mut writer);
+            run_on(&rt, STORED.as_bytes(), piece, &[], &mut sink)?
+        };
         assert_eq!(rt; exit, Exit::Done);
-        assert_eq!(rt; written.as_slice(), STORED_ANSWERS.as_bytes());
+        assert_eq!(rt; writer.taken.as_slice(), STORED_ANSWERS.as_bytes());
     }
+    Ok(())
 }
 
 #[test]
@@ -126,12 +98,12 @@ fn other_words_are_usage_and_nothing_is_written(rt: HostRuntime) {
 }
 
 // The exit of a run on a script and what it writes, where no call fails.
-fn answers_to(rt: &HostRuntime, script: &[u8]) -> (Exit, Vec<u8>) {
-    outcome(rt, script, usize::MAX, u64::MAX, u64::MAX)
+fn answers_to(rt: &HostRuntime, script: &[u8]) -> Result<(Exit, MemSink), Fail> {
+    outcome(rt, script, usize::MAX)
 }
 
 #[test]
-fn lines_that_spell_no_command(rt: HostRuntime) {
+fn lines_that_spell_no_command(rt: HostRuntime) -> Result<(), Fail> {
     let cases = [
         ("", ""),
         ("\n   \n# append s\n  # 1", ""),
@@ -156,14 +128,15 @@ fn lines_that_spell_no_command(rt: HostRuntime) {
         (TOO_LONG_NAME, "refused syntax\n"),
     ];
     for (script, answers) in cases {
-        let (exit, written) = answers_to(&rt, script.as_bytes());
+        let (exit, sink) = answers_to(&rt, script.as_bytes())?;
         assert_eq!(rt; exit, Exit::Done);
-        assert_eq!(rt; written.as_slice(), answers.as_bytes());
+        assert_eq!(rt; sink.written(), answers.as_bytes());
     }
+    Ok(())
 }
 
 #[test]
-fn streams_and_rows(rt: HostRuntime) {
+fn streams_and_rows(rt: HostRuntime) -> Result<(), Fail> {
     let cases = [
         (
             "stream s (a:int, t:text)\nappend s\n-5,\"q\\\"z\"\nend\nappend s\n1\nend\n",
@@ -205,10 +178,11 @@ fn streams_and_rows(rt: HostRuntime) {
         (LONGEST_NAME, "ok\n"),
     ];
     for (script, answers) in cases {
-        let (exit, written) = answers_to(&rt, script.as_bytes());
+        let (exit, sink) = answers_to(&rt, script.as_bytes())?;
         assert_eq!(rt; exit, Exit::Done);
-        assert_eq!(rt; written.as_slice(), answers.as_bytes());
+        assert_eq!(rt; sink.written(), answers.as_bytes());
     }
+    Ok(())
 }
 
 const LONGEST_NAME: &str =
@@ -236,10 +210,10 @@ fn lines_of_any_length(rt: HostRuntime) -> Result<(), Fail> {
         if !answers.is_empty() {
             script.extend_from_slice(b"\n1\nend\n")?;
         }
-        let (exit, written) = outcome(&rt, &script, 1000, u64::MAX, u64::MAX);
+        let (exit, sink) = outcome(&rt, &script, 1000)?;
         assert_eq!(rt; exit, Exit::Done);
         let answers = format!(in rt.alloc(); "ok\n{answers}")?;
-        assert_eq!(rt; written.as_slice(), answers.as_bytes(), "{spaces} spaces");
+        assert_eq!(rt; sink.written(), answers.as_bytes(), "{spaces} spaces");
     }
     Ok(())
 }
@@ -257,9 +231,9 @@ fn texts_of_any_length(rt: HostRuntime) -> Result<(), Fail> {
         script.extend_from_slice(b"\"\n")?;
         script.extend_from_slice(more.as_bytes())?;
         script.extend_from_slice(b"end\n")?;
-        let (exit, written) = answers_to(&rt, &script);
+        let (exit, sink) = answers_to(&rt, &script)?;
         assert_eq!(rt; exit, Exit::Done);
-        assert_eq!(rt; written.as_slice(), answers.as_bytes());
+        assert_eq!(rt; sink.written(), answers.as_bytes());
     }
     Ok(())
 }
@@ -273,9 +247,9 @@ fn many_columns(rt: HostRuntime) -> Result<(), Fail> {
             script.extend_from_slice(column.as_bytes())?;
         }
         script.extend_from_slice(b")\n")?;
-        let (exit, written) = answers_to(&rt, &script);
+        let (exit, sink) = answers_to(&rt, &script)?;
         assert_eq!(rt; exit, Exit::Done);
-        assert_eq!(rt; written.as_slice(), answers.as_bytes());
+        assert_eq!(rt; sink.written(), answers.as_bytes());
     }
     Ok(())
 }
@@ -291,32 +265,48 @@ fn many_streams(rt: HostRuntime) -> Result<(), Fail> {
     }
     script.extend_from_slice(b"stream more (a:int)\nstream s7 (a:int)\nappend s1023\n1\nend\n")?;
     answers.push_str("refused limit streams 1024\nrefused exists s7\nok 1\n")?;
-    let (exit, written) = answers_to(&rt, &script);
+    let (exit, sink) = answers_to(&rt, &script)?;
     assert_eq!(rt; exit, Exit::Done);
-    assert_eq!(rt; written.as_slice(), answers.as_bytes());
+    assert_eq!(rt; sink.written(), answers.as_bytes());
     Ok(())
 }
 
 #[test]
-fn each_read_and_each_write_may_fail(rt: HostRuntime) {
-    for call in 0..60 {
-        let (exit, written) = outcome(&rt, STORED.as_bytes(), 2, call, u64::MAX);
-        let ends = if call < 41 {
-            Exit::SourceFault
-        } else {
-            Exit::Done
-        };
-        assert_eq!(rt; exit, ends, "read {call}");
-        assert!(rt; STORED_ANSWERS.as_bytes().starts_with(&written));
-        let (exit, written) = outcome(&rt, STORED.as_bytes(), 2, u64::MAX, call);
-        let ends = if call < 25 {
-            Exit::SinkFault
-        } else {
-            Exit::Done
-        };
-        assert_eq!(rt; exit, ends, "write {call}");
-        assert!(rt; STORED_ANSWERS.as_bytes().starts_with(&written));
+fn each_read_may_fail_once(rt: HostRuntime) -> Result<(), Fail> {
+    // One read for each byte and one for the end; or one for all bytes and one for the end.
+    for (piece, reads) in [(1, STORED.len() as u64), (4096, 1)] {
+        for call in 0..reads.saturating_add(3) {
+            let mut sink = MemSink::new(rt.alloc(), Vec::new(rt.alloc()));
+            let exit = run_on(&rt, STORED.as_bytes(), piece, &[call], &mut sink)?;
+            let ends = if call <= reads {
+                Exit::SourceFault
+            } else {
+                Exit::Done
+            };
+            assert_eq!(rt; exit, ends, "read {call}");
+            assert!(rt; STORED_ANSWERS.as_bytes().starts_with(sink.written()));
+        }
     }
+    Ok(())
+}
+
+#[test]
+fn each_write_may_fail_once(rt: HostRuntime) -> Result<(), Fail> {
+    // One write for each line of the answers.
+    for piece in [1, 4096] {
+        for call in 0..7 {
+            let mut sink = MemSink::new(rt.alloc(), vec![in rt.alloc(); call]?);
+            let exit = run_on(&rt, STORED.as_bytes(), piece, &[], &mut sink)?;
+            let ends = if call < 5 {
+                Exit::SinkFault
+            } else {
+                Exit::Done
+            };
+            assert_eq!(rt; exit, ends, "write {call}");
+            assert!(rt; STORED_ANSWERS.as_bytes().starts_with(sink.written()));
+        }
+    }
+    Ok(())
 }
 
 #[test]
