@@ -8,3 +8,4 @@ pub mod TypedPlans
 pub mod Loops
 pub mod TypedParts
 pub mod Heights
+pub mod KeptRows
