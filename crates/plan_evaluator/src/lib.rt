@@ -15,3 +15,6 @@ pub use evaluator::evaluate;
 pub use groups::keys_of_groups;
 pub use order::one_stable_order;
 pub use typed::typed_plans_give_typed_rows;
+
+#[cfg(test)]
+mod tests;
