@@ -17,3 +17,6 @@ pub use groups::keys_of_groups;
 pub use kept::rows_of_kept_forms;
 pub use order::one_stable_order;
 pub use typed::typed_plans_give_typed_rows;
+
+#[cfg(test)]
+mod tests;
