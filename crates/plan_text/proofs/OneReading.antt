@@ -1,0 +1,40 @@
+-- Reading and grammar say the same of expressions.
+use Rattle.std.proofs.Common.{◌≡◌, refl, sym, ap, ◌∙◌, ℕ, ◌≤◌, Bool, true, false, cond, nat_le, List, [], ◌∷◌, Some, arith}
+use Rattle.std.proofs.lemmas.Bool.Decides.{nat_tests}
+use Rattle.plan_text.specs.declared.token.Token.{Token}
+use Rattle.plan_text.specs.declared.token.Token.TheVariants.{Mark}
+use Rattle.plan_text.specs.declared.token.Mark.TheVariants as mark
+use Rattle.plan_text.specs.PlainNamed.{PlainExpr}
+use Rattle.plan_text.specs.Counts.{expr_nodes}
+use Rattle.plan_text.specs.Grammar.{E, Spells, EndsExpr}
+use Rattle.plan_text.specs.Draft.{Whole, TooMany, draft_of}
+use Rattle.plan_text.specs.Reading.{expr_at, and_at, or_operator, inner}
+use Rattle.plan_text.proofs.TokenLemmas.{both}
+use Rattle.plan_text.proofs.Complete.{NoOr, complete}
+use Rattle.plan_text.proofs.ReadingLemmas.{Continues-end}
+
+ends : (rest : List Token) → EndsExpr rest → NoOr rest
+ends [] e = record { no_and = record { no_compare = record { mul = refl; sum = refl; compare = refl }; and = refl }; or = refl }
+ends (Mark mark.Bar ∷ rest) e = record { no_and = record { no_compare = record { mul = refl; sum = refl; compare = refl }; and = refl }; or = refl }
+ends (Mark mark.Comma ∷ rest) e = record { no_and = record { no_compare = record { mul = refl; sum = refl; compare = refl }; and = refl }; or = refl }
+ends (Mark mark.Close ∷ rest) e = record { no_and = record { no_compare = record { mul = refl; sum = refl; compare = refl }; and = refl }; or = refl }
+ends _ e = absurd e
+
+pub spelled_is_read : (levels : ℕ) (e : PlainExpr) (from rest : List Token) → EndsExpr rest → Spells E levels e from rest → expr_at (inner levels) from ≡ Some (draft_of e, rest)
+spelled_is_read n e from rest behind s = let no = ends rest behind in Continues-end or_operator (and_at (inner n)) from (draft_of e) rest (complete s no.no_and) no.or
+
+-- an expression that is kept whole is told by what is kept
+kept_one_expression : (a b : PlainExpr) → expr_nodes a ≤ 512 → draft_of a ≡ draft_of b → a ≡ b
+kept_one_expression a b few same =
+    let whole : nat_le (expr_nodes a) 512 ≡ true = grind (arith, nat_tests, few) in
+    let kept_a : Whole a (expr_nodes a) ≡ draft_of b = sym (ap (λ t. cond t (Whole a (expr_nodes a)) TooMany) whole) ∙ same in
+    by (nat_le (expr_nodes b) 512) kept_a
+  where
+    by : (t : Bool) → Whole a (expr_nodes a) ≡ cond t (Whole b (expr_nodes b)) TooMany → a ≡ b
+    by true e = cc e
+    by false e = absurd (cc e)
+
+pub one : (levels : ℕ) (a b : PlainExpr) (from rest : List Token) → EndsExpr rest → expr_nodes a ≤ 512 → Spells E levels a from rest → Spells E levels b from rest → a ≡ b
+one n a b from rest behind few s t =
+    let p = both (draft_of a) (draft_of b) rest rest (sym (spelled_is_read n a from rest behind s) ∙ spelled_is_read n b from rest behind t) in
+    kept_one_expression a b few p.0

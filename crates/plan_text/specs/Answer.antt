@@ -1,0 +1,33 @@
+-- What a whole text spells, and what an answer says of it.
+use Rattle.std.specs.Prelude.{◌≡◌, ◌≢◌, ℕ, List, [], Result, Ok, Err, Some}
+use Rattle.plan_text.specs.declared.token.Token.{Token}
+use Rattle.plan_text.specs.declared.expr.NamedExpr as code
+use Rattle.plan_text.specs.declared.refusal.PlanLimit.TheVariants as limit
+use Rattle.plan_text.specs.declared.refusal.TextRefusal.{TextRefusal}
+use Rattle.plan_text.specs.declared.refusal.TextRefusal.TheVariants as refusal
+use Rattle.plan_text.specs.Token.{AreTokens}
+use Rattle.plan_text.specs.PlainNamed.{PlainExpr, PlainTree, expr_of}
+use Rattle.plan_text.specs.Grammar.{Spells, E, SpellsPlan}
+use Rattle.plan_text.specs.Draft.{PlainDraft, Whole, TooMany}
+use Rattle.plan_text.specs.Reading.{Read}
+
+-- The text spells the expression, with at most 32 levels open.
+pub record SpellsExpr (e : PlainExpr) (text : List ℕ) : Type 0 where
+  pub tokens : List Token
+  pub are : AreTokens tokens text
+  pub spells : Spells E 32 e tokens []
+
+-- The text spells the plan, with at most 32 levels open.
+pub record SpellsText (plan : PlainTree) (text : List ℕ) : Type 0 where
+  pub tokens : List Token
+  pub are : AreTokens tokens text
+  pub spells : SpellsPlan 32 plan tokens []
+
+-- the answer is the expression that was read up to the end, or why there is none
+abbrev pub MeansWhole : Result code.NamedExpr TextRefusal → Read → Type 0
+MeansWhole (Ok e) read = (nodes : ℕ) × (read ≡ Some (Whole (expr_of e) nodes, []))
+MeansWhole (Err refusal.Syntax) read = (d : PlainDraft) → read ≢ Some (d, [])
+MeansWhole (Err (refusal.Limit limit.Nodes)) read = ⊥
+MeansWhole (Err (refusal.Limit limit.Wide)) read = ⊥
+MeansWhole (Err (refusal.Limit limit.Exprs)) read = read ≡ Some (TooMany, [])
+MeansWhole (Err refusal.Memory) read = Unit {0}

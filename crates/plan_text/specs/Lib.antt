@@ -1,0 +1,7 @@
+pub mod Token
+pub mod PlainNamed
+pub mod Counts
+pub mod Grammar
+pub mod Draft
+pub mod Reading
+pub mod Answer

@@ -1,0 +1,50 @@
+//! How a whole text is read.
+ghost use Rattle.std.specs.Prelude.{◌≡◌, ◌<◌, ◌≤◌, IfOk, IsErrOf};
+ghost use Rattle.plan_text.specs.declared.refusal.PlanLimit.{PlanLimit};
+ghost use Rattle.plan_text.specs.PlainNamed.{PlainExpr, expr_of};
+ghost use Rattle.plan_text.specs.Counts.{expr_nodes};
+ghost use Rattle.plan_text.specs.Reading.{expr_at, inner};
+ghost use Rattle.plan_text.specs.Answer.{SpellsExpr, MeansWhole};
+
+use crate::draft::Draft;
+use crate::expr::NamedExpr;
+use crate::parser::expr;
+use crate::refusal::{PlanLimit, TextRefusal};
+use crate::token::Token;
+use crate::tokenizer::tokens_of;
+use std::alloc::Global;
+
+/// How many levels of nesting may be open at once: each parenthesis, `not` and `-` before an operand is one.
+const MAX_LEVELS: u32 = 32;
+
+/// The expression that a text spells, with spaces before, between and behind its tokens: `Syntax` exactly where it spells
+/// none, else `Limit` exactly where it has more than 512 nodes.
+pub fn parse_expr(alloc: Global, text: &[u8]) -> Result<NamedExpr, TextRefusal>
+    ensures found { IfOk result (λ e. SpellsExpr (expr_of e) text.now × (expr_nodes (expr_of e) ≤ 512)) }
+    ensures syntax { IsErrOf result TextRefusal.Syntax → ((e : PlainExpr) → SpellsExpr e text.now → ⊥) }
+    ensures limit { (what : PlanLimit) → IsErrOf result (TextRefusal.Limit what) →
+        (what ≡ PlanLimit.Exprs) × ((e : PlainExpr) × SpellsExpr e text.now × (512 < expr_nodes e)) }
+{
+    let tokens = match tokens_of(alloc, text) {
+        Ok(Some(tokens)) => tokens,
+        Ok(None) => return Err(TextRefusal::Syntax),
+        Err(_) => return Err(TextRefusal::Memory),
+    };
+    whole_expr(alloc, tokens.as_slice())
+}
+
+/// The expression that the tokens are.
+fn whole_expr(alloc: Global, tokens: &[Token]) -> Result<NamedExpr, TextRefusal>
+    ensures { MeansWhole result (expr_at (inner 32) tokens.now) }
+{
+    let (draft, rest) = expr(alloc, MAX_LEVELS, tokens)?;
+    if !rest.is_empty() {
+        return Err(TextRefusal::Syntax);
+    }
+    match draft {
+        Draft::Whole { expr, nodes: _ } => Ok(expr),
+        Draft::TooMany => Err(TextRefusal::Limit {
+            what: PlanLimit::Exprs,
+        }),
+    }
+}
