@@ -29,13 +29,13 @@ pub enum Operator {
 
 /// An expression of one node.
 pub fn one(expr: NamedExpr) -> Draft
-    ensures { seen result ≡ kept_one (expr_of expr) }
+    ensures { seen result ≡ kept_one 512 (expr_of expr) }
 {
     Draft::Whole { expr, nodes: 1 }
 }
 
 fn kept(expr: NamedExpr, nodes: u32) -> Draft
-    ensures { seen result ≡ kept (expr_of expr) nodes }
+    ensures { seen result ≡ kept 512 (expr_of expr) nodes }
 {
     if nodes <= MOST_NODES {
         Draft::Whole {
@@ -49,7 +49,7 @@ fn kept(expr: NamedExpr, nodes: u32) -> Draft
 
 /// The operation on the argument.
 pub fn call1(alloc: Global, op: Op, arg: Draft) -> Result<Draft, Memory>
-    ensures { IfOk result (λ draft. seen draft ≡ with1 (Call1 op) (seen arg)) }
+    ensures { IfOk result (λ draft. seen draft ≡ with1 512 (Call1 op) (seen arg)) }
 {
     let Draft::Whole { expr, nodes } = arg else {
         return Ok(Draft::TooMany);
@@ -60,7 +60,7 @@ pub fn call1(alloc: Global, op: Op, arg: Draft) -> Result<Draft, Memory>
 
 /// What the operator makes of the operands.
 pub fn join(alloc: Global, operator: Operator, left: Draft, right: Draft) -> Result<Draft, Memory>
-    ensures { IfOk result (λ draft. seen draft ≡ with2 (joined operator) (seen left) (seen right)) }
+    ensures { IfOk result (λ draft. seen draft ≡ with2 512 (joined operator) (seen left) (seen right)) }
 {
     let Draft::Whole { expr, nodes } = left else {
         return Ok(Draft::TooMany);
@@ -95,7 +95,7 @@ fn join_exprs(
 
 /// The choice by the test.
 pub fn choice(alloc: Global, test: Draft, then_part: Draft, other: Draft) -> Result<Draft, Memory>
-    ensures { IfOk result (λ draft. seen draft ≡ with3 If (seen test) (seen then_part) (seen other)) }
+    ensures { IfOk result (λ draft. seen draft ≡ with3 512 If (seen test) (seen then_part) (seen other)) }
 {
     let Draft::Whole { expr, nodes } = test else {
         return Ok(Draft::TooMany);

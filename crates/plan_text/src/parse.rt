@@ -35,7 +35,7 @@ pub fn parse_expr(alloc: Global, text: &[u8]) -> Result<NamedExpr, TextRefusal>
 
 /// The expression that the tokens are.
 fn whole_expr(alloc: Global, tokens: &[Token]) -> Result<NamedExpr, TextRefusal>
-    ensures { MeansWhole result (expr_at (inner 32) tokens.now) }
+    ensures { MeansWhole result (expr_at 512 (inner 512 32) tokens.now) }
 {
     let (draft, rest) = expr(alloc, MAX_LEVELS, tokens)?;
     if !rest.is_empty() {

@@ -50,7 +50,7 @@ fn behind_close(draft: Draft, tokens: &[Token]) -> Result<(Draft, &[Token]), Tex
 
 /// A number of i64 without a sign.
 fn number_atom(number: u64, tokens: &[Token]) -> Result<(Draft, &[Token]), TextRefusal>
-    ensures reads { Reads result (number_atom number tokens.now) }
+    ensures reads { Reads result (number_atom 512 number tokens.now) }
     ensures no_longer { IfOk result (λ found. length found.1.now ≤ length tokens.now) }
 {
     match i64::try_from(number) {
@@ -61,7 +61,7 @@ fn number_atom(number: u64, tokens: &[Token]) -> Result<(Draft, &[Token]), TextR
 
 /// A number behind its sign.
 fn minus_atom(tokens: &[Token]) -> Result<(Draft, &[Token]), TextRefusal>
-    ensures reads { Reads result (minus_atom tokens.now) }
+    ensures reads { Reads result (minus_atom 512 tokens.now) }
     ensures no_longer { IfOk result (λ found. length found.1.now ≤ length tokens.now) }
 {
     match tokens {
@@ -171,7 +171,7 @@ fn mul_op(mark: Mark) -> Option<Op>
 /// An argument up to a comma.
 #[cycle(expression)]
 fn argument(alloc: Global, levels: u32, tokens: &[Token]) -> Result<(Draft, &[Token]), TextRefusal>
-    ensures reads { Reads result (argument (inner levels) tokens.now) }
+    ensures reads { Reads result (argument (inner 512 levels) tokens.now) }
     ensures no_longer { IfOk result (λ found. length found.1.now ≤ length tokens.now) }
 {
     let (draft, rest) = within(alloc, levels, tokens)?;
@@ -188,7 +188,7 @@ fn last_argument(
     levels: u32,
     tokens: &[Token],
 ) -> Result<(Draft, &[Token]), TextRefusal>
-    ensures reads { Reads result (last_argument (inner levels) tokens.now) }
+    ensures reads { Reads result (last_argument (inner 512 levels) tokens.now) }
     ensures no_longer { IfOk result (λ found. length found.1.now ≤ length tokens.now) }
 {
     let (draft, rest) = within(alloc, levels, tokens)?;
@@ -199,7 +199,7 @@ fn last_argument(
 #[cycle(expression)]
 #[tactic(auto, using(crate::proofs::ReadingLemmas::inner_expr))]
 fn within(alloc: Global, levels: u32, tokens: &[Token]) -> Result<(Draft, &[Token]), TextRefusal>
-    ensures reads { Reads result ((inner levels).expr tokens.now) }
+    ensures reads { Reads result ((inner 512 levels).expr tokens.now) }
     ensures no_longer { IfOk result (λ found. length found.1.now ≤ length tokens.now) }
 {
     if levels == 0 {
@@ -215,7 +215,7 @@ fn call1_at(
     op: Op,
     tokens: &[Token],
 ) -> Result<(Draft, &[Token]), TextRefusal>
-    ensures reads { Reads result (call1_at (inner levels) op tokens.now) }
+    ensures reads { Reads result (call1_at 512 (inner 512 levels) op tokens.now) }
     ensures no_longer { IfOk result (λ found. length found.1.now ≤ length tokens.now) }
 {
     let (arg, rest) = last_argument(alloc, levels, tokens)?;
@@ -229,7 +229,7 @@ fn call2_at(
     op: Op,
     tokens: &[Token],
 ) -> Result<(Draft, &[Token]), TextRefusal>
-    ensures reads { Reads result (call2_at (inner levels) op tokens.now) }
+    ensures reads { Reads result (call2_at 512 (inner 512 levels) op tokens.now) }
     ensures no_longer { IfOk result (λ found. length found.1.now ≤ length tokens.now) }
 {
     let (left, next) = argument(alloc, levels, tokens)?;
@@ -239,7 +239,7 @@ fn call2_at(
 
 #[cycle(expression)]
 fn choice_at(alloc: Global, levels: u32, tokens: &[Token]) -> Result<(Draft, &[Token]), TextRefusal>
-    ensures reads { Reads result (choice_at (inner levels) tokens.now) }
+    ensures reads { Reads result (choice_at 512 (inner 512 levels) tokens.now) }
     ensures no_longer { IfOk result (λ found. length found.1.now ≤ length tokens.now) }
 {
     let (test, next) = argument(alloc, levels, tokens)?;
@@ -255,7 +255,7 @@ fn function_at(
     word: Word,
     tokens: &[Token],
 ) -> Result<(Draft, &[Token]), TextRefusal>
-    ensures reads { Reads result (function_at (inner levels) word tokens.now) }
+    ensures reads { Reads result (function_at 512 (inner 512 levels) word tokens.now) }
     ensures no_longer { IfOk result (λ found. length found.1.now ≤ length tokens.now) }
 {
     match word {
@@ -276,7 +276,7 @@ fn word_atom(
     word: Word,
     tokens: &[Token],
 ) -> Result<(Draft, &[Token]), TextRefusal>
-    ensures reads { Reads result (word_atom (inner levels) word tokens.now) }
+    ensures reads { Reads result (word_atom 512 (inner 512 levels) word tokens.now) }
     ensures no_longer { IfOk result (λ found. length found.1.now ≤ length tokens.now) }
 {
     match word {
@@ -296,7 +296,7 @@ fn mark_atom(
     mark: Mark,
     tokens: &[Token],
 ) -> Result<(Draft, &[Token]), TextRefusal>
-    ensures reads { Reads result (mark_atom (inner levels) mark tokens.now) }
+    ensures reads { Reads result (mark_atom 512 (inner 512 levels) mark tokens.now) }
     ensures no_longer { IfOk result (λ found. length found.1.now ≤ length tokens.now) }
 {
     match mark {
@@ -308,7 +308,7 @@ fn mark_atom(
 
 #[cycle(expression)]
 fn atom(alloc: Global, levels: u32, tokens: &[Token]) -> Result<(Draft, &[Token]), TextRefusal>
-    ensures reads { Reads result (atom_at (inner levels) tokens.now) }
+    ensures reads { Reads result (atom_at 512 (inner 512 levels) tokens.now) }
     ensures no_longer { IfOk result (λ found. length found.1.now ≤ length tokens.now) }
 {
     let [first, rest @ ..] = tokens else {
@@ -328,8 +328,8 @@ fn atom(alloc: Global, levels: u32, tokens: &[Token]) -> Result<(Draft, &[Token]
 
 /// What stands behind the `-` in front.
 fn behind_minus(tokens: &[Token]) -> Option<&[Token]>
-    ensures some { IfSome result (λ rest. (i : Inner) → un_at i tokens.now ≡ operated Op.Neg (i.un rest.now)) }
-    ensures none { IfNone result ((i : Inner) → un_at i tokens.now ≡ atom_at i tokens.now) }
+    ensures some { IfSome result (λ rest. (i : Inner) → un_at 512 i tokens.now ≡ operated 512 Op.Neg (i.un rest.now)) }
+    ensures none { IfNone result ((i : Inner) → un_at 512 i tokens.now ≡ atom_at 512 i tokens.now) }
     ensures shorter { IfSome result (λ rest. length rest.now < length tokens.now) }
 {
     match tokens {
@@ -342,7 +342,7 @@ fn behind_minus(tokens: &[Token]) -> Option<&[Token]>
 #[cycle(expression)]
 #[tactic(auto, using(crate::proofs::ReadingLemmas::inner_un))]
 fn un_within(alloc: Global, levels: u32, tokens: &[Token]) -> Result<(Draft, &[Token]), TextRefusal>
-    ensures reads { Reads result ((inner levels).un tokens.now) }
+    ensures reads { Reads result ((inner 512 levels).un tokens.now) }
     ensures no_longer { IfOk result (λ found. length found.1.now ≤ length tokens.now) }
 {
     if levels == 0 {
@@ -353,7 +353,7 @@ fn un_within(alloc: Global, levels: u32, tokens: &[Token]) -> Result<(Draft, &[T
 
 #[cycle(expression)]
 fn un_behind(alloc: Global, levels: u32, tokens: &[Token]) -> Result<(Draft, &[Token]), TextRefusal>
-    ensures reads { Reads result (operated Op.Neg ((inner levels).un tokens.now)) }
+    ensures reads { Reads result (operated 512 Op.Neg ((inner 512 levels).un tokens.now)) }
     ensures no_longer { IfOk result (λ found. length found.1.now ≤ length tokens.now) }
 {
     let (arg, rest) = un_within(alloc, levels, tokens)?;
@@ -362,7 +362,7 @@ fn un_behind(alloc: Global, levels: u32, tokens: &[Token]) -> Result<(Draft, &[T
 
 #[cycle(expression)]
 fn un(alloc: Global, levels: u32, tokens: &[Token]) -> Result<(Draft, &[Token]), TextRefusal>
-    ensures reads { Reads result (un_at (inner levels) tokens.now) }
+    ensures reads { Reads result (un_at 512 (inner 512 levels) tokens.now) }
     ensures no_longer { IfOk result (λ found. length found.1.now ≤ length tokens.now) }
 {
     match behind_minus(tokens) {
@@ -373,7 +373,7 @@ fn un(alloc: Global, levels: u32, tokens: &[Token]) -> Result<(Draft, &[Token]),
 
 #[cycle(expression)]
 fn mul(alloc: Global, levels: u32, tokens: &[Token]) -> Result<(Draft, &[Token]), TextRefusal>
-    ensures reads { Reads result (mul_at (inner levels) tokens.now) }
+    ensures reads { Reads result (mul_at 512 (inner 512 levels) tokens.now) }
     ensures no_longer { IfOk result (λ found. length found.1.now ≤ length tokens.now) }
 {
     let (mut draft, mut rest) = un(alloc, levels, tokens)?;
@@ -387,7 +387,7 @@ fn mul(alloc: Global, levels: u32, tokens: &[Token]) -> Result<(Draft, &[Token])
 
 #[cycle(expression)]
 fn sum(alloc: Global, levels: u32, tokens: &[Token]) -> Result<(Draft, &[Token]), TextRefusal>
-    ensures reads { Reads result (sum_at (inner levels) tokens.now) }
+    ensures reads { Reads result (sum_at 512 (inner 512 levels) tokens.now) }
     ensures no_longer { IfOk result (λ found. length found.1.now ≤ length tokens.now) }
 {
     let (mut draft, mut rest) = mul(alloc, levels, tokens)?;
@@ -401,7 +401,7 @@ fn sum(alloc: Global, levels: u32, tokens: &[Token]) -> Result<(Draft, &[Token])
 
 #[cycle(expression)]
 fn cmp(alloc: Global, levels: u32, tokens: &[Token]) -> Result<(Draft, &[Token]), TextRefusal>
-    ensures reads { Reads result (cmp_at (inner levels) tokens.now) }
+    ensures reads { Reads result (cmp_at 512 (inner 512 levels) tokens.now) }
     ensures no_longer { IfOk result (λ found. length found.1.now ≤ length tokens.now) }
 {
     let (left, rest) = sum(alloc, levels, tokens)?;
@@ -416,8 +416,8 @@ fn cmp(alloc: Global, levels: u32, tokens: &[Token]) -> Result<(Draft, &[Token])
 
 /// What stands behind the `not` in front.
 fn behind_not(tokens: &[Token]) -> Option<&[Token]>
-    ensures some { IfSome result (λ rest. (i : Inner) → not_at i tokens.now ≡ operated Op.Not (i.not rest.now)) }
-    ensures none { IfNone result ((i : Inner) → not_at i tokens.now ≡ cmp_at i tokens.now) }
+    ensures some { IfSome result (λ rest. (i : Inner) → not_at 512 i tokens.now ≡ operated 512 Op.Not (i.not rest.now)) }
+    ensures none { IfNone result ((i : Inner) → not_at 512 i tokens.now ≡ cmp_at 512 i tokens.now) }
     ensures shorter { IfSome result (λ rest. length rest.now < length tokens.now) }
 {
     match tokens {
@@ -434,7 +434,7 @@ fn not_within(
     levels: u32,
     tokens: &[Token],
 ) -> Result<(Draft, &[Token]), TextRefusal>
-    ensures reads { Reads result ((inner levels).not tokens.now) }
+    ensures reads { Reads result ((inner 512 levels).not tokens.now) }
     ensures no_longer { IfOk result (λ found. length found.1.now ≤ length tokens.now) }
 {
     if levels == 0 {
@@ -449,7 +449,7 @@ fn not_behind(
     levels: u32,
     tokens: &[Token],
 ) -> Result<(Draft, &[Token]), TextRefusal>
-    ensures reads { Reads result (operated Op.Not ((inner levels).not tokens.now)) }
+    ensures reads { Reads result (operated 512 Op.Not ((inner 512 levels).not tokens.now)) }
     ensures no_longer { IfOk result (λ found. length found.1.now ≤ length tokens.now) }
 {
     let (arg, rest) = not_within(alloc, levels, tokens)?;
@@ -458,7 +458,7 @@ fn not_behind(
 
 #[cycle(expression)]
 fn not(alloc: Global, levels: u32, tokens: &[Token]) -> Result<(Draft, &[Token]), TextRefusal>
-    ensures reads { Reads result (not_at (inner levels) tokens.now) }
+    ensures reads { Reads result (not_at 512 (inner 512 levels) tokens.now) }
     ensures no_longer { IfOk result (λ found. length found.1.now ≤ length tokens.now) }
 {
     match behind_not(tokens) {
@@ -469,7 +469,7 @@ fn not(alloc: Global, levels: u32, tokens: &[Token]) -> Result<(Draft, &[Token])
 
 #[cycle(expression)]
 fn and(alloc: Global, levels: u32, tokens: &[Token]) -> Result<(Draft, &[Token]), TextRefusal>
-    ensures reads { Reads result (and_at (inner levels) tokens.now) }
+    ensures reads { Reads result (and_at 512 (inner 512 levels) tokens.now) }
     ensures no_longer { IfOk result (λ found. length found.1.now ≤ length tokens.now) }
 {
     let (mut draft, mut rest) = not(alloc, levels, tokens)?;
@@ -484,7 +484,7 @@ fn and(alloc: Global, levels: u32, tokens: &[Token]) -> Result<(Draft, &[Token])
 /// The expression at the front of the tokens, with at most so many levels open.
 #[cycle(expression)]
 pub fn expr(alloc: Global, levels: u32, tokens: &[Token]) -> Result<(Draft, &[Token]), TextRefusal>
-    ensures reads { Reads result (expr_at (inner levels) tokens.now) }
+    ensures reads { Reads result (expr_at 512 (inner 512 levels) tokens.now) }
     ensures no_longer { IfOk result (λ found. length found.1.now ≤ length tokens.now) }
 {
     let (mut draft, mut rest) = and(alloc, levels, tokens)?;

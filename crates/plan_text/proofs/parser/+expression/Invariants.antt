@@ -59,25 +59,25 @@ abbrev pub decreases-not : goal.decreases-not
 decreases-not l = 16 * l.levels + 10
 
 abbrev pub invariant-expr-loop-operator : goal.invariant-expr-loop-operator
-invariant-expr-loop-operator l = Continues or_operator (and_at (inner l.levels)) l.tokens (seen l.draft) l.rest × (length l.rest ≤ length l.tokens)
+invariant-expr-loop-operator l = Continues 512 or_operator (and_at 512 (inner 512 l.levels)) l.tokens (seen l.draft) l.rest × (length l.rest ≤ length l.tokens)
 
 abbrev pub decreases-expr-loop-operator : goal.decreases-expr-loop-operator
 decreases-expr-loop-operator l = length l.rest
 
 abbrev pub invariant-and-loop-operator : goal.invariant-and-loop-operator
-invariant-and-loop-operator l = Continues and_operator (not_at (inner l.levels)) l.tokens (seen l.draft) l.rest × (length l.rest ≤ length l.tokens)
+invariant-and-loop-operator l = Continues 512 and_operator (not_at 512 (inner 512 l.levels)) l.tokens (seen l.draft) l.rest × (length l.rest ≤ length l.tokens)
 
 abbrev pub decreases-and-loop-operator : goal.decreases-and-loop-operator
 decreases-and-loop-operator l = length l.rest
 
 abbrev pub invariant-sum-loop-operator : goal.invariant-sum-loop-operator
-invariant-sum-loop-operator l = Continues (mark_operator sum_op) (mul_at (inner l.levels)) l.tokens (seen l.draft) l.rest × (length l.rest ≤ length l.tokens)
+invariant-sum-loop-operator l = Continues 512 (mark_operator sum_op) (mul_at 512 (inner 512 l.levels)) l.tokens (seen l.draft) l.rest × (length l.rest ≤ length l.tokens)
 
 abbrev pub decreases-sum-loop-operator : goal.decreases-sum-loop-operator
 decreases-sum-loop-operator l = length l.rest
 
 abbrev pub invariant-mul-loop-operator : goal.invariant-mul-loop-operator
-invariant-mul-loop-operator l = Continues (mark_operator mul_op) (un_at (inner l.levels)) l.tokens (seen l.draft) l.rest × (length l.rest ≤ length l.tokens)
+invariant-mul-loop-operator l = Continues 512 (mark_operator mul_op) (un_at 512 (inner 512 l.levels)) l.tokens (seen l.draft) l.rest × (length l.rest ≤ length l.tokens)
 
 abbrev pub decreases-mul-loop-operator : goal.decreases-mul-loop-operator
 decreases-mul-loop-operator l = length l.rest
