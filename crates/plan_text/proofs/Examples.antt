@@ -1,5 +1,5 @@
 -- Worked examples of the grammar.
-use Rattle.std.proofs.Common.{refl, ℕ, List, [], ◌∷◌, codes, true, arith}
+use Rattle.std.proofs.Common.{◌≡◌, refl, Some, ℕ, List, [], ◌∷◌, codes, true, false, arith}
 use Rattle.scalar_ops.specs.declared.table.Op.TheVariants as op
 use Rattle.plan_text.specs.declared.token.Token.{Token}
 use Rattle.plan_text.specs.declared.token.Token.TheVariants.{Name, Word, Number, Mark}
@@ -9,6 +9,9 @@ use Rattle.rows_core.specs.Name.{is_name, is_reserved}
 use Rattle.plan_text.specs.Token.{AreTokens, token_at, word_at, mark_at, word_with}
 use Rattle.plan_text.specs.PlainNamed.{Column, Call1, Call2, And, Or, From, Select, Distinct, Group, Join, Order}
 use Rattle.plan_text.specs.declared.plan.NamedAgg.TheVariants as agg
+use Rattle.plan_text.specs.PlanDraft.{limits, plan_draft_of}
+use Rattle.plan_text.specs.Reading.{inner, more_at}
+use Rattle.plan_text.specs.PlanReading.{plan_at, repeated, inner_plan}
 use Rattle.plan_text.specs.Answer.{SpellsText}
 use Rattle.plan_text.specs.Grammar.{Spells, E, UN, or, and, not, compare, sum, of_and, of_not, of_cmp, of_sum, of_mul, of_un, of_atom, a_column, stream, select, distinct, group, join, order}
 
@@ -73,3 +76,11 @@ ordered_plan = record {
   are = (_, refl, tt, (_, refl, tt, (_, refl, tt, (_, refl, tt, (_, refl, tt, (_, refl, tt, (_, refl, tt, (_, refl, tt, (_, refl, tt, (_, refl, tt, (_, refl, tt, (_, refl, tt, (_, refl, tt, refl)))))))))))));
   spells = order (distinct (select stream (_, refl, of_and (of_not (of_cmp (of_sum (of_mul (of_un (of_atom a_column))))))))) refl;
 }
+
+-- `from l | join (from r | distinct) on id = k, a = b | order id, a desc`, as it is read
+joined_read : plan_at limits 1
+    (Word word.From ∷ Name (codes "l") ∷ Mark mark.Bar ∷ Word word.Join ∷ Mark mark.Open ∷ Word word.From ∷ Name (codes "r") ∷ Mark mark.Bar ∷ Word word.Distinct ∷ Mark mark.Close
+        ∷ Word word.On ∷ Name (codes "id") ∷ Mark mark.Equal ∷ Name (codes "k") ∷ Mark mark.Comma ∷ Name a ∷ Mark mark.Equal ∷ Name b ∷ Mark mark.Bar ∷ Word word.Order ∷ Name (codes "id") ∷ Mark mark.Comma ∷ Name a ∷ Word word.Desc ∷ [])
+    ≡ Some (plan_draft_of limits (Order (Join (From (codes "l")) (Distinct (From (codes "r"))) (record { left = codes "id"; right = codes "k" } ∷ record { left = a; right = b } ∷ [])) (record { column = codes "id"; down = false } ∷ record { column = a; down = true } ∷ [])), [])
+unfolding repeated inner_plan
+joined_read = refl

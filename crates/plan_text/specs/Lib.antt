@@ -4,4 +4,6 @@ pub mod Counts
 pub mod Grammar
 pub mod Draft
 pub mod Reading
+pub mod PlanDraft
+pub mod PlanReading
 pub mod Answer

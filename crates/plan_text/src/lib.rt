@@ -7,6 +7,7 @@ pub mod laws;
 pub mod parse;
 mod parser;
 pub mod plan;
+mod plan_draft;
 pub mod refusal;
 pub mod token;
 mod tokenizer;
