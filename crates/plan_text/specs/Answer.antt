@@ -8,6 +8,7 @@ use Rattle.plan_text.specs.declared.refusal.TextRefusal.TheVariants as refusal
 use Rattle.plan_text.specs.Token.{AreTokens}
 use Rattle.plan_text.specs.PlainNamed.{PlainExpr, PlainTree, expr_of}
 use Rattle.plan_text.specs.Grammar.{Spells, E, SpellsPlan}
+use Rattle.plan_text.specs.Counts.{IsWithinLimits}
 use Rattle.plan_text.specs.Draft.{PlainDraft, Whole, TooMany}
 use Rattle.plan_text.specs.Reading.{Read}
 
@@ -22,6 +23,10 @@ pub record SpellsText (plan : PlainTree) (text : List ℕ) : Type 0 where
   pub tokens : List Token
   pub are : AreTokens tokens text
   pub spells : SpellsPlan 32 plan tokens []
+
+-- some text within the limits spells the plan
+abbrev pub IsWritten : PlainTree → Type 0
+IsWritten plan = ((text : List ℕ) × SpellsText plan text) × IsWithinLimits plan
 
 -- the answer is the expression that was read up to the end, or why there is none
 abbrev pub MeansWhole : Result code.NamedExpr TextRefusal → Read → Type 0

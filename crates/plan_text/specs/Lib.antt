@@ -7,3 +7,4 @@ pub mod Reading
 pub mod PlanDraft
 pub mod PlanReading
 pub mod Answer
+pub mod NamedCode

@@ -4,6 +4,7 @@
 mod draft;
 pub mod expr;
 pub mod laws;
+pub mod named_plan;
 pub mod parse;
 mod parser;
 pub mod plan;
@@ -13,6 +14,7 @@ pub mod token;
 mod tokenizer;
 
 pub use expr::NamedExpr;
+pub use named_plan::NamedPlan;
 pub use parse::parse_expr;
 pub use plan::{NamedAgg, NamedColumn, NamedKey, NamedPair, NamedResult, NamedTree};
 pub use refusal::{BindRefusal, PlanLimit, TextRefusal};
