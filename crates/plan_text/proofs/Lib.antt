@@ -1,6 +1,8 @@
 pub mod TokenLemmas
 pub mod ReadingLemmas
 pub mod DraftLemmas
+pub mod PlanDraftLemmas
+pub mod Repeats
 pub mod Complete
 pub mod Sound
 pub mod OneReading
