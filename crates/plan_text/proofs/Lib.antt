@@ -6,5 +6,6 @@ pub mod Repeats
 pub mod Complete
 pub mod Sound
 pub mod OneReading
+pub mod PlanItems
 pub mod WholeTexts
 pub mod Examples
