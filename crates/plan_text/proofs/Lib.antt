@@ -7,5 +7,9 @@ pub mod Complete
 pub mod Sound
 pub mod OneReading
 pub mod PlanItems
+pub mod PlanComplete
 pub mod WholeTexts
+pub mod PlanSound
+pub mod OnePlan
+pub mod WholePlans
 pub mod Examples

@@ -207,6 +207,9 @@ module _ (m : ℕ) (columns : List PlainColumn) where
         by true p false q = let less = many_is m (expr_nodes e) q in too_many (omega (arith, less))
         by false p t q = let less = many_is m (nodes_in_all columns) p in too_many (omega (arith, less))
 
+pub no_columns_kept : (m : ℕ) → columns_draft_of m [] ≡ no_columns
+no_columns_kept m = ap (λ b. cond b (WholeColumns [] 0) TooManyNodes) (is_few m 0 (omega arith))
+
 -- what is kept of each operator
 abbrev counts : ℕ → ℕ → ℕ → Counts
 counts a b c = record { nodes = a; wide = b; exprs = c }
@@ -226,6 +229,9 @@ module _ (most : Counts) (p : PlainTree) where
       let r = counts 1 wide 0 in
       same most (option_map make (tree_in kept)) (make p) (plus (counts_in kept) r) (plus (counts_of p) r) (counts_on most p r r refl) (λ w. ap (option_map make) (tree_kept most p (on_one_within r r w)))
       ∙ ap (kept_plan most (Some (make p))) (sym e)
+
+  pub stream_kept : (name : List ℕ) → from_draft most name ≡ plan_draft_of most (plain.From name)
+  stream_kept name = refl
 
   pub distinct_kept : distinct_draft most kept ≡ plan_draft_of most (plain.Distinct p)
   distinct_kept = on_one plain.Distinct 1 (λ i. counts (add-comm 1 (nodes p) i) (add-comm 1 (wide_nodes p) i) (sym (add-zero (all_expr_nodes p)) i))

@@ -96,7 +96,7 @@ module _ {X A S : Type 0} (Item : X → List Token → List Token → Type 0) (E
       (listed start xs x [] from rest s ends (λ t mid read less. Repeats-first behind_comma (item_onto item add) start t mid (ap (λ r. and_then r (all_repeated behind_comma (item_onto item add))) read)))
       none
 
-  list_shorter : (xs : List X) (from rest : List Token) → Listed Item xs from rest → length rest < length from
+  pub list_shorter : (xs : List X) (from rest : List Token) → Listed Item xs from rest → length rest < length from
   list_shorter [] from rest s = absurd s
   list_shorter (x ∷ []) from rest s = lists.shorter x from rest s
   list_shorter (x ∷ y ∷ more) from rest s =
