@@ -1,9 +1,9 @@
 -- What is kept of a plan is made of what is kept of its inputs.
 use Prim.Native.Nat.{suc}
-use Rattle.std.proofs.Common.{◌≡◌, refl, sym, ap, ◌∙◌, ℕ, ◌+◌, ◌≤◌, ◌<◌, Bool, true, false, cond, ◌&&◌, nat_le, List, [], ◌∷◌, ◌++◌, Option, Some, None, arith}
+use Rattle.std.proofs.Common.{◌≡◌, refl, sym, ap, ◌∙◌, ℕ, ◌+◌, ◌≤◌, ◌<◌, Bool, true, false, cond, ◌&&◌, nat_le, List, [], ◌∷◌, ◌++◌, Option, Some, None, append_assoc, append-nil, arith}
 use Rattle.std.proofs.lemmas.Bool.Decides.{nat_tests}
 use Rattle.std.proofs.lemmas.List.Sums.{sum_by_push}
-use Rattle.std.specs.List.{sum_by}
+use Rattle.std.specs.List.{sum_by, fold}
 use Rattle.std.specs.Option.{option_map}
 use Rattle.plan_core.specs.ExpressionKind.{of_both}
 use Rattle.plan_text.specs.declared.plan.NamedResult.{NamedResult}
@@ -207,8 +207,19 @@ module _ (m : ℕ) (columns : List PlainColumn) where
         by true p false q = let less = many_is m (expr_nodes e) q in too_many (omega (arith, less))
         by false p t q = let less = many_is m (nodes_in_all columns) p in too_many (omega (arith, less))
 
+-- columns, one after another
+columns_more : (m : ℕ) (done columns : List PlainColumn) → fold (λ d column. with_column m d (column.name, draft_of m column.expr)) (columns_draft_of m done) columns ≡ columns_draft_of m (done ++ columns)
+columns_more m done [] = ap (columns_draft_of m) (sym (append-nil done))
+columns_more m done (x ∷ columns) =
+    ap (λ d. fold (λ d column. with_column m d (column.name, draft_of m column.expr)) d columns) (one_column_more m done x.name x.expr)
+    ∙ columns_more m (done ++ x ∷ []) columns
+    ∙ ap (columns_draft_of m) (append_assoc done (x ∷ []) columns)
+
 pub no_columns_kept : (m : ℕ) → columns_draft_of m [] ≡ no_columns
 no_columns_kept m = ap (λ b. cond b (WholeColumns [] 0) TooManyNodes) (is_few m 0 (omega arith))
+
+pub columns_folded : (m : ℕ) (columns : List PlainColumn) → fold (λ d column. with_column m d (column.name, draft_of m column.expr)) no_columns columns ≡ columns_draft_of m columns
+columns_folded m columns = sym (ap (λ none. fold (λ d column. with_column m d (column.name, draft_of m column.expr)) none columns) (no_columns_kept m)) ∙ columns_more m [] columns
 
 -- what is kept of each operator
 abbrev counts : ℕ → ℕ → ℕ → Counts
