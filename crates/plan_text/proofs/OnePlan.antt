@@ -1,5 +1,5 @@
 -- Tokens spell one plan, and so do texts.
-use Rattle.std.proofs.Common.{◌≡◌, refl, sym, ap, ◌∙◌, subst, ℕ, Bool, true, false, cond, List, [], Some, arith}
+use Rattle.std.proofs.Common.{◌≡◌, sym, ◌∙◌, subst, ℕ, Bool, true, false, cond, List, [], arith}
 use Rattle.plan_text.specs.declared.token.Token.{Token}
 use Rattle.plan_text.specs.declared.plan_draft.Counts.{Counts}
 use Rattle.plan_text.specs.PlainNamed.{PlainTree}

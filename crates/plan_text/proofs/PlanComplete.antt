@@ -1,6 +1,6 @@
 -- A plan that the grammar spells is read.
-use Prim.Native.Nat.{zero, suc}
-use Rattle.std.proofs.Common.{◌≡◌, refl, sym, ap, ◌∙◌, ℕ, ◌<◌, List, [], ◌∷◌, length, Option, Some, None, arith}
+use Prim.Native.Nat.{suc}
+use Rattle.std.proofs.Common.{◌≡◌, refl, sym, ap, ◌∙◌, ℕ, ◌<◌, List, [], ◌∷◌, length, Some, None, arith}
 use Rattle.std.specs.Option.{option_map, option_and_then}
 use Rattle.plan_text.specs.declared.token.Token.{Token}
 use Rattle.plan_text.specs.declared.token.Token.TheVariants.{Name, Word, Mark}
@@ -14,7 +14,7 @@ use Rattle.plan_text.specs.PlainNamed.{PlainExpr, PlainColumn, PlainTree, From, 
 use Rattle.plan_text.specs.Grammar as g
 use Rattle.plan_text.specs.Grammar.{E, Spells, EndsExpr, EndsPlan, Listed, SpellsName, SpellsColumn, SpellsPair, SpellsKey, SpellsResult, SpellsPlan}
 use Rattle.plan_text.specs.Reading.{behind_comma}
-use Rattle.plan_text.specs.PlanDraft.{PlanDraft, with_column, no_columns, columns_draft_of, plan_draft_of, where_draft, select_draft, group_draft, join_draft, concat_draft, order_draft}
+use Rattle.plan_text.specs.PlanDraft.{PlanDraft, with_column, columns_draft_of, plan_draft_of, where_draft, select_draft, group_draft, join_draft, concat_draft, order_draft}
 use Rattle.plan_text.specs.PlanReading.{and_then, list_at, at_end, name_at, column_at, columns_at, pair_at, pairs_at, key_at, keys_at, result_at, results_at, behind_bar, behind_close, behind_with, behind_on, inner_plan_at, where_at, select_at, group_at, join_at, concat_at, order_at, stage_at, inner_plan, plan_at}
 use Rattle.plan_text.proofs.Complete.{shorter}
 use Rattle.plan_text.proofs.OneReading.{spelled_is_read}

@@ -13,8 +13,8 @@ use Rattle.plan_text.specs.declared.plan_draft.Counts.{Counts}
 use Rattle.plan_text.specs.PlainNamed as plain
 use Rattle.plan_text.specs.PlainNamed.{PlainExpr, PlainColumn, PlainTree}
 use Rattle.plan_text.specs.Counts.{expr_nodes, nodes, wide_nodes, all_expr_nodes}
-use Rattle.plan_text.specs.Draft.{PlainDraft, Whole, TooMany, draft_of}
-use Rattle.plan_text.specs.PlanDraft.{PlanDraft, WholePlan, TooLarge, ColumnsDraft, WholeColumns, TooManyNodes, up_to, capped, plus, are_within, kept_with, kept_plan, counts_of, plan_draft_of, tree_in, counts_in, expr_in, nodes_in, columns_in, column_nodes_in, no_columns, kept_columns, columns_draft_of, with_column, from_draft, where_draft, select_draft, distinct_draft, group_draft, join_draft, concat_draft, order_draft}
+use Rattle.plan_text.specs.Draft.{Whole, TooMany, draft_of}
+use Rattle.plan_text.specs.PlanDraft.{PlanDraft, WholePlan, TooLarge, WholeColumns, TooManyNodes, up_to, capped, plus, are_within, kept_with, kept_plan, counts_of, plan_draft_of, tree_in, counts_in, expr_in, nodes_in, columns_in, column_nodes_in, no_columns, kept_columns, columns_draft_of, with_column, from_draft, where_draft, select_draft, distinct_draft, group_draft, join_draft, concat_draft, order_draft}
 
 add-comm : (a b : ℕ) → a + b ≡ b + a
 add-comm a b = omega arith

@@ -1,6 +1,6 @@
 -- A plan that is read the grammar spells.
 use Prim.Native.Nat.{zero, suc}
-use Rattle.std.proofs.Common.{◌≡◌, refl, sym, ap, ◌∙◌, subst, ℕ, List, [], ◌∷◌, length, Option, Some, None}
+use Rattle.std.proofs.Common.{◌≡◌, refl, sym, ap, ◌∙◌, subst, ℕ, List, ◌∷◌, length, Some}
 use Rattle.std.specs.Option.{option_map, option_and_then}
 use Rattle.plan_text.specs.declared.token.Token.{Token}
 use Rattle.plan_text.specs.declared.token.Token.TheVariants.{Name, Word, Mark}
@@ -10,11 +10,11 @@ use Rattle.plan_text.specs.declared.plan.NamedResult.{NamedResult}
 use Rattle.plan_text.specs.declared.plan.NamedPair.{NamedPair}
 use Rattle.plan_text.specs.declared.plan.NamedKey.{NamedKey}
 use Rattle.plan_text.specs.declared.plan_draft.Counts.{Counts}
-use Rattle.plan_text.specs.PlainNamed.{PlainExpr, PlainColumn, PlainTree, From, Where, Select, Distinct, Group, Join, Concat, Order}
+use Rattle.plan_text.specs.PlainNamed.{PlainTree, From, Where, Select, Distinct, Group, Join, Concat, Order}
 use Rattle.plan_text.specs.Grammar as g
 use Rattle.plan_text.specs.Grammar.{Listed, SpellsName, SpellsColumn, SpellsPair, SpellsKey, SpellsResult, SpellsPlan}
-use Rattle.plan_text.specs.Reading.{expr_at, inner, behind_open}
-use Rattle.plan_text.specs.PlanDraft.{PlanDraft, ColumnsDraft, with_column, no_columns, columns_draft_of, plan_draft_of, from_draft, where_draft, select_draft, distinct_draft, group_draft, join_draft, concat_draft, order_draft}
+use Rattle.plan_text.specs.Reading.{expr_at, inner}
+use Rattle.plan_text.specs.PlanDraft.{PlanDraft, ColumnsDraft, with_column, columns_draft_of, plan_draft_of, from_draft, where_draft, select_draft, distinct_draft, group_draft, join_draft, concat_draft, order_draft}
 use Rattle.plan_text.specs.PlanReading.{ReadOf, PlanReader, and_then, all_repeated, list_at, at_end, name_at, names_at, column_at, columns_at, pair_at, pairs_at, key_at, keys_at, result_at, results_at, behind_bar, behind_close, behind_with, behind_on, inner_plan_at, where_at, select_at, group_at, join_at, concat_at, order_at, stage_at, from_at, plan_with, inner_plan, plan_at}
 use Rattle.plan_text.proofs.TokenLemmas.{both}
 use Rattle.plan_text.proofs.Sound.{read_is_spelled}

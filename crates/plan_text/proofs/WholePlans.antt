@@ -1,5 +1,5 @@
 -- What a whole text spells as a plan, within the limits or beyond them.
-use Rattle.std.proofs.Common.{◌≡◌, refl, sym, ap, ◌∙◌, subst, ℕ, ◌≤◌, ◌<◌, Bool, true, false, cond, ◌&&◌, nat_lt, nat_le, List, [], Some, arith}
+use Rattle.std.proofs.Common.{◌≡◌, refl, sym, subst, ℕ, ◌≤◌, ◌<◌, Bool, true, false, cond, nat_lt, nat_le, List, [], Some, arith}
 use Rattle.std.proofs.lemmas.Bool.Decides.{nat_tests}
 use Rattle.plan_text.specs.declared.token.Token.{Token}
 use Rattle.plan_text.specs.declared.plan_draft.Counts.{Counts}
@@ -12,7 +12,7 @@ use Rattle.plan_text.specs.Answer.{SpellsText}
 use Rattle.plan_text.specs.PlanDraft.{PlanDraft, WholePlan, TooLarge, limits, first_above, up_to, capped, are_within, counts_of, plan_draft_of}
 use Rattle.plan_text.specs.PlanReading.{plan_at}
 use Rattle.plan_text.proofs.WholeTexts.{one_list}
-use Rattle.plan_text.proofs.PlanDraftLemmas.{Within, is_within, within_is, up_to-few, up_to-many}
+use Rattle.plan_text.proofs.PlanDraftLemmas.{is_within, within_is, up_to-few, up_to-many}
 use Rattle.plan_text.proofs.PlanSound.{read_plan_is_spelled}
 use Rattle.plan_text.proofs.PlanComplete.{spelled_plan_is_read}
 
