@@ -13,3 +13,4 @@ pub mod PlanSound
 pub mod OnePlan
 pub mod WholePlans
 pub mod Examples
+pub mod PlanExamples
