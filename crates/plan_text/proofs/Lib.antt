@@ -1,8 +1,16 @@
 pub mod TokenLemmas
 pub mod ReadingLemmas
 pub mod DraftLemmas
+pub mod PlanDraftLemmas
+pub mod Repeats
 pub mod Complete
 pub mod Sound
 pub mod OneReading
+pub mod PlanItems
+pub mod PlanComplete
 pub mod WholeTexts
+pub mod PlanSound
+pub mod OnePlan
+pub mod WholePlans
 pub mod Examples
+pub mod PlanExamples

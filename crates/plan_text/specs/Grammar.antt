@@ -107,6 +107,12 @@ EndsExpr (Mark mark.Comma ∷ rest) = Unit {0}
 EndsExpr (Mark mark.Close ∷ rest) = Unit {0}
 EndsExpr _ = ⊥
 
+-- what may stand behind a plan: nothing, or a parenthesis that closes
+abbrev pub EndsPlan : List Token → Type 0
+EndsPlan [] = Unit {0}
+EndsPlan (Mark mark.Close ∷ rest) = Unit {0}
+EndsPlan _ = ⊥
+
 -- one item or more, with a comma between any two
 abbrev pub Listed : {A : Type 0} → (A → List Token → List Token → Type 0) → List A → List Token → List Token → Type 0
 Listed Item [] from rest = ⊥

@@ -1,7 +1,7 @@
 -- What is kept of a plan while it is read: its counts, each up to one above the most, and the plan itself where no count is
 -- above. So nothing large is built, and a text of any length is read to its end.
 use Prim.Native.Nat.{suc}
-use Rattle.std.specs.Prelude.{ℕ, ◌+◌, Bool, ◌&&◌, nat_le, if◌then◌else◌, List, [], ◌∷◌, ◌++◌, map, Option, None, Some}
+use Rattle.std.specs.Prelude.{ℕ, ◌+◌, Bool, ◌&&◌, nat_le, nat_lt, if◌then◌else◌, List, [], ◌∷◌, ◌++◌, map, Option, None, Some}
 use Rattle.std.specs.List.{sum_by}
 use Rattle.std.specs.Option.{option_map}
 use Rattle.plan_core.specs.ExpressionKind.{of_both}
@@ -13,6 +13,8 @@ use Rattle.plan_text.specs.declared.plan_draft.PlanDraft as code
 use Rattle.plan_text.specs.declared.plan_draft.PlanDraft.TheVariants as draft
 use Rattle.plan_text.specs.declared.plan_draft.ColumnsDraft as code_columns
 use Rattle.plan_text.specs.declared.plan_draft.ColumnsDraft.TheVariants as columns_draft
+use Rattle.plan_text.specs.declared.refusal.PlanLimit.{PlanLimit}
+use Rattle.plan_text.specs.declared.refusal.PlanLimit.TheVariants.{Nodes, Wide, Exprs}
 use Rattle.plan_text.specs.PlainNamed as plain
 use Rattle.plan_text.specs.PlainNamed.{PlainExpr, PlainColumn, PlainTree, tree_of, column_of}
 use Rattle.plan_text.specs.Counts.{expr_nodes, nodes, wide_nodes, all_expr_nodes}
@@ -30,6 +32,10 @@ seen_plan (draft.TooMany counts) = TooLarge counts
 -- as many nodes, wide operators and expression nodes as a plan may have
 abbrev pub limits : Counts
 limits = record { nodes = 40; wide = 8; exprs = 512 }
+
+-- the first limit that these counts pass, where they pass one
+abbrev pub first_above : Counts → PlanLimit
+first_above counts = if nat_lt 40 counts.nodes then Nodes else if nat_lt 8 counts.wide then Wide else Exprs
 
 -- the number, or one above the most where it is greater
 abbrev pub up_to : ℕ → ℕ → ℕ

@@ -9,6 +9,7 @@ pub mod parse;
 mod parser;
 pub mod plan;
 mod plan_draft;
+pub mod plan_laws;
 pub mod refusal;
 pub mod token;
 mod tokenizer;
