@@ -6,3 +6,4 @@ pub mod Sound
 pub mod OneReading
 pub mod WholeTexts
 pub mod Examples
+pub mod CanonicalSpelled

@@ -5,3 +5,4 @@ pub mod Grammar
 pub mod Draft
 pub mod Reading
 pub mod Answer
+pub mod Canonical

@@ -7,6 +7,7 @@ pub mod laws;
 pub mod parse;
 mod parser;
 pub mod plan;
+pub mod print_laws;
 pub mod refusal;
 pub mod token;
 mod tokenizer;
