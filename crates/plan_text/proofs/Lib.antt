@@ -7,3 +7,4 @@ pub mod OneReading
 pub mod WholeTexts
 pub mod Examples
 pub mod CanonicalSpelled
+pub mod CanonicalRead
