@@ -250,11 +250,11 @@ mark_read mark.Greater other rest e = rw (no_equal rest e) refl
 mark_read mark.Minus other rest e = rw (no_digit rest e) refl
 mark_read _ other rest e = refl
 
-sign_read : (rest : List ℕ) → begins_with_digit rest ≡ true → AtFront (mark_bytes mark.Sign) (Mark mark.Sign) rest
+pub sign_read : (rest : List ℕ) → begins_with_digit rest ≡ true → AtFront (mark_bytes mark.Sign) (Mark mark.Sign) rest
 unfolding token_at mark_at
 sign_read rest e = rw e refl
 
-decimal_digit_first : (n : ℕ) → n < 2 ^ 64 → (rest : List ℕ) → begins_with_digit (decimal n ++ rest) ≡ true
+pub decimal_digit_first : (n : ℕ) → n < 2 ^ 64 → (rest : List ℕ) → begins_with_digit (decimal n ++ rest) ≡ true
 decimal_digit_first n small rest = by (decimal n) (decimal_nonempty n small) (decimal_is_IsNumeral n small).0.1
   where
     by : (ds : List ℕ) → 0 < length ds → AllDigits 10 ds → begins_with_digit (ds ++ rest) ≡ true
@@ -269,7 +269,7 @@ IsGood (Number number) = number ≤ greatest_number
 IsGood (Text text) = IsTxt text
 IsGood (Mark mark) = is_sign mark ≡ false
 
-token_read : (t : Token) → IsGood t → (rest : List ℕ) → Ends rest → AtFront (spelling t) t rest
+pub token_read : (t : Token) → IsGood t → (rest : List ℕ) → Ends rest → AtFront (spelling t) t rest
 token_read (Name name) good rest e = let b = name_bytes name good.0 in word_read name (Name name) rest b.0 b.1 (name_token name good) e
 token_read (Word w) good rest e = word_read (word_bytes w) (Word w) rest (reserved_some w) (reserved_bytes w) (reserved_token w) e
 token_read (Number n) good rest e =
@@ -278,9 +278,9 @@ token_read (Number n) good rest e =
 token_read (Text text) good rest e = text_read text rest
 token_read (Mark m) good rest e = mark_read m good rest e
 
-is_token : (t : Token) → IsGood t → IsToken t
-is_token (Name name) good = tt
-is_token (Word w) good = tt
-is_token (Number n) good = tt
-is_token (Text text) good = good
-is_token (Mark m) good = tt
+pub is_good_token : (t : Token) → IsGood t → IsToken t
+is_good_token (Name name) good = tt
+is_good_token (Word w) good = tt
+is_good_token (Number n) good = tt
+is_good_token (Text text) good = good
+is_good_token (Mark m) good = tt

@@ -8,3 +8,4 @@ pub mod WholeTexts
 pub mod Examples
 pub mod CanonicalSpelled
 pub mod CanonicalRead
+pub mod CanonicalTokens
