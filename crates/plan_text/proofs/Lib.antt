@@ -9,3 +9,4 @@ pub mod Examples
 pub mod CanonicalSpelled
 pub mod CanonicalRead
 pub mod CanonicalTokens
+pub mod CanonicalExamples
