@@ -6,3 +6,4 @@ pub mod Draft
 pub mod Reading
 pub mod Answer
 pub mod Canonical
+pub mod PrintCode

@@ -7,8 +7,10 @@ pub mod laws;
 pub mod parse;
 mod parser;
 pub mod plan;
+mod print_expr;
 pub mod print_laws;
 pub mod refusal;
+mod rule;
 pub mod token;
 mod tokenizer;
 
