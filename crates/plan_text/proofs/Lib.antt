@@ -10,3 +10,4 @@ pub mod CanonicalSpelled
 pub mod CanonicalRead
 pub mod CanonicalTokens
 pub mod CanonicalExamples
+pub mod Printing

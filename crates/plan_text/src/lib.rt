@@ -9,6 +9,7 @@ mod parser;
 pub mod plan;
 mod print_expr;
 pub mod print_laws;
+mod print_parts;
 pub mod refusal;
 mod rule;
 pub mod token;
