@@ -227,9 +227,13 @@ argument_pieces (agg.Avg column) = name_piece column
 abbrev pub result_pieces : NamedResult → List Piece
 result_pieces result = named result.name (One (Name (agg_word result.agg)) ∷ in_parens (argument_pieces result.agg))
 
+-- what stands behind the plan before a stage
+abbrev pub behind_bar : the_word.Word → List Piece → List Piece
+behind_bar w pieces = Space ∷ One (Mark mark.Bar) ∷ Space ∷ One (Word w) ∷ pieces
+
 -- a stage behind a plan
 abbrev pub stage : List Piece → the_word.Word → List Piece → List Piece
-stage plan w pieces = between plan (Mark mark.Bar) (One (Word w) ∷ pieces)
+stage plan w pieces = plan ++ behind_bar w pieces
 
 -- the plan
 abbrev pub canonical : PlainTree → List Piece

@@ -7,6 +7,7 @@ pub mod laws;
 pub mod parse;
 mod parser;
 pub mod plan;
+pub mod print;
 mod print_expr;
 pub mod print_laws;
 mod print_parts;
@@ -18,6 +19,7 @@ mod tokenizer;
 pub use expr::NamedExpr;
 pub use parse::parse_expr;
 pub use plan::{NamedAgg, NamedColumn, NamedKey, NamedPair, NamedResult, NamedTree};
+pub use print::print_tree;
 pub use refusal::{BindRefusal, PlanLimit, TextRefusal};
 pub use token::{Mark, Token, Word};
 
