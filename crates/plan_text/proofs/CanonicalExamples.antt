@@ -2,7 +2,6 @@
 use Rattle.std.proofs.Common.{◌≡◌, refl, ℕ, List, [], ◌∷◌, codes, true, false, pos, negsuc}
 use Rattle.std.specs.Fmt.{digits}
 use Rattle.scalar_ops.specs.declared.cell.Cell.TheVariants as cell
-use Rattle.scalar_ops.specs.declared.table.Op.{Op}
 use Rattle.scalar_ops.specs.declared.table.Op.TheVariants as op
 use Rattle.plan_text.specs.declared.plan.NamedAgg.TheVariants as agg
 use Rattle.plan_text.specs.PlainNamed.{PlainExpr, Column, Literal, Call1, Call2, And, Or, If, From, Where, Select, Distinct, Group, Join, Concat, Order}

@@ -1,29 +1,24 @@
 -- The bytes of the canonical text are read as its tokens.
 use Prim.Native.Nat.{zero, suc}
-use Rattle.std.proofs.Common.{◌≡◌, ◌≢◌, refl, sym, ap, ◌∙◌, subst, ℕ, ◌+◌, ◌-◌, ◌*◌, ◌/◌, ◌%◌, ◌^◌, ◌<◌, ◌≤◌, Bool, true, false, cond, not, ◌&&◌, ◌||◌, ◌==◌, nat_le, nat_eq, List, [], ◌∷◌, ◌++◌, length, take, drop, get_or, bytes_eq, Option, Some, None, ℤ, pos, negsuc, neg_ℤ, FitsSigned, w64, decimal, append_assoc, arith}
+use Rattle.std.proofs.Common.{◌≡◌, ◌≢◌, refl, ap, ◌∙◌, subst, ℕ, ◌+◌, ◌-◌, ◌*◌, ◌/◌, ◌%◌, ◌^◌, ◌<◌, ◌≤◌, Bool, true, false, cond, not, ◌&&◌, ◌||◌, ◌==◌, nat_le, nat_eq, List, [], ◌∷◌, ◌++◌, length, take, drop, get_or, bytes_eq, Some, None, decimal, append_assoc, arith}
 use Rattle.std.proofs.lemmas.Bool.Decides.{nat_tests}
-use Rattle.std.proofs.lemmas.Grind.{flat_map-append}
 use Rattle.std.proofs.Math.Seq.{take-append_seam, drop-append_seam}
 use Rattle.std.proofs.lemmas.Fmt.{decimal_is_IsNumeral, decimal_nonempty, decimal_by_steps, decimal_digit, first_decimal}
 use Rattle.std.proofs.lemmas.Str.Parse.{digit_from_value}
 use Rattle.std.specs.Str.Parse.{AllDigits}
-use Rattle.std.specs.List.{flat_map, list_all, find, AllByRecursion}
+use Rattle.std.specs.List.{flat_map, list_all, find}
 use Rattle.std.specs.Option.{option_map}
 use Rattle.std.specs.Char.{is_ascii_digit}
 use Rattle.rows_core.specs.Name.{IsName, is_name, is_reserved, begins_with_letter, is_name_byte}
 use Rattle.rows_core.specs.Txt.{IsTxt}
-use Rattle.scalar_ops.specs.declared.cell.Cell.{Cell}
-use Rattle.scalar_ops.specs.declared.cell.Cell.TheVariants as cell
-use Rattle.scalar_ops.specs.declared.table.Op.{Op}
-use Rattle.scalar_ops.specs.declared.table.Op.TheVariants as op
 use Rattle.plan_text.specs.declared.token.Token.{Token}
 use Rattle.plan_text.specs.declared.token.Token.TheVariants.{Name, Word, Number, Text, Mark}
 use Rattle.plan_text.specs.declared.token.Mark as the_mark
 use Rattle.plan_text.specs.declared.token.Mark.TheVariants as mark
 use Rattle.plan_text.specs.declared.token.Word as the_word
 use Rattle.plan_text.specs.declared.token.Word.TheVariants as word
-use Rattle.plan_text.specs.Token.{word_bytes, all_words, word_with, greatest_number, fits_digit, number_behind, number_with, name_or_number, word_or, word_token, before, word_len, word_at, begins_with, begins_with_digit, mark_at, is_escaped, with_byte, text_step, text_behind, text_at, mark_token, token_at, IsToken, trimmed, AreTokens}
-use Rattle.plan_text.specs.Canonical.{Piece, Space, One, mark_bytes, escaped, quoted, spelling, text_of}
+use Rattle.plan_text.specs.Token.{word_bytes, all_words, word_with, greatest_number, fits_digit, number_behind, number_with, name_or_number, word_or, word_token, before, word_len, word_at, begins_with, begins_with_digit, mark_at, is_escaped, with_byte, text_behind, text_at, mark_token, token_at, IsToken, trimmed}
+use Rattle.plan_text.specs.Canonical.{mark_bytes, escaped, quoted, spelling}
 
 both_true : (a b : Bool) → (a && b) ≡ true → (a ≡ true) × (b ≡ true)
 both_true true true e = (refl, refl)
@@ -169,8 +164,8 @@ number_behind-decimal : (n : ℕ) → n < 2 ^ 64 → n ≤ greatest_number → n
 number_behind-decimal = decimal_by_steps (λ n ds. n ≤ greatest_number → number_behind 0 ds ≡ Some n)
     (λ n small le. let same : 0 * 10 + n ≡ n = omega arith in number_behind-digit 0 n small (omega (arith, le)) ∙ ap Some same)
     (λ n ds large front le.
-        let same : n / 10 * 10 + n % 10 ≡ n = omega arith in
-        number_behind-append 0 (n / 10) ds ((48 + n % 10) ∷ []) (front (omega (arith, le))) ∙ number_behind-digit (n / 10) (n % 10) (omega arith) (omega (arith, le)) ∙ ap Some same)
+    let same : n / 10 * 10 + n % 10 ≡ n = omega arith in
+    number_behind-append 0 (n / 10) ds ((48 + n % 10) ∷ []) (front (omega (arith, le))) ∙ number_behind-digit (n / 10) (n % 10) (omega arith) (omega (arith, le)) ∙ ap Some same)
 
 number_with-all : (ds : List ℕ) → 0 < length ds → (1 < length ds → get_or ds 0 0 ≢ 48) → number_with ds ≡ number_behind 0 ds
 number_with-all [] some first = absurd (omega (arith, some))

@@ -1,26 +1,23 @@
 -- The tokens of the canonical text spell what other tokens spell, with no more levels open.
 use Prim.Native.Nat.{zero, suc}
-use Rattle.std.proofs.Common.{◌≡◌, refl, sym, ap, ◌∙◌, subst, ℕ, ◌<◌, ◌≤◌, Bool, true, false, cond, nat_le, List, [], ◌∷◌, ◌++◌, Some, None, ℤ, pos, negsuc, neg_ℤ, FitsSigned, w64, arith}
+use Rattle.std.proofs.Common.{◌≡◌, refl, sym, ap, ◌∙◌, subst, ℕ, ◌<◌, ◌≤◌, Bool, true, false, cond, nat_le, List, [], ◌∷◌, ◌++◌, Some, ℤ, pos, negsuc, neg_ℤ, FitsSigned, w64, arith}
 use Rattle.std.proofs.lemmas.Bool.Decides.{nat_tests}
 use Rattle.std.specs.List.{flat_map}
 use Rattle.scalar_ops.specs.declared.cell.Cell.TheVariants as cell
 use Rattle.scalar_ops.specs.declared.table.Op.{Op}
 use Rattle.scalar_ops.specs.declared.table.Op.TheVariants as op
 use Rattle.plan_text.specs.declared.token.Token.{Token}
-use Rattle.plan_text.specs.declared.token.Token.TheVariants.{Name, Word, Number, Text, Mark}
+use Rattle.plan_text.specs.declared.token.Token.TheVariants.{Name, Word, Mark}
 use Rattle.plan_text.specs.declared.token.Mark as the_mark
 use Rattle.plan_text.specs.declared.token.Mark.TheVariants as mark
 use Rattle.plan_text.specs.declared.token.Word as the_word
 use Rattle.plan_text.specs.declared.token.Word.TheVariants as word
 use Rattle.plan_text.specs.declared.plan.NamedAgg.{NamedAgg}
 use Rattle.plan_text.specs.declared.plan.NamedAgg.TheVariants as agg
-use Rattle.plan_text.specs.declared.plan.NamedResult.{NamedResult}
-use Rattle.plan_text.specs.declared.plan.NamedPair.{NamedPair}
-use Rattle.plan_text.specs.declared.plan.NamedKey.{NamedKey}
-use Rattle.plan_text.specs.PlainNamed.{PlainExpr, Column, Literal, Call1, Call2, And, Or, If, PlainColumn, PlainTree, From, Where, Select, Distinct, Group, Join, Concat, Order}
+use Rattle.plan_text.specs.PlainNamed.{PlainExpr, Literal, Call1, Call2, And, Or, If, PlainTree, Where, Select, Distinct, Group, Join, Concat, Order}
 use Rattle.plan_text.specs.Grammar as g
 use Rattle.plan_text.specs.Grammar.{Rule, E, AND, NOT, CMP, SUM, MUL, UN, ATOM, Spells, compare_op, sum_op, mul_op, call1_op, call2_op, Listed, SpellsName, SpellsColumn, SpellsPair, SpellsKey, SpellsResult, SpellsPlan, agg_word}
-use Rattle.plan_text.specs.Canonical.{Piece, Space, One, tokens_of, tightness, Infix, comparison, summing, multiplying, Form, Between, Function, NoForm, form_of, form_rule, rule_of, in_parens, within, behind_comma, between, function, call2, bare, canonical_expr, listed, name_piece, named, column_pieces, pair_pieces, key_pieces, argument_pieces, result_pieces, stage, canonical}
+use Rattle.plan_text.specs.Canonical.{Piece, Space, One, tokens_of, tightness, comparison, summing, multiplying, Form, Between, Function, form_of, form_rule, rule_of, in_parens, behind_comma, between, call2, bare, canonical_expr, listed, name_piece, named, column_pieces, pair_pieces, key_pieces, argument_pieces, result_pieces, stage, canonical}
 
 -- the tokens of the pieces, and then the rest
 abbrev pub onto : List Piece → List Token → List Token

@@ -1,6 +1,6 @@
 -- Where some text spells a plan, the bytes of its canonical text are read as its canonical tokens.
-use Prim.Native.Nat.{zero, suc}
-use Rattle.std.proofs.Common.{◌≡◌, refl, sym, ap, ◌∙◌, subst, ℕ, ◌^◌, ◌<◌, ◌≤◌, Bool, true, false, cond, ◌==◌, nat_le, List, [], ◌∷◌, ◌++◌, take, drop, Option, Some, None, ℤ, pos, negsuc, neg_ℤ, FitsSigned, w64, decimal, append_assoc, append-nil, arith}
+use Prim.Native.Nat.{suc}
+use Rattle.std.proofs.Common.{◌≡◌, refl, sym, ap, ◌∙◌, subst, ℕ, ◌^◌, ◌<◌, ◌≤◌, Bool, true, false, cond, ◌==◌, nat_le, List, [], ◌∷◌, ◌++◌, take, drop, Option, Some, None, pos, negsuc, FitsSigned, w64, decimal, append_assoc, append-nil, arith}
 use Rattle.std.proofs.lemmas.Grind.{flat_map-append}
 use Rattle.std.specs.List.{flat_map, AllByRecursion}
 use Rattle.std.specs.Option.{option_map}
@@ -25,9 +25,9 @@ use Rattle.plan_text.specs.Token.{word_with, greatest_number, name_or_number, nu
 use Rattle.plan_text.specs.PlainNamed.{PlainExpr, Column, Literal, Call1, Call2, And, Or, If, PlainColumn, PlainTree, From, Where, Select, Distinct, Group, Join, Concat, Order}
 use Rattle.plan_text.specs.Grammar as g
 use Rattle.plan_text.specs.Grammar.{Rule, E, AND, NOT, CMP, SUM, MUL, UN, ATOM, Spells, Listed, SpellsName, SpellsColumn, SpellsPair, SpellsKey, SpellsResult, SpellsPlan, agg_word}
-use Rattle.plan_text.specs.Answer.{SpellsText}
-use Rattle.plan_text.specs.Canonical.{Piece, Space, One, spelling, text_of, piece_bytes, tokens_of, tightness, Form, Between, Function, NoForm, form_of, rule_of, in_parens, within, behind_comma, literal, between, function, call1, call2, bare, canonical_expr, listed, name_piece, named, column_pieces, pair_pieces, key_pieces, argument_pieces, result_pieces, stage, canonical, canonical_text}
-use Rattle.plan_text.proofs.CanonicalSpelled.{onto, onto-append, onto-none, plan_respelled}
+use Rattle.plan_text.specs.Answer.{SpellsExpr, SpellsText}
+use Rattle.plan_text.specs.Canonical.{Piece, Space, One, spelling, text_of, piece_bytes, tightness, Form, Between, Function, NoForm, form_of, rule_of, in_parens, within, behind_comma, literal, between, function, call1, call2, bare, canonical_expr, listed, name_piece, named, column_pieces, pair_pieces, key_pieces, argument_pieces, result_pieces, stage, canonical, canonical_text}
+use Rattle.plan_text.proofs.CanonicalSpelled.{onto, onto-append, expr_respelled, plan_respelled}
 use Rattle.plan_text.proofs.CanonicalRead.{Ends, GoodName, IsGood, is_good_token, is_sign, token_read, sign_read, decimal_digit_first}
 use Rattle.plan_text.proofs.TokenLemmas.{both}
 
@@ -462,4 +462,15 @@ canonical_spells plan text s =
       tokens = onto (canonical plan) [];
       are = subst (AreTokens (onto (canonical plan) [])) (append-nil (text_of (canonical plan))) are;
       spells = plan_respelled s.spells [];
+    }
+
+pub canonical_expr_spells : (e : PlainExpr) (text : List ℕ) → SpellsExpr e text → SpellsExpr e (text_of (canonical_expr E e))
+canonical_expr_spells e text s =
+    let pieces = canonical_expr E e in
+    let w = written s.spells (all_from_text s.tokens text s.are) in
+    let are : AreTokens (onto pieces []) (text_of pieces ++ []) = reads_expr E e w.0 [] [] tt refl in
+    record {
+      tokens = onto pieces [];
+      are = subst (AreTokens (onto pieces [])) (append-nil (text_of pieces)) are;
+      spells = expr_respelled E 32 e s.tokens [] s.spells [];
     }

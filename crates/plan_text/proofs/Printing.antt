@@ -1,5 +1,5 @@
 -- The bytes of lists.
-use Rattle.std.proofs.Common.{◌≡◌, refl, sym, ap, ◌∙◌, ℕ, List, [], ◌∷◌, ◌++◌, ◌<◌, length, take, drop, ◌-◌, map, slice_index_or, Result, Ok, Err, OnOk, arith}
+use Rattle.std.proofs.Common.{◌≡◌, refl, sym, ap, ◌∙◌, List, [], ◌∷◌, ◌++◌, ◌<◌, length, take, drop, ◌-◌, map, slice_index_or, Result, Ok, Err, OnOk, arith}
 use Rattle.std.proofs.lemmas.Grind.{flat_map-append}
 use Rattle.std.proofs.Math.Seq.{take-length}
 use Rattle.std.specs.List.{flat_map}

@@ -1,6 +1,6 @@
 -- The canonical text of an expression and of a plan, which is the one that is printed.
 use Prim.Native.Nat.{suc}
-use Rattle.std.specs.Prelude.{ℕ, ◌<◌, Bool, nat_le, if◌then◌else◌, List, [], ◌∷◌, ◌++◌, codes, Option, None, Some, pos, negsuc, decimal}
+use Rattle.std.specs.Prelude.{ℕ, nat_le, if◌then◌else◌, List, [], ◌∷◌, ◌++◌, codes, pos, negsuc, decimal}
 use Rattle.std.specs.List.{flat_map}
 use Rattle.scalar_ops.specs.declared.cell.Cell.{Cell}
 use Rattle.scalar_ops.specs.declared.cell.Cell.TheVariants as cell

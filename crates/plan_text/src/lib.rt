@@ -3,14 +3,14 @@
 
 mod draft;
 pub mod expr;
+mod expr_printer;
 pub mod laws;
 pub mod parse;
 mod parser;
+mod part_printer;
 pub mod plan;
 pub mod print;
-mod print_expr;
 pub mod print_laws;
-mod print_parts;
 pub mod refusal;
 mod rule;
 pub mod token;
@@ -19,9 +19,11 @@ mod tokenizer;
 pub use expr::NamedExpr;
 pub use parse::parse_expr;
 pub use plan::{NamedAgg, NamedColumn, NamedKey, NamedPair, NamedResult, NamedTree};
-pub use print::print_tree;
+pub use print::{print_expr, print_tree};
 pub use refusal::{BindRefusal, PlanLimit, TextRefusal};
 pub use token::{Mark, Token, Word};
 
+#[cfg(test)]
+mod print_tests;
 #[cfg(test)]
 mod tests;

@@ -7,13 +7,22 @@ ghost use Rattle.plan_text.specs.Grammar.{E};
 ghost use Rattle.plan_text.specs.Canonical.{Space, One, text_of, in_parens, between, canonical_expr, listed, name_piece, column_pieces, pair_pieces, key_pieces, result_pieces, behind_bar, canonical, canonical_text};
 
 use crate::expr::NamedExpr;
+use crate::expr_printer::{put, put_expr, put_spaced};
+use crate::part_printer::put_parts;
 use crate::plan::{NamedColumn, NamedKey, NamedPair, NamedResult, NamedTree};
-use crate::print_expr::{put, put_expr, put_spaced};
-use crate::print_parts::put_parts;
 use crate::rule::Rule;
 use crate::token::Word;
 use rows_core::{Memory, Name};
 use std::alloc::Global;
+
+/// The canonical text of an expression, as it stands behind `where`.
+pub fn print_expr(alloc: Global, expr: &NamedExpr) -> Result<Vec<u8>, Memory>
+    ensures { IfOk result (λ text. text.items ≡ text_of (canonical_expr E (expr_of expr.now))) }
+{
+    let mut text = Vec::new(alloc);
+    put_expr(Rule::Or, expr, &mut text)?;
+    Ok(text)
+}
 
 /// The canonical text of a plan: single spaces, and parentheses exactly where the grammar needs them.
 pub fn print_tree(alloc: Global, tree: &NamedTree) -> Result<Vec<u8>, Memory>

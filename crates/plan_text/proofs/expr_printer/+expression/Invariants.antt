@@ -2,7 +2,7 @@
 use Rattle.std.proofs.Common.{◌+◌, ◌*◌}
 use Rattle.plan_text.specs.PlainNamed.{expr_of}
 use Rattle.plan_text.specs.Counts.{expr_nodes}
-use Rattle.plan_text.proofs.print_expr.+expression.Given as goal
+use Rattle.plan_text.proofs.expr_printer.+expression.Given as goal
 
 abbrev pub decreases-put_expr : goal.decreases-put_expr
 decreases-put_expr l = 8 * expr_nodes (expr_of l.expr.now) + 1

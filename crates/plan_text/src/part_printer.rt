@@ -5,8 +5,8 @@ ghost use Rattle.plan_text.specs.PlainNamed.{column_of};
 ghost use Rattle.plan_text.specs.Grammar.{agg_word};
 ghost use Rattle.plan_text.specs.Canonical.{Piece, text_of, listed, name_piece, column_pieces, pair_pieces, key_pieces, argument_pieces, result_pieces};
 
+use crate::expr_printer::{put, put_expr, put_spaced};
 use crate::plan::{NamedAgg, NamedColumn, NamedKey, NamedPair, NamedResult};
-use crate::print_expr::{put, put_expr, put_spaced};
 use crate::rule::Rule;
 use rows_core::{Memory, Name};
 

@@ -179,12 +179,7 @@ fn put_function1(function: &[u8], arg: &NamedExpr, to: &mut Vec<u8>) -> Result<(
 }
 
 #[cycle(expression)]
-fn put_call2(
-    op: Op,
-    left: &NamedExpr,
-    right: &NamedExpr,
-    to: &mut Vec<u8>,
-) -> Result<(), Memory>
+fn put_call2(op: Op, left: &NamedExpr, right: &NamedExpr, to: &mut Vec<u8>) -> Result<(), Memory>
     ensures { OnOk result (to.new.items ≡ to.old.items ++ text_of (bare (Call2 op (expr_of left.now) (expr_of right.now)))) }
 {
     match Form::of(op) {

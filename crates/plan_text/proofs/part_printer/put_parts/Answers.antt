@@ -2,7 +2,7 @@ use Rattle.std.proofs.Common.{rules, ◌≡◌, sym, ap, ◌∙◌, ◌++◌, �
 use Rattle.std.specs.List.{flat_map}
 use Rattle.plan_text.specs.Canonical.{text_of}
 use Rattle.plan_text.proofs.Printing.{behind_first, text_of_listed_at, OnOk-map}
-use Rattle.plan_text.proofs.print_parts.put_parts.Goals as goal
+use Rattle.plan_text.proofs.part_printer.put_parts.Goals as goal
 
 pub returns : goal.returns
 returns g c =
