@@ -14,3 +14,8 @@ pub mod OnePlan
 pub mod WholePlans
 pub mod Examples
 pub mod PlanExamples
+pub mod CanonicalSpelled
+pub mod CanonicalRead
+pub mod CanonicalTokens
+pub mod CanonicalExamples
+pub mod Printing

@@ -8,3 +8,5 @@ pub mod PlanDraft
 pub mod PlanReading
 pub mod Answer
 pub mod NamedCode
+pub mod Canonical
+pub mod PrintCode
