@@ -1,3 +1,4 @@
+pub mod AllThere
 pub mod TokenLemmas
 pub mod ReadingLemmas
 pub mod DraftLemmas

@@ -5,3 +5,5 @@ pub mod Grammar
 pub mod Draft
 pub mod Reading
 pub mod Answer
+pub mod OpRows
+pub mod Binding

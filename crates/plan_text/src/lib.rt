@@ -1,6 +1,7 @@
 //! The text of plans: what a person writes, the canonical text, and the binding of names.
 #![tactic(auto)]
 
+mod bind_names;
 mod draft;
 pub mod expr;
 pub mod laws;
