@@ -7,3 +7,4 @@ pub mod Reading
 pub mod Answer
 pub mod OpRows
 pub mod Binding
+pub mod BoundPlan

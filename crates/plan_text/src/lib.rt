@@ -1,8 +1,10 @@
 //! The text of plans: what a person writes, the canonical text, and the binding of names.
 #![tactic(auto)]
 
+mod bind_expr;
 mod bind_names;
 mod draft;
+mod op_rows;
 pub mod expr;
 pub mod laws;
 pub mod parse;
