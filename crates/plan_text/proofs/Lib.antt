@@ -1,4 +1,5 @@
 pub mod AllThere
+pub mod BindingLaws
 pub mod OpRowLaws
 pub mod TokenLemmas
 pub mod ReadingLemmas

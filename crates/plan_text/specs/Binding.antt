@@ -107,10 +107,14 @@ abbrev pub bound_where : named.PlainExpr → Bound → Option Bound
 bound_where test input =
     option_map (λ e. record { plan = Filter input.plan e; names = input.names; kinds = input.kinds }) (bound_expr input.names input.kinds test)
 
+-- the rows of these expressions
+abbrev pub projected : Bound → Names → List bound.PlainExpr → Option Bound
+projected input names exprs =
+    with_columns (Project input.plan exprs) names (map (λ e. kind_or_int (column_kind_of input.kinds e)) exprs)
+
 abbrev pub bound_select : List PlainColumn → Bound → Option Bound
 bound_select columns input =
-    option_and_then
-    (λ exprs. with_columns (Project input.plan exprs) (map (λ column. column.name) columns) (map (λ e. kind_or_int (column_kind_of input.kinds e)) exprs))
+    option_and_then (projected input (map (λ column. column.name) columns))
     (all_there (map (λ column. bound_expr input.names input.kinds column.expr) columns))
 
 abbrev pub bound_distinct : Bound → Bound
@@ -125,22 +129,27 @@ bound_agg names (named_agg.First column) = option_map agg.First (place_of names 
 bound_agg names (named_agg.Last column) = option_map agg.Last (place_of names column)
 bound_agg names (named_agg.Avg column) = option_map agg.Avg (place_of names column)
 
+-- the groups by the columns at these places
+abbrev pub grouped : Bound → Names → List ℕ → List Agg → Option Bound
+grouped input names places aggs =
+    with_columns (Group input.plan places aggs) names
+    (map (λ place. kind_or_int (slice_get input.kinds place)) places ++ map (λ a. kind_or_int (agg_kind input.kinds a)) aggs)
+
 -- the keys and then the aggregates
 abbrev pub bound_group : Names → List NamedResult → Bound → Option Bound
 bound_group keys results input =
-    of_both
-    (λ places aggs. with_columns (Group input.plan places aggs) (keys ++ map (λ result. result.name) results)
-        (map (λ place. kind_or_int (slice_get input.kinds place)) places ++ map (λ a. kind_or_int (agg_kind input.kinds a)) aggs))
+    of_both (grouped input (keys ++ map (λ result. result.name) results))
     (all_there (map (place_of input.names) keys)) (all_there (map (λ result. bound_agg input.names result.agg) results))
 
 abbrev pub bound_pair : Names → Names → NamedPair → Option (ℕ × ℕ)
 bound_pair lefts rights pair = of_both (λ left right. Some (left, right)) (place_of lefts pair.left) (place_of rights pair.right)
 
 -- the left columns and then the right ones
+abbrev pub joined : Bound → Bound → List (ℕ × ℕ) → Option Bound
+joined left right pairs = with_columns (Join left.plan right.plan pairs) (left.names ++ right.names) (left.kinds ++ right.kinds)
+
 abbrev pub bound_join : List NamedPair → Bound → Bound → Option Bound
-bound_join on left right =
-    option_and_then (λ pairs. with_columns (Join left.plan right.plan pairs) (left.names ++ right.names) (left.kinds ++ right.kinds))
-    (all_there (map (bound_pair left.names right.names) on))
+bound_join on left right = option_and_then (joined left right) (all_there (map (bound_pair left.names right.names) on))
 
 -- the left columns
 abbrev pub bound_concat : Bound → Bound → Option Bound

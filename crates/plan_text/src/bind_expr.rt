@@ -3,7 +3,7 @@ ghost use Rattle.std.specs.Prelude.{◌≡◌, map, IfOk};
 ghost use Rattle.std.specs.Option.{option_map};
 ghost use Rattle.plan_core.specs.PlainExpr as bound;
 ghost use Rattle.plan_core.specs.PlanTyping.{all_there};
-ghost use Rattle.plan_text.specs.PlainNamed.{expr_of};
+ghost use Rattle.plan_text.specs.PlainNamed.{expr_of, column_of};
 ghost use Rattle.plan_text.specs.Binding.{bound_expr, place_of, call1, operated, of_two, of_three};
 
 use crate::bind_names::place_of;
@@ -153,7 +153,7 @@ fn choose(
 }
 
 /// The expressions of the columns, where each is there.
-#[tactic(auto, using(crate::proofs::AllThere::found_start, crate::proofs::AllThere::found_more, crate::proofs::AllThere::found_none, crate::proofs::AllThere::found_end))]
+#[tactic(auto, using(crate::proofs::AllThere::found_start, crate::proofs::AllThere::found_more, crate::proofs::AllThere::found_none, crate::proofs::AllThere::found_end, crate::proofs::BindingLaws::exprs_of_columns))]
 pub fn bind_exprs(
     alloc: Global,
     names: &[Name],
@@ -161,7 +161,7 @@ pub fn bind_exprs(
     columns: &[NamedColumn],
 ) -> Result<Option<Vec<Expr>>, Memory>
     ensures { IfOk result (λ r. option_map (λ v. map bound.expr_of v.items) r
-        ≡ all_there (map (λ column. bound_expr names.now kinds.now (expr_of column.expr)) columns.now)) }
+        ≡ all_there (map (λ column. bound_expr names.now kinds.now column.expr) (map column_of columns.now))) }
 {
     let mut found = Vec::with_capacity(alloc, columns.len())?;
     for column in columns {

@@ -5,7 +5,7 @@ ghost use Rattle.std.specs.Option.{option_map};
 ghost use Rattle.plan_core.specs.PlanTyping.{all_there};
 ghost use Rattle.plan_text.specs.Binding.{place_of, is_there, has_repeat, bound_pair, bound_key, bound_agg};
 
-use crate::plan::{NamedAgg, NamedKey, NamedPair};
+use crate::plan::{NamedAgg, NamedKey, NamedPair, NamedResult};
 use plan_core::Agg;
 use rows_core::{Key, Memory, Name};
 use std::alloc::Global;
@@ -142,8 +142,26 @@ fn bind_key(names: &[Name], key: &NamedKey) -> Result<Option<Key>, Memory>
     Ok(column.map(|column| Key { column, down }))
 }
 
-/// The aggregate with numbers, where its column is there.
-pub fn bind_agg(names: &[Name], agg: &NamedAgg) -> Result<Option<Agg>, Memory>
+/// The aggregates of the results with numbers, where each column is there.
+#[tactic(auto, using(crate::proofs::AllThere::found_start, crate::proofs::AllThere::found_more, crate::proofs::AllThere::found_none, crate::proofs::AllThere::found_end))]
+pub fn bind_aggs(
+    alloc: Global,
+    names: &[Name],
+    results: &[NamedResult],
+) -> Result<Option<Vec<Agg>>, Memory>
+    ensures { IfOk result (λ r. option_map (λ v. v.items) r ≡ all_there (map (λ result. bound_agg names.now result.agg) results.now)) }
+{
+    let mut found = Vec::with_capacity(alloc, results.len())?;
+    for result in results {
+        let Some(agg) = bind_agg(names, &result.agg)? else {
+            return Ok(None);
+        };
+        found.push(agg)?;
+    }
+    Ok(Some(found))
+}
+
+fn bind_agg(names: &[Name], agg: &NamedAgg) -> Result<Option<Agg>, Memory>
     ensures { IfOk result (λ bound. bound ≡ bound_agg names.now agg.now) }
 {
     Ok(match agg {

@@ -1,8 +1,10 @@
 //! The text of plans: what a person writes, the canonical text, and the binding of names.
 #![tactic(auto)]
 
+pub mod bind;
 mod bind_expr;
 mod bind_names;
+mod bound;
 mod draft;
 mod op_rows;
 pub mod expr;
@@ -11,10 +13,12 @@ pub mod parse;
 mod parser;
 pub mod plan;
 pub mod refusal;
+mod result_columns;
 pub mod token;
 mod tokenizer;
 
 pub use expr::NamedExpr;
+pub use bind::bind_tree;
 pub use parse::parse_expr;
 pub use plan::{NamedAgg, NamedColumn, NamedKey, NamedPair, NamedResult, NamedTree};
 pub use refusal::{BindRefusal, PlanLimit, TextRefusal};
