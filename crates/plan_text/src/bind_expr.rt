@@ -153,7 +153,7 @@ fn choose(
 }
 
 /// The expressions of the columns, where each is there.
-#[tactic(auto, using(crate::proofs::AllThere::found_start, crate::proofs::AllThere::found_more, crate::proofs::AllThere::found_none, crate::proofs::AllThere::found_end, crate::proofs::BindingLaws::exprs_of_columns))]
+#[tactic(auto, using(crate::proofs::AllThere::found_start, crate::proofs::AllThere::found_more, crate::proofs::AllThere::found_none, crate::proofs::AllThere::found_end))]
 pub fn bind_exprs(
     alloc: Global,
     names: &[Name],

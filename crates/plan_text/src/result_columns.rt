@@ -33,7 +33,6 @@ pub fn schema_kinds(alloc: Global, columns: &[Column]) -> Result<Vec<Kind>, Memo
     Ok(kinds)
 }
 
-#[tactic(auto, using(crate::proofs::BindingLaws::names_of_columns))]
 pub fn column_names(alloc: Global, columns: &[NamedColumn]) -> Result<Vec<Name>, Memory>
     ensures { IfOk result (λ names. names.items ≡ map (λ column. column.name) (map column_of columns.now)) }
 {
@@ -45,7 +44,6 @@ pub fn column_names(alloc: Global, columns: &[NamedColumn]) -> Result<Vec<Name>,
 }
 
 /// The kinds of these expressions as columns. One that has none counts as a number: typing refuses its plan.
-#[tactic(auto, using(crate::proofs::BindingLaws::kinds_of_exprs))]
 pub fn expr_kinds(alloc: Global, kinds: &[Kind], exprs: &[Expr]) -> Result<Vec<Kind>, Memory>
     ensures { IfOk result (λ found. found.items ≡ map (λ e. kind_or_int (column_kind_of kinds.now e)) (map bound.expr_of exprs.now)) }
 {
