@@ -9,3 +9,4 @@ pub mod Sound
 pub mod OneReading
 pub mod WholeTexts
 pub mod Examples
+pub mod BindingExamples

@@ -57,9 +57,43 @@ AreOwn number [] = Unit {0}
 AreOwn number (row ∷ rows) = (own_row row ≡ Some number) × AreOwn (suc number) rows
 
 own_rows : AreOwn 0 OPS.rows
-own_rows =
-    (refl, (refl, (refl, (refl, (refl, (refl, (refl, (refl, (refl, (refl, (refl, (refl,
-    (refl, (refl, (refl, (refl, (refl, (refl, (refl, (refl, (refl, (refl, (refl, (refl, tt))))))))))))))))))))))))
+own_rows = (
+  refl,
+  (
+    refl,
+    (
+      refl,
+      (
+        refl,
+        (
+          refl,
+          (
+            refl,
+            (
+              refl,
+              (
+                refl,
+                (
+                  refl,
+                  (
+                    refl,
+                    (
+                      refl,
+                      (
+                        refl,
+                        (refl, (refl, (refl, (refl, (refl, (refl, (refl, (refl, (refl, (refl, (refl, (refl, tt)))))))))))),
+                      ),
+                    ),
+                  ),
+                ),
+              ),
+            ),
+          ),
+        ),
+      ),
+    ),
+  ),
+)
 
 own_from : (number : ℕ) (rows : List OpRow) (i : ℕ) (row : OpRow) → AreOwn number rows → slice_get rows i ≡ Some row → own_row row ≡ Some (i + number)
 own_from number [] i row own there = absurd cc

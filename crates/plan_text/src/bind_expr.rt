@@ -66,12 +66,7 @@ fn bind_column(names: &[Name], name: &Name) -> Result<Option<Expr>, Memory>
 }
 
 /// The call of the row that is for the argument's kind.
-fn call(
-    alloc: Global,
-    kinds: &[Kind],
-    op: Op,
-    arg: Option<Expr>,
-) -> Result<Option<Expr>, Memory>
+fn call(alloc: Global, kinds: &[Kind], op: Op, arg: Option<Expr>) -> Result<Option<Expr>, Memory>
     ensures { IfOk result (λ r. option_map bound.expr_of r ≡ option_map (call1 kinds.now op) (option_map bound.expr_of arg)) }
 {
     let Some(arg) = arg else {

@@ -13,7 +13,9 @@ use crate::bind_expr::{bind_expr, bind_exprs};
 use crate::bind_names::{bind_aggs, bind_columns, bind_keys, bind_pairs, has_repeat, place_of};
 use crate::expr::NamedExpr;
 use crate::plan::{NamedColumn, NamedKey, NamedPair, NamedResult};
-use crate::result_columns::{column_names, expr_kinds, group_kinds, group_names, schema_kinds, schema_names};
+use crate::result_columns::{
+    column_names, expr_kinds, group_kinds, group_names, schema_kinds, schema_names,
+};
 use plan_core::{Agg, Expr, Plan};
 use rows_core::{Kind, Memory, Name, Schema, Seq};
 use std::alloc::Global;
@@ -154,11 +156,7 @@ fn group(
     )?;
     let child = Box::new(alloc, input.plan)?;
     let (keys, aggs) = (Seq::new(places), Seq::new(aggs));
-    Ok(with_columns(
-        Plan::Group { child, keys, aggs },
-        names,
-        kinds,
-    ))
+    Ok(with_columns(Plan::Group { child, keys, aggs }, names, kinds))
 }
 
 /// Each left row with each right row that agrees with it; `None` exactly where a column isn't there, or two of the left

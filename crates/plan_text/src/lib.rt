@@ -6,9 +6,9 @@ mod bind_expr;
 mod bind_names;
 mod bound;
 mod draft;
-mod op_rows;
 pub mod expr;
 pub mod laws;
+mod op_rows;
 pub mod parse;
 mod parser;
 pub mod plan;
@@ -17,12 +17,14 @@ mod result_columns;
 pub mod token;
 mod tokenizer;
 
-pub use expr::NamedExpr;
 pub use bind::bind_tree;
+pub use expr::NamedExpr;
 pub use parse::parse_expr;
 pub use plan::{NamedAgg, NamedColumn, NamedKey, NamedPair, NamedResult, NamedTree};
 pub use refusal::{BindRefusal, PlanLimit, TextRefusal};
 pub use token::{Mark, Token, Word};
 
+#[cfg(test)]
+mod bind_tests;
 #[cfg(test)]
 mod tests;
