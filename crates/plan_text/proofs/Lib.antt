@@ -1,3 +1,6 @@
+pub mod AllThere
+pub mod BindingLaws
+pub mod OpRowLaws
 pub mod TokenLemmas
 pub mod ReadingLemmas
 pub mod DraftLemmas
@@ -19,3 +22,4 @@ pub mod CanonicalRead
 pub mod CanonicalTokens
 pub mod CanonicalExamples
 pub mod Printing
+pub mod BindingExamples

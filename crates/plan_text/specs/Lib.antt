@@ -10,3 +10,6 @@ pub mod Answer
 pub mod NamedCode
 pub mod Canonical
 pub mod PrintCode
+pub mod OpRows
+pub mod Binding
+pub mod BoundPlan

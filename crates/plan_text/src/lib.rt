@@ -1,11 +1,16 @@
 //! The text of plans: what a person writes, the canonical text, and the binding of names.
 #![tactic(auto)]
 
+pub mod bind;
+mod bind_expr;
+mod bind_names;
+mod bound;
 mod draft;
 pub mod expr;
 mod expr_printer;
 pub mod laws;
 pub mod named_plan;
+mod op_rows;
 pub mod parse;
 mod parser;
 mod part_printer;
@@ -16,9 +21,11 @@ pub mod print;
 pub mod print_laws;
 pub mod refusal;
 mod rule;
+mod result_columns;
 pub mod token;
 mod tokenizer;
 
+pub use bind::bind_tree;
 pub use expr::NamedExpr;
 pub use named_plan::NamedPlan;
 pub use parse::parse_expr;
@@ -29,5 +36,6 @@ pub use token::{Mark, Token, Word};
 
 #[cfg(test)]
 mod print_tests;
+mod bind_tests;
 #[cfg(test)]
 mod tests;
