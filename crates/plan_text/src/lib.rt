@@ -1,9 +1,9 @@
 //! The text of plans: what a person writes, the canonical text, and the binding of names.
 #![tactic(auto)]
 
-pub mod bind;
 mod bind_expr;
 mod bind_names;
+pub mod binder;
 mod bound;
 mod draft;
 pub mod expr;
@@ -20,22 +20,19 @@ pub mod plan_laws;
 pub mod print;
 pub mod print_laws;
 pub mod refusal;
-mod rule;
 mod result_columns;
+mod rule;
 pub mod token;
 mod tokenizer;
 
-pub use bind::bind_tree;
+pub use binder::bind;
 pub use expr::NamedExpr;
 pub use named_plan::NamedPlan;
 pub use parse::parse_expr;
 pub use plan::{NamedAgg, NamedColumn, NamedKey, NamedPair, NamedResult, NamedTree};
-pub use print::{print_expr, print_tree};
+pub use print::{print_expr, print_plan};
 pub use refusal::{BindRefusal, PlanLimit, TextRefusal};
 pub use token::{Mark, Token, Word};
 
-#[cfg(test)]
-mod print_tests;
-mod bind_tests;
 #[cfg(test)]
 mod tests;

@@ -4,12 +4,15 @@ ghost use Rattle.plan_text.specs.declared.token.Token.TheVariants as token;
 ghost use Rattle.plan_text.specs.declared.token.Word.TheVariants as word;
 ghost use Rattle.plan_text.specs.PlainNamed.{expr_of, column_of, tree_of};
 ghost use Rattle.plan_text.specs.Grammar.{E};
+ghost use Rattle.plan_text.specs.Answer.{SpellsText};
 ghost use Rattle.plan_text.specs.Canonical.{Space, One, text_of, in_parens, between, canonical_expr, listed, name_piece, column_pieces, pair_pieces, key_pieces, result_pieces, behind_bar, canonical, canonical_text};
 
 use crate::expr::NamedExpr;
 use crate::expr_printer::{put, put_expr, put_spaced};
+use crate::named_plan::NamedPlan;
 use crate::part_printer::put_parts;
 use crate::plan::{NamedColumn, NamedKey, NamedPair, NamedResult, NamedTree};
+use crate::print_laws::canonical_spells;
 use crate::rule::Rule;
 use crate::token::Word;
 use rows_core::{Memory, Name};
@@ -24,8 +27,16 @@ pub fn print_expr(alloc: Global, expr: &NamedExpr) -> Result<Vec<u8>, Memory>
     Ok(text)
 }
 
-/// The canonical text of a plan: single spaces, and parentheses exactly where the grammar needs them.
-pub fn print_tree(alloc: Global, tree: &NamedTree) -> Result<Vec<u8>, Memory>
+/// The canonical text of a plan, which spells it: single spaces, and parentheses exactly where the grammar needs them.
+pub fn print_plan(alloc: Global, plan: &NamedPlan) -> Result<Vec<u8>, Memory>
+    ensures text { IfOk result (λ text. text.items ≡ canonical_text plan.now) }
+    ensures spells { IfOk result (λ text. SpellsText plan.now text.items) }
+{
+    canonical_spells();
+    print_tree(alloc, plan.tree())
+}
+
+fn print_tree(alloc: Global, tree: &NamedTree) -> Result<Vec<u8>, Memory>
     ensures { IfOk result (λ text. text.items ≡ canonical_text (tree_of tree.now)) }
 {
     let mut text = Vec::new(alloc);

@@ -11,6 +11,7 @@ use crate::bound::{
     Bound, bind_concat, bind_distinct, bind_from, bind_group, bind_join, bind_order, bind_select,
     bind_where,
 };
+use crate::named_plan::NamedPlan;
 use crate::plan::NamedTree;
 use crate::refusal::BindRefusal;
 use plan_core::Plan;
@@ -22,7 +23,18 @@ use std::alloc::Global;
 /// isn't there, the first from the left; else `IllTyped` exactly where a column isn't there, two of the columns of a
 /// `select`, a `group` or a `join` have one name, or a stream has no schema. A call is of the row of `OPS` that has its
 /// operation and its arguments' kinds; where none has them it is of the operation's first row, and the plan has no typing.
-pub fn bind_tree(
+pub fn bind(
+    alloc: Global,
+    plan: &NamedPlan,
+    names: &[Name],
+    schemas: &[Schema],
+) -> Result<Plan, BindRefusal>
+    ensures { Binds result (binding names.now schemas.now plan.now) }
+{
+    bind_tree(alloc, plan.tree(), names, schemas)
+}
+
+fn bind_tree(
     alloc: Global,
     tree: &NamedTree,
     names: &[Name],
