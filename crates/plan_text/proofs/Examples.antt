@@ -80,7 +80,7 @@ ordered_plan = record {
 -- `from l | join (from r | distinct) on id = k, a = b | order id, a desc`, as it is read
 joined_read : plan_at limits 1
     (Word word.From ∷ Name (codes "l") ∷ Mark mark.Bar ∷ Word word.Join ∷ Mark mark.Open ∷ Word word.From ∷ Name (codes "r") ∷ Mark mark.Bar ∷ Word word.Distinct ∷ Mark mark.Close
-        ∷ Word word.On ∷ Name (codes "id") ∷ Mark mark.Equal ∷ Name (codes "k") ∷ Mark mark.Comma ∷ Name a ∷ Mark mark.Equal ∷ Name b ∷ Mark mark.Bar ∷ Word word.Order ∷ Name (codes "id") ∷ Mark mark.Comma ∷ Name a ∷ Word word.Desc ∷ [])
+    ∷ Word word.On ∷ Name (codes "id") ∷ Mark mark.Equal ∷ Name (codes "k") ∷ Mark mark.Comma ∷ Name a ∷ Mark mark.Equal ∷ Name b ∷ Mark mark.Bar ∷ Word word.Order ∷ Name (codes "id") ∷ Mark mark.Comma ∷ Name a ∷ Word word.Desc ∷ [])
     ≡ Some (plan_draft_of limits (Order (Join (From (codes "l")) (Distinct (From (codes "r"))) (record { left = codes "id"; right = codes "k" } ∷ record { left = a; right = b } ∷ [])) (record { column = codes "id"; down = false } ∷ record { column = a; down = true } ∷ [])), [])
 unfolding repeated inner_plan
 joined_read = refl

@@ -1,5 +1,6 @@
 pub mod TokenLemmas
 pub mod ReadingLemmas
+pub mod RepeatLemmas
 pub mod DraftLemmas
 pub mod Complete
 pub mod Sound
