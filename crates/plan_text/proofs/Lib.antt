@@ -1,6 +1,7 @@
 pub mod TokenLemmas
 pub mod ReadingLemmas
 pub mod RepeatLemmas
+pub mod StageLemmas
 pub mod DraftLemmas
 pub mod Complete
 pub mod Sound

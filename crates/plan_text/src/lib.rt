@@ -4,11 +4,13 @@
 mod draft;
 pub mod expr;
 pub mod laws;
+mod lists;
 pub mod parse;
 mod parser;
 pub mod plan;
 mod plan_draft;
 pub mod refusal;
+mod stages;
 pub mod token;
 mod tokenizer;
 

@@ -290,12 +290,13 @@ impl ColumnsDraft {
     }
 }
 
-fn pushed(columns: Vec<NamedColumn>, column: NamedColumn) -> Result<Vec<NamedColumn>, Memory>
-    ensures { IfOk result (λ all. map column_of all.items ≡ map column_of columns.items ++ column_of column ∷ []) }
+/// The items and one more.
+pub fn pushed<T: Drop>(items: Vec<T>, item: T) -> Result<Vec<T>, Memory>
+    ensures { IfOk result (λ all. all.items ≡ items.items ++ item ∷ []) }
 {
-    let mut columns = columns;
-    columns.push(column)?;
-    Ok(columns)
+    let mut items = items;
+    items.push(item)?;
+    Ok(items)
 }
 
 fn kept_columns(columns: Vec<NamedColumn>, nodes: u32) -> ColumnsDraft
