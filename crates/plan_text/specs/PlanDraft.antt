@@ -1,7 +1,7 @@
 -- What is kept of a plan while it is read: its counts, each up to one above the most, and the plan itself where no count is
 -- above. So nothing large is built, and a text of any length is read to its end.
 use Prim.Native.Nat.{suc}
-use Rattle.std.specs.Prelude.{ℕ, ◌+◌, Bool, ◌&&◌, nat_le, if◌then◌else◌, List, [], ◌∷◌, ◌++◌, map, Option, None, Some}
+use Rattle.std.specs.Prelude.{ℕ, ◌+◌, Bool, ◌&&◌, nat_le, nat_lt, if◌then◌else◌, List, [], ◌∷◌, ◌++◌, map, Option, None, Some}
 use Rattle.std.specs.List.{sum_by}
 use Rattle.std.specs.Option.{option_map}
 use Rattle.plan_core.specs.ExpressionKind.{of_both}
@@ -13,6 +13,8 @@ use Rattle.plan_text.specs.declared.plan_draft.PlanDraft as code
 use Rattle.plan_text.specs.declared.plan_draft.PlanDraft.TheVariants as draft
 use Rattle.plan_text.specs.declared.plan_draft.ColumnsDraft as code_columns
 use Rattle.plan_text.specs.declared.plan_draft.ColumnsDraft.TheVariants as columns_draft
+use Rattle.plan_text.specs.declared.refusal.PlanLimit.{PlanLimit}
+use Rattle.plan_text.specs.declared.refusal.PlanLimit.TheVariants as limit
 use Rattle.plan_text.specs.PlainNamed as plain
 use Rattle.plan_text.specs.PlainNamed.{PlainExpr, PlainColumn, PlainTree, tree_of, column_of}
 use Rattle.plan_text.specs.Counts.{expr_nodes, nodes, wide_nodes, all_expr_nodes}
@@ -43,6 +45,10 @@ plus a b = record { nodes = a.nodes + b.nodes; wide = a.wide + b.wide; exprs = a
 
 abbrev pub are_within : Counts → Counts → Bool
 are_within most counts = nat_le counts.nodes most.nodes && (nat_le counts.wide most.wide && nat_le counts.exprs most.exprs)
+
+-- the first limit that is passed, of counts that aren't all within
+abbrev pub first_above : Counts → PlanLimit
+first_above counts = if nat_lt limits.nodes counts.nodes then limit.Nodes else if nat_lt limits.wide counts.wide then limit.Wide else limit.Exprs
 
 -- the plan, where there is one and its counts are within
 abbrev pub kept_with : Counts → Option PlainTree → Counts → PlanDraft

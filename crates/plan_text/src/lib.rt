@@ -21,4 +21,6 @@ pub use refusal::{BindRefusal, PlanLimit, TextRefusal};
 pub use token::{Mark, Token, Word};
 
 #[cfg(test)]
+mod stage_tests;
+#[cfg(test)]
 mod tests;

@@ -4,12 +4,17 @@ ghost use Rattle.plan_text.specs.declared.refusal.PlanLimit.{PlanLimit};
 ghost use Rattle.plan_text.specs.PlainNamed.{PlainExpr, expr_of};
 ghost use Rattle.plan_text.specs.Counts.{expr_nodes};
 ghost use Rattle.plan_text.specs.Reading.{expr_at, inner};
-ghost use Rattle.plan_text.specs.Answer.{SpellsExpr, MeansWhole};
+ghost use Rattle.plan_text.specs.Answer.{SpellsExpr, MeansWhole, MeansPlan};
+ghost use Rattle.plan_text.specs.PlanDraft.{limits};
+ghost use Rattle.plan_text.specs.PlanReading.{plan_at};
 
 use crate::draft::Draft;
 use crate::expr::NamedExpr;
 use crate::parser::expr;
+use crate::plan::NamedTree;
+use crate::plan_draft::PlanDraft;
 use crate::refusal::{PlanLimit, TextRefusal};
+use crate::stages::plan;
 use crate::token::Token;
 use crate::tokenizer::tokens_of;
 use std::alloc::Global;
@@ -45,6 +50,22 @@ fn whole_expr(alloc: Global, tokens: &[Token]) -> Result<NamedExpr, TextRefusal>
         Draft::Whole { expr, nodes: _ } => Ok(expr),
         Draft::TooMany => Err(TextRefusal::Limit {
             what: PlanLimit::Exprs,
+        }),
+    }
+}
+
+/// The plan that the tokens are.
+pub fn whole_plan(alloc: Global, tokens: &[Token]) -> Result<NamedTree, TextRefusal>
+    ensures { MeansPlan result (plan_at limits 32 tokens.now) }
+{
+    let (draft, behind) = plan(alloc, MAX_LEVELS, tokens)?;
+    if !behind.is_empty() {
+        return Err(TextRefusal::Syntax);
+    }
+    match draft {
+        PlanDraft::Whole { tree, counts: _ } => Ok(tree),
+        PlanDraft::TooMany { counts } => Err(TextRefusal::Limit {
+            what: counts.first_above(),
         }),
     }
 }

@@ -3,11 +3,12 @@ ghost use Rattle.std.specs.Prelude.{◌≡◌, ◌+◌, ◌≤◌, ◌++◌, ◌
 ghost use Rattle.std.specs.Option.{option_map};
 ghost use Rattle.plan_text.specs.PlainNamed.{tree_of, expr_of, column_of};
 ghost use Rattle.plan_text.specs.Draft.{seen};
-ghost use Rattle.plan_text.specs.PlanDraft.{seen_plan, limits, up_to, capped, plus, are_within, kept_with, tree_in, counts_in, expr_in, nodes_in, seen_columns, no_columns, kept_columns, with_column, columns_in, column_nodes_in, from_draft, where_draft, select_draft, distinct_draft, group_draft, join_draft, concat_draft, order_draft};
+ghost use Rattle.plan_text.specs.PlanDraft.{seen_plan, limits, up_to, capped, plus, are_within, first_above, kept_with, tree_in, counts_in, expr_in, nodes_in, seen_columns, no_columns, kept_columns, with_column, columns_in, column_nodes_in, from_draft, where_draft, select_draft, distinct_draft, group_draft, join_draft, concat_draft, order_draft};
 
 use crate::draft::Draft;
 use crate::expr::NamedExpr;
 use crate::plan::{NamedColumn, NamedKey, NamedPair, NamedResult, NamedTree};
+use crate::refusal::PlanLimit;
 use rows_core::{Memory, Name, Seq};
 use std::alloc::Global;
 
@@ -62,6 +63,19 @@ impl Counts {
         ensures { result ≡ are_within limits self }
     {
         self.nodes <= MOST_NODES && (self.wide <= MOST_WIDE && self.exprs <= MOST_EXPRS)
+    }
+
+    /// The first limit that is passed, of counts that aren't all within.
+    pub fn first_above(self) -> PlanLimit
+        ensures { result ≡ first_above self }
+    {
+        if self.nodes > MOST_NODES {
+            PlanLimit::Nodes
+        } else if self.wide > MOST_WIDE {
+            PlanLimit::Wide
+        } else {
+            PlanLimit::Exprs
+        }
     }
 }
 
@@ -214,8 +228,8 @@ pub fn joined(
     ensures { IfOk result (λ draft. seen_plan draft ≡ join_draft limits (seen_plan plan) (seen_plan right) on.items) }
 {
     let (left, counts) = parts(plan);
-    let (right, others) = parts(right);
-    let counts = counts.plus(others).plus(wide());
+    let (right, right_counts) = parts(right);
+    let counts = counts.plus(right_counts).plus(wide());
     let Some(left) = left else {
         return Ok(PlanDraft::TooMany { counts });
     };
