@@ -1,6 +1,6 @@
 -- What is read again and again, behind a separator each time.
 use Prim.Native.Nat.{zero, suc}
-use Rattle.std.proofs.Common.{◌≡◌, refl, sym, ap, ◌∙◌, ℕ, ◌<◌, ◌-◌, List, length, Option, Some, None, Err, Result, arith}
+use Rattle.std.proofs.Common.{◌≡◌, sym, ap, ◌∙◌, ℕ, ◌<◌, ◌-◌, List, length, Option, Some, None, Err, arith}
 use Rattle.plan_text.specs.declared.token.Token.{Token}
 use Rattle.plan_text.specs.declared.refusal.TextRefusal.{TextRefusal}
 use Rattle.plan_text.specs.declared.refusal.TextRefusal.TheVariants as refusal
