@@ -3,6 +3,8 @@ pub mod BindingLaws
 pub mod OpRowLaws
 pub mod TokenLemmas
 pub mod ReadingLemmas
+pub mod RepeatLemmas
+pub mod StageLemmas
 pub mod DraftLemmas
 pub mod PlanDraftLemmas
 pub mod Repeats

@@ -1,14 +1,18 @@
 -- What a whole text spells as a plan, within the limits or beyond them.
-use Rattle.std.proofs.Common.{◌≡◌, refl, sym, subst, ℕ, ◌≤◌, ◌<◌, Bool, true, false, cond, nat_lt, nat_le, List, [], Some, arith}
+use Rattle.std.proofs.Common.{◌≡◌, refl, sym, subst, ℕ, ◌≤◌, ◌<◌, Bool, true, false, cond, nat_lt, nat_le, List, [], Some, ◌∙◌, Result, Ok, Err, IfOk, arith}
 use Rattle.std.proofs.lemmas.Bool.Decides.{nat_tests}
 use Rattle.plan_text.specs.declared.token.Token.{Token}
+use Rattle.plan_text.specs.declared.plan.NamedTree as code_tree
 use Rattle.plan_text.specs.declared.plan_draft.Counts.{Counts}
+use Rattle.plan_text.specs.declared.refusal.PlanLimit.{PlanLimit}
+use Rattle.plan_text.specs.declared.refusal.TextRefusal.{TextRefusal}
+use Rattle.plan_text.specs.declared.refusal.TextRefusal.TheVariants as refusal
 use Rattle.plan_text.specs.declared.refusal.PlanLimit.TheVariants.{Nodes, Wide, Exprs}
 use Rattle.plan_text.specs.Token.{AreTokens}
-use Rattle.plan_text.specs.PlainNamed.{PlainTree}
+use Rattle.plan_text.specs.PlainNamed.{PlainTree, tree_of}
 use Rattle.plan_text.specs.Counts.{nodes, wide_nodes, all_expr_nodes, IsFirstPassed, IsWithinLimits}
 use Rattle.plan_text.specs.Grammar.{SpellsPlan}
-use Rattle.plan_text.specs.Answer.{SpellsText}
+use Rattle.plan_text.specs.Answer.{SpellsText, MeansPlan}
 use Rattle.plan_text.specs.PlanDraft.{PlanDraft, WholePlan, TooLarge, limits, first_above, up_to, capped, are_within, counts_of, plan_draft_of}
 use Rattle.plan_text.specs.PlanReading.{plan_at}
 use Rattle.plan_text.proofs.WholeTexts.{one_list}
@@ -94,3 +98,24 @@ module _ (text : List ℕ) (tokens : List Token) (are : AreTokens tokens text) w
 
 pub no_tokens_no_plan : (text : List ℕ) → ((tokens : List Token) → AreTokens tokens text → ⊥) → (p : PlainTree) → SpellsText p text → ⊥
 no_tokens_no_plan text none p s = none s.tokens s.are
+
+-- what the answer says of the text
+module _ (text : List ℕ) (tokens : List Token) (are : AreTokens tokens text) where
+  pub plan_found : (r : Result code_tree.NamedTree TextRefusal) → MeansPlan r (plan_at limits 32 tokens) → IfOk r (λ tree. SpellsText (tree_of tree) text × IsWithinLimits (tree_of tree))
+  plan_found (Ok tree) m = whole_plan_spelled text tokens are (tree_of tree) m.0 m.1
+  plan_found (Err e) m = tt
+
+  pub plan_syntax : (r : Result code_tree.NamedTree TextRefusal) → MeansPlan r (plan_at limits 32 tokens) → r ≡ Err refusal.Syntax → (p : PlainTree) → SpellsText p text → ⊥
+  plan_syntax (Ok tree) m is = absurd (cc is)
+  plan_syntax (Err refusal.Syntax) m is = no_plan_spelled text tokens are m
+  plan_syntax (Err (refusal.Limit what)) m is = absurd (cc is)
+  plan_syntax (Err refusal.Memory) m is = absurd (cc is)
+
+  pub plan_limit : (r : Result code_tree.NamedTree TextRefusal) → MeansPlan r (plan_at limits 32 tokens) → (what : PlanLimit) → r ≡ Err (refusal.Limit what) → (p : PlainTree) × SpellsText p text × IsFirstPassed what p
+  plan_limit (Ok tree) m what is = absurd (cc is)
+  plan_limit (Err refusal.Syntax) m what is = absurd (cc is)
+  plan_limit (Err (refusal.Limit other)) m what is =
+      let same : other ≡ what = cc is in
+      let large = too_large_spelled text tokens are m.0 m.1 in
+      (large.0, large.1, subst (λ w. IsFirstPassed w large.0) (sym m.2 ∙ same) large.2)
+  plan_limit (Err refusal.Memory) m what is = absurd (cc is)

@@ -2,15 +2,19 @@
 use Rattle.std.specs.Prelude.{◌≡◌, ◌≢◌, ℕ, List, [], Result, Ok, Err, Some}
 use Rattle.plan_text.specs.declared.token.Token.{Token}
 use Rattle.plan_text.specs.declared.expr.NamedExpr as code
+use Rattle.plan_text.specs.declared.plan.NamedTree as code_tree
+use Rattle.plan_text.specs.declared.plan_draft.Counts.{Counts}
 use Rattle.plan_text.specs.declared.refusal.PlanLimit.TheVariants as limit
 use Rattle.plan_text.specs.declared.refusal.TextRefusal.{TextRefusal}
 use Rattle.plan_text.specs.declared.refusal.TextRefusal.TheVariants as refusal
 use Rattle.plan_text.specs.Token.{AreTokens}
-use Rattle.plan_text.specs.PlainNamed.{PlainExpr, PlainTree, expr_of}
+use Rattle.plan_text.specs.PlainNamed.{PlainExpr, PlainTree, expr_of, tree_of}
 use Rattle.plan_text.specs.Grammar.{Spells, E, SpellsPlan}
 use Rattle.plan_text.specs.Counts.{IsWithinLimits}
 use Rattle.plan_text.specs.Draft.{PlainDraft, Whole, TooMany}
 use Rattle.plan_text.specs.Reading.{Read}
+use Rattle.plan_text.specs.PlanDraft.{PlanDraft, WholePlan, TooLarge, first_above}
+use Rattle.plan_text.specs.PlanReading.{ReadOf}
 
 -- The text spells the expression, with at most 32 levels open.
 pub record SpellsExpr (e : PlainExpr) (text : List ℕ) : Type 0 where
@@ -36,3 +40,11 @@ MeansWhole (Err (refusal.Limit limit.Nodes)) read = ⊥
 MeansWhole (Err (refusal.Limit limit.Wide)) read = ⊥
 MeansWhole (Err (refusal.Limit limit.Exprs)) read = read ≡ Some (TooMany, [])
 MeansWhole (Err refusal.Memory) read = Unit {0}
+
+-- the answer is the plan that was read up to the end, or why there is none: the first limit that its counts pass, or that no
+-- plan was read
+abbrev pub MeansPlan : Result code_tree.NamedTree TextRefusal → ReadOf PlanDraft → Type 0
+MeansPlan (Ok tree) read = (counts : Counts) × (read ≡ Some (WholePlan (tree_of tree) counts, []))
+MeansPlan (Err refusal.Syntax) read = (d : PlanDraft) → read ≢ Some (d, [])
+MeansPlan (Err (refusal.Limit what)) read = (counts : Counts) × (read ≡ Some (TooLarge counts, [])) × (what ≡ first_above counts)
+MeansPlan (Err refusal.Memory) read = Unit {0}

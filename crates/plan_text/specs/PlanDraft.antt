@@ -33,10 +33,6 @@ seen_plan (draft.TooMany counts) = TooLarge counts
 abbrev pub limits : Counts
 limits = record { nodes = 40; wide = 8; exprs = 512 }
 
--- the first limit that these counts pass, where they pass one
-abbrev pub first_above : Counts → PlanLimit
-first_above counts = if nat_lt 40 counts.nodes then Nodes else if nat_lt 8 counts.wide then Wide else Exprs
-
 -- the number, or one above the most where it is greater
 abbrev pub up_to : ℕ → ℕ → ℕ
 up_to most n = if nat_le n most then n else suc most
@@ -49,6 +45,10 @@ plus a b = record { nodes = a.nodes + b.nodes; wide = a.wide + b.wide; exprs = a
 
 abbrev pub are_within : Counts → Counts → Bool
 are_within most counts = nat_le counts.nodes most.nodes && (nat_le counts.wide most.wide && nat_le counts.exprs most.exprs)
+
+-- the first limit that is passed, of counts that aren't all within
+abbrev pub first_above : Counts → PlanLimit
+first_above counts = if nat_lt limits.nodes counts.nodes then Nodes else if nat_lt limits.wide counts.wide then Wide else Exprs
 
 -- the plan, where there is one and its counts are within
 abbrev pub kept_with : Counts → Option PlainTree → Counts → PlanDraft

@@ -1,8 +1,9 @@
 -- How tokens are read as a plan, rule by rule: what is read at their front, and what stands behind it. Plans within `most` are
 -- kept. The laws that tie it to the grammar are in proofs.
 use Prim.Native.Nat.{zero, suc}
-use Rattle.std.specs.Prelude.{◌≡◌, ◌≢◌, ℕ, List, [], ◌∷◌, ◌++◌, length, Option, None, Some, Result, Ok, Err, true, false, codes, bytes_eq, if◌then◌else◌}
+use Rattle.std.specs.Prelude.{◌≡◌, ℕ, List, [], ◌∷◌, ◌++◌, length, Option, None, Some, Result, Ok, Err, true, false, codes, bytes_eq, if◌then◌else◌, Vec}
 use Rattle.std.specs.Borrow.{Bor}
+use Rattle.std.specs.declared.alloc.Global.{Global}
 use Rattle.std.specs.Option.{option_map, option_and_then}
 use Rattle.plan_text.specs.declared.token.Token.{Token}
 use Rattle.plan_text.specs.declared.token.Token.TheVariants.{Name, Word, Mark}
@@ -187,6 +188,10 @@ inner_plan most (suc levels) ts = plan_with most (inner_plan most levels) levels
 -- a plan with at most so many levels open
 abbrev pub plan_at : Counts → ℕ → PlanReader
 plan_at most levels = plan_with most (inner_plan most levels) levels
+
+-- what a list of the code says
+abbrev pub items_of : {A : Type 0} → Vec A Global → List A
+items_of v = v.items
 
 -- the answer is what is read, or no more is known than that memory was refused
 abbrev pub ReadsAs : {A B : Type 0} → (A → B) → Result (A × Bor (List Token)) TextRefusal → ReadOf B → Type 0

@@ -21,7 +21,7 @@ use Rattle.plan_text.specs.declared.refusal.TextRefusal.TheVariants as refusal
 use Rattle.plan_text.specs.Token.{greatest_number}
 use Rattle.plan_text.specs.PlainNamed.{PlainExpr, Column, Literal, Call1, Call2, And, Or, If}
 use Rattle.plan_text.specs.Grammar.{compare_op, sum_op, mul_op}
-use Rattle.plan_text.specs.Draft.{PlainDraft, Whole, kept, with1, with2, with3, seen}
+use Rattle.plan_text.specs.Draft.{PlainDraft, kept, with1, with2, with3, seen}
 
 abbrev pub Read : Type 0
 Read = Option (PlainDraft × List Token)

@@ -9,6 +9,7 @@ mod draft;
 pub mod expr;
 mod expr_printer;
 pub mod laws;
+mod lists;
 pub mod named_plan;
 mod op_rows;
 pub mod parse;
@@ -22,17 +23,20 @@ pub mod print_laws;
 pub mod refusal;
 mod result_columns;
 mod rule;
+mod stages;
 pub mod token;
 mod tokenizer;
 
 pub use binder::bind;
 pub use expr::NamedExpr;
 pub use named_plan::NamedPlan;
-pub use parse::parse_expr;
+pub use parse::{parse_expr, parse_plan};
 pub use plan::{NamedAgg, NamedColumn, NamedKey, NamedPair, NamedResult, NamedTree};
 pub use print::{print_expr, print_plan};
 pub use refusal::{BindRefusal, PlanLimit, TextRefusal};
 pub use token::{Mark, Token, Word};
 
+#[cfg(test)]
+mod stage_tests;
 #[cfg(test)]
 mod tests;

@@ -16,7 +16,7 @@ use scalar_ops::{Cell, Op};
 use std::alloc::Global;
 
 /// The comma that must stand here.
-fn behind_comma(tokens: &[Token]) -> Option<&[Token]>
+pub fn behind_comma(tokens: &[Token]) -> Option<&[Token]>
     ensures rest { option_copied result ≡ behind_comma tokens.now }
     ensures shorter { IfSome result (λ rest. length rest.now < length tokens.now) }
 {
@@ -27,7 +27,7 @@ fn behind_comma(tokens: &[Token]) -> Option<&[Token]>
 }
 
 /// The parenthesis that must stand here.
-fn behind_open(tokens: &[Token]) -> Option<&[Token]>
+pub fn behind_open(tokens: &[Token]) -> Option<&[Token]>
     ensures rest { option_copied result ≡ behind_open tokens.now }
     ensures shorter { IfSome result (λ rest. length rest.now < length tokens.now) }
 {
