@@ -19,6 +19,7 @@ pub mod OnePlan
 pub mod WholePlans
 pub mod Examples
 pub mod PlanExamples
+pub mod LargePlans
 pub mod CanonicalSpelled
 pub mod CanonicalRead
 pub mod CanonicalTokens

@@ -37,6 +37,4 @@ pub use refusal::{BindRefusal, PlanLimit, TextRefusal};
 pub use token::{Mark, Token, Word};
 
 #[cfg(test)]
-mod stage_tests;
-#[cfg(test)]
 mod tests;
