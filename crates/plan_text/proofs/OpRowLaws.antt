@@ -1,6 +1,6 @@
 -- Each operation has at most one row of the table for any kinds.
-use Rattle.std.proofs.Common.{◌≡◌, refl, sym, ap, subst, ◌∙◌, ℕ, zero, suc, ◌+◌, ◌<◌, Bool, true, false, ◌&&◌, cond, List, [], ◌∷◌, map, length, slice_get, get_or, Option, None, Some, All, arith}
-use Rattle.std.proofs.lemmas.Bool.{false≢true}
+use Rattle.std.proofs.Common.{◌≡◌, refl, sym, ap, subst, ◌∙◌, ℕ, zero, suc, ◌+◌, ◌<◌, Bool, true, false, ◌&&◌, ◌==◌, cond, List, [], ◌∷◌, map, length, slice_get, get_or, Option, None, Some, All, arith}
+use Rattle.std.proofs.lemmas.Bool.{false≢true, eqb-true}
 use Rattle.std.specs.Bool.{Decides}
 use Rattle.std.specs.Option.{option_map, IsSomeAnd}
 use Rattle.std.proofs.lemmas.Option.{slice_get_within}
@@ -51,66 +51,38 @@ same_cell_kind-Decides _ _ = (λ e. absurd (false≢true e), λ e. cc)
 abbrev own_row : OpRow → Option ℕ
 own_row row = position (is_row_for row.op (kinds_of_args row.args)) OPS.rows
 
+abbrev is_place : ℕ → Option ℕ → Bool
+is_place number None = false
+is_place number (Some place) = place == number
+
+place_is : (number : ℕ) (o : Option ℕ) → is_place number o ≡ true → o ≡ Some number
+place_is number None e = absurd (false≢true e)
+place_is number (Some place) e = ap Some (eqb-true place number e)
+
 -- the rows, counted from this number on, are their own
-abbrev AreOwn : ℕ → List OpRow → Type 0
-AreOwn number [] = Unit {0}
-AreOwn number (row ∷ rows) = (own_row row ≡ Some number) × AreOwn (suc number) rows
+abbrev are_own : ℕ → List OpRow → Bool
+are_own number [] = true
+are_own number (row ∷ rows) = is_place number (own_row row) && are_own (suc number) rows
 
-own_rows : AreOwn 0 OPS.rows
-own_rows = (
-  refl,
-  (
-    refl,
-    (
-      refl,
-      (
-        refl,
-        (
-          refl,
-          (
-            refl,
-            (
-              refl,
-              (
-                refl,
-                (
-                  refl,
-                  (
-                    refl,
-                    (
-                      refl,
-                      (
-                        refl,
-                        (refl, (refl, (refl, (refl, (refl, (refl, (refl, (refl, (refl, (refl, (refl, (refl, tt)))))))))))),
-                      ),
-                    ),
-                  ),
-                ),
-              ),
-            ),
-          ),
-        ),
-      ),
-    ),
-  ),
-)
-
-own_from : (number : ℕ) (rows : List OpRow) (i : ℕ) (row : OpRow) → AreOwn number rows → slice_get rows i ≡ Some row → own_row row ≡ Some (i + number)
-own_from number [] i row own there = absurd cc
-own_from number (first ∷ rows) zero row own there =
-    let same : first ≡ row = cc in
-    let here : number ≡ zero + number = omega arith in
-    ap own_row (sym same) ∙ own.0 ∙ ap Some here
-own_from number (first ∷ rows) (suc i) row own there =
-    let next : i + suc number ≡ suc i + number = omega arith in
-    own_from (suc number) rows i row own.1 there ∙ ap Some next
-
-some_row : OpRow
-some_row = record { op = op.Not; args = One kind.Bool; result = kind.Bool; overflows = false }
+own_rows : are_own 0 OPS.rows ≡ true
+own_rows = refl
 
 and_parts : (a b : Bool) → (a && b) ≡ true → (a ≡ true) × (b ≡ true)
 and_parts true b e = (refl, e)
 and_parts false b e = absurd (false≢true e)
+
+own_from : (number : ℕ) (rows : List OpRow) (i : ℕ) (row : OpRow) → are_own number rows ≡ true → slice_get rows i ≡ Some row → own_row row ≡ Some (i + number)
+own_from number [] i row own there = absurd cc
+own_from number (first ∷ rows) zero row own there =
+    let same : first ≡ row = cc in
+    let here : number ≡ zero + number = omega arith in
+    ap own_row (sym same) ∙ place_is number (own_row first) (and_parts _ _ own).0 ∙ ap Some here
+own_from number (first ∷ rows) (suc i) row own there =
+    let next : i + suc number ≡ suc i + number = omega arith in
+    own_from (suc number) rows i row (and_parts (is_place number (own_row first)) _ own).1 there ∙ ap Some next
+
+some_row : OpRow
+some_row = record { op = op.Not; args = One kind.Bool; result = kind.Bool; overflows = false }
 
 is_row : (o : Op) (kinds : List CellKind) (row : OpRow) → is_row_for o kinds row ≡ true → IsRowFor o kinds row
 is_row o kinds row e =
