@@ -1,5 +1,6 @@
 pub mod AllThere
 pub mod BindingLaws
+pub mod BoundKinds
 pub mod OpRowLaws
 pub mod TokenLemmas
 pub mod ReadingLemmas

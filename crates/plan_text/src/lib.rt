@@ -3,6 +3,7 @@
 
 pub mod bind;
 mod bind_expr;
+pub mod bind_laws;
 mod bind_names;
 mod bound;
 mod draft;
