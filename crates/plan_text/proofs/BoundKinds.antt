@@ -47,7 +47,7 @@ if_some : {A : Type 0} (refused : Bool) (o : Option A) (y : A) → cond refused 
 if_some true o y e = absurd cc
 if_some false o y e = e
 
-where_some : {A : Type 0} (kept : Bool) (x y : A) → cond kept (Some x) None ≡ Some y → x ≡ y
+pub where_some : {A : Type 0} (kept : Bool) (x y : A) → cond kept (Some x) None ≡ Some y → x ≡ y
 where_some true x y e = cc
 where_some false x y e = absurd cc
 

@@ -1,9 +1,9 @@
 -- Each operation has at most one row of the table for any kinds.
-use Rattle.std.proofs.Common.{◌≡◌, refl, sym, ap, subst, ◌∙◌, ℕ, zero, suc, ◌+◌, ◌<◌, Bool, true, false, ◌&&◌, ◌==◌, cond, List, [], ◌∷◌, map, length, slice_get, get_or, Option, None, Some, All, arith}
+use Rattle.std.proofs.Common.{◌≡◌, refl, sym, ap, subst, ◌∙◌, ℕ, zero, suc, ◌+◌, ◌<◌, Bool, true, false, ◌&&◌, ◌==◌, cond, List, [], ◌∷◌, map, length, slice_get, get_or, Option, None, Some, All, arith, unwrap_or, IsSome}
 use Rattle.std.proofs.lemmas.Bool.{false≢true, eqb-true}
 use Rattle.std.specs.Bool.{Decides}
-use Rattle.std.specs.Option.{option_map, IsSomeAnd}
-use Rattle.std.proofs.lemmas.Option.{slice_get_within}
+use Rattle.std.specs.Option.{option_map, option_and_then, IsSomeAnd}
+use Rattle.std.proofs.lemmas.Option.{slice_get_within, slice_get-get_or}
 use Rattle.std.proofs.lemmas.List.Elements.{All-get_or}
 use Rattle.std.proofs.lemmas.List.Quantifiers.{position-Some}
 use Rattle.scalar_ops.specs.declared.table.Args.TheVariants.{One}
@@ -16,9 +16,11 @@ use Rattle.scalar_ops.specs.declared.table.Op.TheVariants as op
 use Rattle.scalar_ops.specs.declared.table.OpRow.{OpRow}
 use Rattle.scalar_ops.specs.declared.table.TheConstants.{OPS}
 use Rattle.scalar_ops.specs.Table.{kinds_of_args, IsRowFor}
-use Rattle.plan_core.specs.ExpressionKind.{same_cell_kind}
+use Rattle.scalar_ops.specs.Meaning.{op_at}
+use Rattle.plan_core.specs.PlanTyping.{all_there}
+use Rattle.plan_core.specs.ExpressionKind.{same_cell_kind, call_kind}
 use Rattle.plan_core.specs.ValueKinds.{slice_get-map}
-use Rattle.plan_text.specs.OpRows.{same_op, is_row_for, row_with, first_row}
+use Rattle.plan_text.specs.OpRows.{same_op, is_row_for, row_with, first_row, row_for}
 
 pub same_op-Decides : (a b : Op) → Decides (same_op a b) (a ≡ b)
 same_op-Decides op.Add op.Add = (λ e. refl, λ e. refl)
@@ -125,3 +127,66 @@ no_row o kinds all = go (position (is_row_for o kinds) OPS.rows) refl
 
 pub first_below : (o : Op) (i : ℕ) → position (λ row. same_op row.op o) OPS.rows ≡ Some i → i < 24
 first_below o i e = (position-Some (λ row. same_op row.op o) OPS.rows i some_row e).0
+
+-- ---- the row of a call
+
+row_operation : (o : Op) (row : OpRow) (i : ℕ) → slice_get OPS.rows i ≡ Some row → row.op ≡ o → op_at i ≡ o
+row_operation o row i there e = ap (λ (r : Option OpRow). unwrap_or (option_map (λ r. r.op) r) op.Not) there ∙ e
+
+with_operation : (o : Op) (kinds : List CellKind) (i : ℕ) → row_with o kinds ≡ Some i → op_at i ≡ o
+unfolding row_with
+with_operation o kinds i e =
+    let found = position-Some (is_row_for o kinds) OPS.rows i some_row e in
+    row_operation o (get_or OPS.rows i some_row) i (slice_get-get_or OPS.rows i some_row found.0) (is_row o kinds (get_or OPS.rows i some_row) found.1).0
+
+first_operation : (o : Op) → op_at (first_row o) ≡ o
+unfolding first_row
+first_operation op.Add = refl
+first_operation op.Sub = refl
+first_operation op.Mul = refl
+first_operation op.Neg = refl
+first_operation op.Abs = refl
+first_operation op.Div = refl
+first_operation op.Mod = refl
+first_operation op.Least = refl
+first_operation op.Most = refl
+first_operation op.Eq = refl
+first_operation op.Ne = refl
+first_operation op.Lt = refl
+first_operation op.Le = refl
+first_operation op.Gt = refl
+first_operation op.Ge = refl
+first_operation op.Len = refl
+first_operation op.Starts = refl
+first_operation op.Not = refl
+
+pub keeps_operation : (o : Op) (kinds : List (Option CellKind)) → op_at (row_for o kinds) ≡ o
+keeps_operation o kinds = go (all_there kinds)
+  where
+    by_row : (ks : List CellKind) (r : Option ℕ) → row_with o ks ≡ r → op_at (unwrap_or r (first_row o)) ≡ o
+    by_row ks None e = first_operation o
+    by_row ks (Some i) e = with_operation o ks i e
+
+    go : (ks : Option (List CellKind)) → op_at (unwrap_or (option_and_then (row_with o) ks) (first_row o)) ≡ o
+    go None = first_operation o
+    go (Some ks) = by_row ks (row_with o ks) refl
+
+all_there-some : {A : Type 0} (xs : List A) → all_there (map Some xs) ≡ Some xs
+all_there-some [] = refl
+all_there-some (x ∷ xs) = ap (option_and_then (λ others. Some (x ∷ others))) (all_there-some xs)
+
+-- a row that has the operation and gives a kind at these kinds is the one that is chosen
+pub row_of_kinds : (o : Op) (kinds : List CellKind) (i : ℕ) → op_at i ≡ o → IsSome (call_kind i kinds) → row_for o (map Some kinds) ≡ i
+row_of_kinds o kinds i e typed =
+    ap (λ (ks : Option (List CellKind)). unwrap_or (option_and_then (row_with o) ks) (first_row o)) (all_there-some kinds)
+    ∙ ap (λ (r : Option ℕ). unwrap_or r (first_row o)) (found_row o kinds i (go (slice_get OPS.rows i) refl typed))
+  where
+    fits : (r : OpRow) (same : Bool) → pointwise same_cell_kind kinds (kinds_of_args r.args) ≡ same → IsSome (cond same (Some r.result) None) → kinds_of_args r.args ≡ kinds
+    fits r true is some = sym ((pointwise_decides same_cell_kind-Decides kinds (kinds_of_args r.args)).0 is)
+    fits r false is some = absurd (false≢true some)
+
+    go : (r : Option OpRow) → slice_get OPS.rows i ≡ r
+        → IsSome (option_and_then (λ r. cond (pointwise same_cell_kind kinds (kinds_of_args r.args)) (Some r.result) None) r)
+        → IsSomeAnd r (IsRowFor o kinds)
+    go None there some = absurd (false≢true some)
+    go (Some r) there some = (sym (row_operation r.op r i there refl) ∙ e, fits r _ refl some)
