@@ -1,15 +1,10 @@
 -- The kinds that binding keeps are those of the typing, where the bound plan has one.
-use Rattle.std.proofs.Common.{◌≡◌, ◌∙◌, refl, sym, ap, subst, ℕ, Bool, true, false, cond, List, [], ◌∷◌, ◌++◌, map, slice_get, Option, None, Some, unwrap_or}
+use Rattle.std.proofs.Common.{◌≡◌, ◌∙◌, refl, sym, ap, subst, ℕ, Bool, true, false, cond, List, [], ◌∷◌, ◌++◌, map, slice_get, Option, None, Some}
 use Rattle.std.specs.Option.{option_map, option_and_then}
-use Rattle.std.specs.List.{list_all}
-use Rattle.std.specs.Cmp.Lexicographic.{pointwise}
 use Rattle.rows_core.specs.declared.kind.Kind as a_kind
-use Rattle.rows_core.specs.declared.order.Key.{Key}
 use Rattle.rows_core.specs.declared.schema.Column as schema
 use Rattle.rows_core.specs.Schema.{kinds_of}
-use Rattle.plan_core.specs.declared.agg.Agg.{Agg}
-use Rattle.plan_core.specs.PlainExpr as bound
-use Rattle.plan_core.specs.PlainPlan.{PlainPlan, Scan, Filter, Project, Distinct, Group, Join, Concat, Order}
+use Rattle.plan_core.specs.PlainPlan.{PlainPlan, Scan, Filter, Project, Group, Join, Concat, Order}
 use Rattle.plan_core.specs.ExpressionKind.{of_both}
 use Rattle.plan_core.specs.PlanTyping.{Kinds, all_there, is_empty, plan_kinds, filter_kinds, project_kinds, group_kinds, join_kinds, concat_kinds, order_kinds, column_kind_of, agg_kind}
 use Rattle.plan_core.specs.ValueKinds.{slice_get-map}

@@ -1,10 +1,9 @@
 -- The leaves of a bound plan are the places of the streams.
-use Rattle.std.proofs.Common.{◌≡◌, ◌∙◌, sym, ap, ℕ, true, List, [], ◌∷◌, ◌++◌, map, slice_get, Option, None, Some}
-use Rattle.std.specs.Option.{option_map, option_and_then}
+use Rattle.std.proofs.Common.{◌≡◌, ◌∙◌, sym, ap, ℕ, true, List, [], ◌∷◌, ◌++◌, map, slice_get, Option, Some}
 use Rattle.std.proofs.lemmas.List.{map-append}
 use Rattle.rows_core.specs.declared.schema.Column as schema
 use Rattle.rows_core.specs.Schema.{kinds_of}
-use Rattle.plan_core.specs.PlainPlan.{PlainPlan, Scan, Filter, Project, Distinct, Group, Join, Concat, Order, leaves}
+use Rattle.plan_core.specs.PlainPlan.{PlainPlan, Scan, Filter, Project, Group, Join, Concat, Order, leaves}
 use Rattle.plan_core.specs.PlanTyping.{Kinds, all_there, column_kind_of, agg_kind}
 use Rattle.plan_text.specs.declared.plan.NamedResult.{NamedResult}
 use Rattle.plan_text.specs.declared.plan.NamedPair.{NamedPair}
@@ -12,7 +11,7 @@ use Rattle.plan_text.specs.declared.plan.NamedKey.{NamedKey}
 use Rattle.plan_text.specs.PlainNamed as named
 use Rattle.plan_text.specs.PlainNamed.{PlainColumn, PlainTree, From, Where, Select, streams_of}
 use Rattle.plan_text.specs.Binding.{Names, Bound, kind_or_int, with_columns, bound_expr, bound_agg, bound_pair, bound_key, place_of, projected, grouped, joined, bound_scan, bound_from, bound_where, bound_select, bound_distinct, bound_group, bound_join, bound_concat, bound_order, bound_tree}
-use Rattle.plan_text.proofs.BoundKinds.{then_some, map_some, AreBoth, both_some, where_some, columns_some}
+use Rattle.plan_text.proofs.BoundKinds.{then_some, map_some, both_some, where_some, columns_some}
 
 -- with columns or not, the plan stays the same
 with_columns_leaves : (plan : PlainPlan) (names : Names) (kinds : Kinds) (b : Bound) → with_columns plan names kinds ≡ Some b → leaves b.plan ≡ leaves plan
@@ -58,8 +57,8 @@ module _ (streams : Names) (schemas : List (List schema.Column)) where
   from_leaves stream b is =
       let number = then_some (bound_scan schemas) (place_of streams stream) b is in
       let columns = map_some
-          (λ columns. record { plan = Scan number.0; names = map (λ column. column.name) columns; kinds = kinds_of columns })
-          (slice_get schemas number.0) b number.1.1 in
+      (λ columns. record { plan = Scan number.0; names = map (λ column. column.name) columns; kinds = kinds_of columns })
+      (slice_get schemas number.0) b number.1.1 in
       ap (λ (x : Bound). map Some (leaves x.plan)) (sym columns.1.1) ∙ ap (λ (o : Option ℕ). o ∷ []) (sym number.1.0)
 
   two_leaves : (left right : PlainTree) (lefts rights : Bound)

@@ -1,5 +1,5 @@
 -- Each operation has at most one row of the table for any kinds.
-use Rattle.std.proofs.Common.{◌≡◌, refl, sym, ap, subst, ◌∙◌, ℕ, zero, suc, ◌+◌, ◌<◌, Bool, true, false, ◌&&◌, ◌==◌, cond, List, [], ◌∷◌, map, length, slice_get, get_or, Option, None, Some, All, arith, unwrap_or, IsSome}
+use Rattle.std.proofs.Common.{◌≡◌, refl, sym, ap, ◌∙◌, ℕ, zero, suc, ◌+◌, ◌<◌, Bool, true, false, ◌&&◌, ◌==◌, cond, List, [], ◌∷◌, map, slice_get, get_or, Option, None, Some, All, arith, unwrap_or, IsSome}
 use Rattle.std.proofs.lemmas.Bool.{false≢true, eqb-true}
 use Rattle.std.specs.Bool.{Decides}
 use Rattle.std.specs.Option.{option_map, option_and_then, IsSomeAnd}
@@ -19,7 +19,6 @@ use Rattle.scalar_ops.specs.Table.{kinds_of_args, IsRowFor}
 use Rattle.scalar_ops.specs.Meaning.{op_at}
 use Rattle.plan_core.specs.PlanTyping.{all_there}
 use Rattle.plan_core.specs.ExpressionKind.{same_cell_kind, call_kind}
-use Rattle.plan_core.specs.ValueKinds.{slice_get-map}
 use Rattle.plan_text.specs.OpRows.{same_op, is_row_for, row_with, first_row, row_for}
 
 pub same_op-Decides : (a b : Op) → Decides (same_op a b) (a ≡ b)
