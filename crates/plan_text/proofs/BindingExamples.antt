@@ -6,7 +6,7 @@ use Rattle.rows_core.specs.declared.schema.Column as schema
 use Rattle.scalar_ops.specs.declared.cell.Cell.TheVariants as cell
 use Rattle.scalar_ops.specs.declared.table.Op.TheVariants as op
 use Rattle.plan_core.specs.declared.agg.Agg.TheVariants as agg
-use Rattle.plan_core.specs.PlainExpr.{Column, Literal, Call1, Call2, And}
+use Rattle.plan_core.specs.PlainExpr.{Column, Literal, Call1, Call2}
 use Rattle.plan_core.specs.PlainPlan.{Scan, Filter, Project, Group, Join, Concat, Order}
 use Rattle.plan_text.specs.declared.plan.NamedAgg.TheVariants as named_agg
 use Rattle.plan_text.specs.declared.plan.NamedPair.{NamedPair}

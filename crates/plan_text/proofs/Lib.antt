@@ -1,5 +1,7 @@
 pub mod AllThere
 pub mod BindingLaws
+pub mod BoundKinds
+pub mod BoundLeaves
 pub mod OpRowLaws
 pub mod TokenLemmas
 pub mod ReadingLemmas

@@ -1,9 +1,9 @@
 -- Each operation has at most one row of the table for any kinds.
-use Rattle.std.proofs.Common.{◌≡◌, refl, sym, ap, subst, ◌∙◌, ℕ, zero, suc, ◌+◌, ◌<◌, Bool, true, false, ◌&&◌, cond, List, [], ◌∷◌, map, length, slice_get, get_or, Option, None, Some, All, arith}
-use Rattle.std.proofs.lemmas.Bool.{false≢true}
+use Rattle.std.proofs.Common.{◌≡◌, refl, sym, ap, ◌∙◌, ℕ, zero, suc, ◌+◌, ◌<◌, Bool, true, false, ◌&&◌, ◌==◌, cond, List, [], ◌∷◌, map, slice_get, get_or, Option, None, Some, All, arith, unwrap_or, IsSome}
+use Rattle.std.proofs.lemmas.Bool.{false≢true, eqb-true}
 use Rattle.std.specs.Bool.{Decides}
-use Rattle.std.specs.Option.{option_map, IsSomeAnd}
-use Rattle.std.proofs.lemmas.Option.{slice_get_within}
+use Rattle.std.specs.Option.{option_map, option_and_then, IsSomeAnd}
+use Rattle.std.proofs.lemmas.Option.{slice_get_within, slice_get-get_or}
 use Rattle.std.proofs.lemmas.List.Elements.{All-get_or}
 use Rattle.std.proofs.lemmas.List.Quantifiers.{position-Some}
 use Rattle.scalar_ops.specs.declared.table.Args.TheVariants.{One}
@@ -16,9 +16,10 @@ use Rattle.scalar_ops.specs.declared.table.Op.TheVariants as op
 use Rattle.scalar_ops.specs.declared.table.OpRow.{OpRow}
 use Rattle.scalar_ops.specs.declared.table.TheConstants.{OPS}
 use Rattle.scalar_ops.specs.Table.{kinds_of_args, IsRowFor}
-use Rattle.plan_core.specs.ExpressionKind.{same_cell_kind}
-use Rattle.plan_core.specs.ValueKinds.{slice_get-map}
-use Rattle.plan_text.specs.OpRows.{same_op, is_row_for, row_with, first_row}
+use Rattle.scalar_ops.specs.Meaning.{op_at}
+use Rattle.plan_core.specs.PlanTyping.{all_there}
+use Rattle.plan_core.specs.ExpressionKind.{same_cell_kind, call_kind}
+use Rattle.plan_text.specs.OpRows.{same_op, is_row_for, row_with, first_row, row_for}
 
 pub same_op-Decides : (a b : Op) → Decides (same_op a b) (a ≡ b)
 same_op-Decides op.Add op.Add = (λ e. refl, λ e. refl)
@@ -51,66 +52,38 @@ same_cell_kind-Decides _ _ = (λ e. absurd (false≢true e), λ e. cc)
 abbrev own_row : OpRow → Option ℕ
 own_row row = position (is_row_for row.op (kinds_of_args row.args)) OPS.rows
 
+abbrev is_place : ℕ → Option ℕ → Bool
+is_place number None = false
+is_place number (Some place) = place == number
+
+place_is : (number : ℕ) (o : Option ℕ) → is_place number o ≡ true → o ≡ Some number
+place_is number None e = absurd (false≢true e)
+place_is number (Some place) e = ap Some (eqb-true place number e)
+
 -- the rows, counted from this number on, are their own
-abbrev AreOwn : ℕ → List OpRow → Type 0
-AreOwn number [] = Unit {0}
-AreOwn number (row ∷ rows) = (own_row row ≡ Some number) × AreOwn (suc number) rows
+abbrev are_own : ℕ → List OpRow → Bool
+are_own number [] = true
+are_own number (row ∷ rows) = is_place number (own_row row) && are_own (suc number) rows
 
-own_rows : AreOwn 0 OPS.rows
-own_rows = (
-  refl,
-  (
-    refl,
-    (
-      refl,
-      (
-        refl,
-        (
-          refl,
-          (
-            refl,
-            (
-              refl,
-              (
-                refl,
-                (
-                  refl,
-                  (
-                    refl,
-                    (
-                      refl,
-                      (
-                        refl,
-                        (refl, (refl, (refl, (refl, (refl, (refl, (refl, (refl, (refl, (refl, (refl, (refl, tt)))))))))))),
-                      ),
-                    ),
-                  ),
-                ),
-              ),
-            ),
-          ),
-        ),
-      ),
-    ),
-  ),
-)
-
-own_from : (number : ℕ) (rows : List OpRow) (i : ℕ) (row : OpRow) → AreOwn number rows → slice_get rows i ≡ Some row → own_row row ≡ Some (i + number)
-own_from number [] i row own there = absurd cc
-own_from number (first ∷ rows) zero row own there =
-    let same : first ≡ row = cc in
-    let here : number ≡ zero + number = omega arith in
-    ap own_row (sym same) ∙ own.0 ∙ ap Some here
-own_from number (first ∷ rows) (suc i) row own there =
-    let next : i + suc number ≡ suc i + number = omega arith in
-    own_from (suc number) rows i row own.1 there ∙ ap Some next
-
-some_row : OpRow
-some_row = record { op = op.Not; args = One kind.Bool; result = kind.Bool; overflows = false }
+own_rows : are_own 0 OPS.rows ≡ true
+own_rows = refl
 
 and_parts : (a b : Bool) → (a && b) ≡ true → (a ≡ true) × (b ≡ true)
 and_parts true b e = (refl, e)
 and_parts false b e = absurd (false≢true e)
+
+own_from : (number : ℕ) (rows : List OpRow) (i : ℕ) (row : OpRow) → are_own number rows ≡ true → slice_get rows i ≡ Some row → own_row row ≡ Some (i + number)
+own_from number [] i row own there = absurd cc
+own_from number (first ∷ rows) zero row own there =
+    let same : first ≡ row = cc in
+    let here : number ≡ zero + number = omega arith in
+    ap own_row (sym same) ∙ place_is number (own_row first) (and_parts _ _ own).0 ∙ ap Some here
+own_from number (first ∷ rows) (suc i) row own there =
+    let next : i + suc number ≡ suc i + number = omega arith in
+    own_from (suc number) rows i row (and_parts (is_place number (own_row first)) _ own).1 there ∙ ap Some next
+
+some_row : OpRow
+some_row = record { op = op.Not; args = One kind.Bool; result = kind.Bool; overflows = false }
 
 is_row : (o : Op) (kinds : List CellKind) (row : OpRow) → is_row_for o kinds row ≡ true → IsRowFor o kinds row
 is_row o kinds row e =
@@ -153,3 +126,66 @@ no_row o kinds all = go (position (is_row_for o kinds) OPS.rows) refl
 
 pub first_below : (o : Op) (i : ℕ) → position (λ row. same_op row.op o) OPS.rows ≡ Some i → i < 24
 first_below o i e = (position-Some (λ row. same_op row.op o) OPS.rows i some_row e).0
+
+-- ---- the row of a call
+
+row_operation : (o : Op) (row : OpRow) (i : ℕ) → slice_get OPS.rows i ≡ Some row → row.op ≡ o → op_at i ≡ o
+row_operation o row i there e = ap (λ (r : Option OpRow). unwrap_or (option_map (λ r. r.op) r) op.Not) there ∙ e
+
+with_operation : (o : Op) (kinds : List CellKind) (i : ℕ) → row_with o kinds ≡ Some i → op_at i ≡ o
+unfolding row_with
+with_operation o kinds i e =
+    let found = position-Some (is_row_for o kinds) OPS.rows i some_row e in
+    row_operation o (get_or OPS.rows i some_row) i (slice_get-get_or OPS.rows i some_row found.0) (is_row o kinds (get_or OPS.rows i some_row) found.1).0
+
+first_operation : (o : Op) → op_at (first_row o) ≡ o
+unfolding first_row
+first_operation op.Add = refl
+first_operation op.Sub = refl
+first_operation op.Mul = refl
+first_operation op.Neg = refl
+first_operation op.Abs = refl
+first_operation op.Div = refl
+first_operation op.Mod = refl
+first_operation op.Least = refl
+first_operation op.Most = refl
+first_operation op.Eq = refl
+first_operation op.Ne = refl
+first_operation op.Lt = refl
+first_operation op.Le = refl
+first_operation op.Gt = refl
+first_operation op.Ge = refl
+first_operation op.Len = refl
+first_operation op.Starts = refl
+first_operation op.Not = refl
+
+pub keeps_operation : (o : Op) (kinds : List (Option CellKind)) → op_at (row_for o kinds) ≡ o
+keeps_operation o kinds = go (all_there kinds)
+  where
+    by_row : (ks : List CellKind) (r : Option ℕ) → row_with o ks ≡ r → op_at (unwrap_or r (first_row o)) ≡ o
+    by_row ks None e = first_operation o
+    by_row ks (Some i) e = with_operation o ks i e
+
+    go : (ks : Option (List CellKind)) → op_at (unwrap_or (option_and_then (row_with o) ks) (first_row o)) ≡ o
+    go None = first_operation o
+    go (Some ks) = by_row ks (row_with o ks) refl
+
+all_there-some : {A : Type 0} (xs : List A) → all_there (map Some xs) ≡ Some xs
+all_there-some [] = refl
+all_there-some (x ∷ xs) = ap (option_and_then (λ others. Some (x ∷ others))) (all_there-some xs)
+
+-- a row that has the operation and gives a kind at these kinds is the one that is chosen
+pub row_of_kinds : (o : Op) (kinds : List CellKind) (i : ℕ) → op_at i ≡ o → IsSome (call_kind i kinds) → row_for o (map Some kinds) ≡ i
+row_of_kinds o kinds i e typed =
+    ap (λ (ks : Option (List CellKind)). unwrap_or (option_and_then (row_with o) ks) (first_row o)) (all_there-some kinds)
+    ∙ ap (λ (r : Option ℕ). unwrap_or r (first_row o)) (found_row o kinds i (go (slice_get OPS.rows i) refl typed))
+  where
+    fits : (r : OpRow) (same : Bool) → pointwise same_cell_kind kinds (kinds_of_args r.args) ≡ same → IsSome (cond same (Some r.result) None) → kinds_of_args r.args ≡ kinds
+    fits r true is some = sym ((pointwise_decides same_cell_kind-Decides kinds (kinds_of_args r.args)).0 is)
+    fits r false is some = absurd (false≢true some)
+
+    go : (r : Option OpRow) → slice_get OPS.rows i ≡ r
+        → IsSome (option_and_then (λ r. cond (pointwise same_cell_kind kinds (kinds_of_args r.args)) (Some r.result) None) r)
+        → IsSomeAnd r (IsRowFor o kinds)
+    go None there some = absurd (false≢true some)
+    go (Some r) there some = (sym (row_operation r.op r i there refl) ∙ e, fits r _ refl some)

@@ -23,8 +23,6 @@ use Rattle.plan_text.specs.declared.plan.NamedAgg.TheVariants as named_agg
 use Rattle.plan_text.specs.declared.plan.NamedResult.{NamedResult}
 use Rattle.plan_text.specs.declared.plan.NamedPair.{NamedPair}
 use Rattle.plan_text.specs.declared.plan.NamedKey.{NamedKey}
-use Rattle.plan_text.specs.declared.draft.Operator as the_operator
-use Rattle.plan_text.specs.declared.draft.Operator.TheVariants as operator
 use Rattle.plan_text.specs.declared.refusal.BindRefusal.{BindRefusal}
 use Rattle.plan_text.specs.declared.refusal.BindRefusal.TheVariants as refusal
 use Rattle.plan_text.specs.PlainNamed as named
@@ -54,12 +52,6 @@ call1 kinds op a = bound.Call1 (row_for op (expression_kind kinds a ∷ [])) a
 
 abbrev pub call2 : Kinds → Op → bound.PlainExpr → bound.PlainExpr → bound.PlainExpr
 call2 kinds op a b = bound.Call2 (row_for op (expression_kind kinds a ∷ expression_kind kinds b ∷ [])) a b
-
--- what an operator makes of its operands
-abbrev pub operated : Kinds → the_operator.Operator → bound.PlainExpr → bound.PlainExpr → bound.PlainExpr
-operated kinds (operator.Call op) = call2 kinds op
-operated kinds operator.And = And
-operated kinds operator.Or = Or
 
 -- what is made of two, or of three, that are all there
 abbrev pub of_two : (bound.PlainExpr → bound.PlainExpr → bound.PlainExpr) → Option bound.PlainExpr → Option bound.PlainExpr → Option bound.PlainExpr

@@ -1,7 +1,16 @@
--- What a bound plan of the code says.
+-- What a bound plan of the code says, and what an operator makes of its operands.
+use Rattle.plan_core.specs.PlainExpr.{PlainExpr, And, Or}
 use Rattle.plan_core.specs.PlainPlan.{plan_of}
+use Rattle.plan_core.specs.PlanTyping.{Kinds}
 use Rattle.plan_text.specs.declared.bound.Bound as code
-use Rattle.plan_text.specs.Binding.{Bound}
+use Rattle.plan_text.specs.declared.draft.Operator.{Operator}
+use Rattle.plan_text.specs.declared.draft.Operator.TheVariants as operator
+use Rattle.plan_text.specs.Binding.{Bound, call2}
 
 abbrev pub bound_of : code.Bound → Bound
 bound_of b = record { plan = plan_of b.plan; names = b.names; kinds = b.kinds }
+
+abbrev pub operated : Kinds → Operator → PlainExpr → PlainExpr → PlainExpr
+operated kinds (operator.Call op) = call2 kinds op
+operated kinds operator.And = And
+operated kinds operator.Or = Or

@@ -4,7 +4,8 @@ ghost use Rattle.std.specs.Option.{option_map};
 ghost use Rattle.plan_core.specs.PlainExpr as bound;
 ghost use Rattle.plan_core.specs.PlanTyping.{all_there};
 ghost use Rattle.plan_text.specs.PlainNamed.{expr_of, column_of};
-ghost use Rattle.plan_text.specs.Binding.{bound_expr, place_of, call1, operated, of_two, of_three};
+ghost use Rattle.plan_text.specs.Binding.{bound_expr, place_of, call1, of_two, of_three};
+ghost use Rattle.plan_text.specs.BoundPlan.{operated};
 
 use crate::bind_names::place_of;
 use crate::draft::Operator;

@@ -2,6 +2,7 @@
 #![tactic(auto)]
 
 mod bind_expr;
+pub mod bind_laws;
 mod bind_names;
 pub mod binder;
 mod bound;
@@ -36,5 +37,11 @@ pub use print::{print_expr, print_plan};
 pub use refusal::{BindRefusal, PlanLimit, TextRefusal};
 pub use token::{Mark, Token, Word};
 
+#[cfg(test)]
+mod bind_tests;
+#[cfg(test)]
+mod plan_tests;
+#[cfg(test)]
+mod print_tests;
 #[cfg(test)]
 mod tests;

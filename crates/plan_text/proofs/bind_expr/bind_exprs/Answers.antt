@@ -1,10 +1,10 @@
 -- The expressions of all columns are those of what they say.
-use Rattle.std.proofs.Common.{◌≡◌, ◌∙◌, sym, ap, map, Option, None, Some, arith}
+use Rattle.std.proofs.Common.{◌≡◌, ◌∙◌, sym, ap, map, None, Some, arith}
 use Rattle.plan_core.specs.PlainExpr as bound
 use Rattle.plan_core.specs.PlanTyping.{all_there}
 use Rattle.plan_text.specs.PlainNamed.{expr_of}
 use Rattle.plan_text.specs.Binding.{bound_expr}
-use Rattle.plan_text.proofs.AllThere.{found_start, found_more, found_none, found_end}
+use Rattle.plan_text.proofs.AllThere.{found_none, found_end}
 use Rattle.plan_text.proofs.BindingLaws.{exprs_of_columns}
 use Rattle.plan_text.proofs.bind_expr.bind_exprs.Goals as goal
 
