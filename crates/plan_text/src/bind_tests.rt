@@ -99,8 +99,18 @@ fn names_that_do_not_resolve_are_refused(rt: HostRuntime) -> Result<(), Fail> {
 #[test]
 fn calls_without_a_row_have_no_typing(rt: HostRuntime) -> Result<(), Fail> {
     let alloc = rt.alloc();
-    assert!(rt; has_typing(alloc, "from l | where t = \"a\" and id = 1 | select n = len(t) + id")?);
-    assert!(rt; has_typing(alloc, "from l | group t with n = count(), m = last(id) | order m desc")?);
+    assert!(rt;
+        has_typing(
+            alloc,
+            "from l | where t = \"a\" and id = 1 | select n = len(t) + id"
+        )?
+    );
+    assert!(rt;
+        has_typing(
+            alloc,
+            "from l | group t with n = count(), m = last(id) | order m desc"
+        )?
+    );
     assert!(rt; has_typing(alloc, "from l | select x = id / 0")? == false);
     assert!(rt; has_typing(alloc, "from l | where t > 1")? == false);
     assert!(rt; has_typing(alloc, "from l | where abs(t) = 1")? == false);

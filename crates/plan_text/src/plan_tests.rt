@@ -56,14 +56,20 @@ fn stages_have_canonical_texts(rt: HostRuntime) -> Result<(), Fail> {
             "from s|group k with a=min(q),b=max(q),c=first(q),d=last(q),e=avg(q)",
             "from s | group k with a = min(q), b = max(q), c = first(q), d = last(q), e = avg(q)",
         ),
-        ("from s|join(from t)on a=b", "from s | join (from t) on a = b"),
+        (
+            "from s|join(from t)on a=b",
+            "from s | join (from t) on a = b",
+        ),
         (
             "from s|join ( from t|where c )on a=b,c=d",
             "from s | join (from t | where c) on a = b, c = d",
         ),
         ("from s|concat(from t)", "from s | concat (from t)"),
         ("from s|order a,b desc,c", "from s | order a, b desc, c"),
-        ("from last|where first|order sum", "from last | where first | order sum"),
+        (
+            "from last|where first|order sum",
+            "from last | where first | order sum",
+        ),
     ] {
         assert!(rt; prints(alloc, text.as_bytes(), canonical.as_bytes()));
         assert!(rt; prints(alloc, canonical.as_bytes(), canonical.as_bytes()));
@@ -89,8 +95,14 @@ fn expressions_have_canonical_texts(rt: HostRuntime) -> Result<(), Fail> {
         ("from s|where not not a", "from s | where not not a"),
         ("from s|where(a=b)=c", "from s | where (a = b) = c"),
         ("from s|where a!=b", "from s | where a != b"),
-        ("from s|where a<b and c<=d", "from s | where a < b and c <= d"),
-        ("from s|where a>b and c>=d", "from s | where a > b and c >= d"),
+        (
+            "from s|where a<b and c<=d",
+            "from s | where a < b and c <= d",
+        ),
+        (
+            "from s|where a>b and c>=d",
+            "from s | where a > b and c >= d",
+        ),
         ("from s|where-a", "from s | where - a"),
         ("from s|where- -a", "from s | where - - a"),
         ("from s|where-5", "from s | where -5"),
@@ -116,7 +128,10 @@ fn expressions_have_canonical_texts(rt: HostRuntime) -> Result<(), Fail> {
             "from s|where least(a,b)=most(a,b)",
             "from s | where least(a, b) = most(a, b)",
         ),
-        ("from s|where if(a,b or c,d)", "from s | where if(a, b or c, d)"),
+        (
+            "from s|where if(a,b or c,d)",
+            "from s | where if(a, b or c, d)",
+        ),
     ] {
         assert!(rt; prints(alloc, text.as_bytes(), canonical.as_bytes()));
         assert!(rt; prints(alloc, canonical.as_bytes(), canonical.as_bytes()));
