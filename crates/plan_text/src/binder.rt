@@ -94,55 +94,36 @@ fn bound_tree(
     match tree {
         NamedTree::From { stream } => bind_from(alloc, names, schemas, stream),
         NamedTree::Where { child, test } => {
-            let Some(input) = bound_tree(alloc, names, schemas, child)? else {
-                return Ok(None);
-            };
+            let input = bound_tree(alloc, names, schemas, child)?;
             bind_where(alloc, input, test)
         }
         NamedTree::Select { child, columns } => {
-            let Some(input) = bound_tree(alloc, names, schemas, child)? else {
-                return Ok(None);
-            };
+            let input = bound_tree(alloc, names, schemas, child)?;
             bind_select(alloc, input, columns.items())
         }
         NamedTree::Distinct { child } => {
-            let Some(input) = bound_tree(alloc, names, schemas, child)? else {
-                return Ok(None);
-            };
-            Ok(Some(bind_distinct(alloc, input)?))
+            bind_distinct(alloc, bound_tree(alloc, names, schemas, child)?)
         }
         NamedTree::Group {
             child,
             keys,
             results,
         } => {
-            let Some(input) = bound_tree(alloc, names, schemas, child)? else {
-                return Ok(None);
-            };
+            let input = bound_tree(alloc, names, schemas, child)?;
             bind_group(alloc, input, keys.items(), results.items())
         }
         NamedTree::Join { left, right, on } => {
-            let Some(left) = bound_tree(alloc, names, schemas, left)? else {
-                return Ok(None);
-            };
-            let Some(right) = bound_tree(alloc, names, schemas, right)? else {
-                return Ok(None);
-            };
+            let left = bound_tree(alloc, names, schemas, left)?;
+            let right = bound_tree(alloc, names, schemas, right)?;
             bind_join(alloc, left, right, on.items())
         }
         NamedTree::Concat { left, right } => {
-            let Some(left) = bound_tree(alloc, names, schemas, left)? else {
-                return Ok(None);
-            };
-            let Some(right) = bound_tree(alloc, names, schemas, right)? else {
-                return Ok(None);
-            };
+            let left = bound_tree(alloc, names, schemas, left)?;
+            let right = bound_tree(alloc, names, schemas, right)?;
             bind_concat(alloc, left, right)
         }
         NamedTree::Order { child, keys } => {
-            let Some(input) = bound_tree(alloc, names, schemas, child)? else {
-                return Ok(None);
-            };
+            let input = bound_tree(alloc, names, schemas, child)?;
             bind_order(alloc, input, keys.items())
         }
     }

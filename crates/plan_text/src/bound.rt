@@ -1,8 +1,9 @@
 //! Operators with numbers in place of names.
 ghost use Rattle.std.specs.Prelude.{◌≡◌, ◌++◌, map, slice_get, IfOk};
-ghost use Rattle.std.specs.Option.{option_map};
+ghost use Rattle.std.specs.Option.{option_map, option_and_then};
 ghost use Rattle.plan_core.specs.PlainExpr as bound;
 ghost use Rattle.plan_core.specs.PlainPlan.{plan_of};
+ghost use Rattle.plan_core.specs.ExpressionKind.{of_both};
 ghost use Rattle.plan_core.specs.PlanTyping.{all_there, column_kind_of, agg_kind};
 ghost use Rattle.rows_core.specs.Schema.{kinds_of};
 ghost use Rattle.plan_text.specs.PlainNamed.{expr_of, column_of};
@@ -20,7 +21,8 @@ use plan_core::{Agg, Expr, Plan};
 use rows_core::{Kind, Memory, Name, Schema, Seq};
 use std::alloc::Global;
 
-/// A plan with numbers, and the names and kinds of its columns. Contracts see it as `bound_of` says it.
+/// A plan with numbers, and the names and kinds of its columns. Contracts see it as `bound_of` says it. Each operator below
+/// has none where an input has none.
 #[derive(Debug, Drop)]
 pub struct Bound {
     pub plan: Plan,
@@ -73,9 +75,17 @@ fn bind_scan(alloc: Global, schemas: &[Schema], number: u32) -> Result<Option<Bo
 }
 
 /// The rows at which a test is true; `None` exactly where one of its columns isn't there.
-pub fn bind_where(alloc: Global, input: Bound, test: &NamedExpr) -> Result<Option<Bound>, Memory>
-    ensures { IfOk result (λ r. option_map bound_of r ≡ bound_where (expr_of test.now) (bound_of input)) }
+pub fn bind_where(
+    alloc: Global,
+    input: Option<Bound>,
+    test: &NamedExpr,
+) -> Result<Option<Bound>, Memory>
+    ensures { IfOk result (λ r. option_map bound_of r
+        ≡ option_and_then (bound_where (expr_of test.now)) (option_map bound_of input)) }
 {
+    let Some(input) = input else {
+        return Ok(None);
+    };
     let Some(test) = bind_expr(alloc, input.names.items(), input.kinds.items(), test)? else {
         return Ok(None);
     };
@@ -90,9 +100,19 @@ pub fn bind_where(alloc: Global, input: Bound, test: &NamedExpr) -> Result<Optio
 /// A row of these columns for each row; `None` exactly where a column isn't there, or two results have one name.
 pub fn bind_select(
     alloc: Global,
-    input: Bound,
+    input: Option<Bound>,
     columns: &[NamedColumn],
 ) -> Result<Option<Bound>, Memory>
+    ensures { IfOk result (λ r. option_map bound_of r
+        ≡ option_and_then (bound_select (map column_of columns.now)) (option_map bound_of input)) }
+{
+    match input {
+        Some(input) => select(alloc, input, columns),
+        None => Ok(None),
+    }
+}
+
+fn select(alloc: Global, input: Bound, columns: &[NamedColumn]) -> Result<Option<Bound>, Memory>
     ensures { IfOk result (λ r. option_map bound_of r ≡ bound_select (map column_of columns.now) (bound_of input)) }
 {
     let found = bind_exprs(alloc, input.names.items(), input.kinds.items(), columns)?;
@@ -122,6 +142,21 @@ fn project(
 /// results have one name.
 pub fn bind_group(
     alloc: Global,
+    input: Option<Bound>,
+    keys: &[Name],
+    results: &[NamedResult],
+) -> Result<Option<Bound>, Memory>
+    ensures { IfOk result (λ r. option_map bound_of r
+        ≡ option_and_then (bound_group keys.now results.now) (option_map bound_of input)) }
+{
+    match input {
+        Some(input) => group(alloc, input, keys, results),
+        None => Ok(None),
+    }
+}
+
+fn group(
+    alloc: Global,
     input: Bound,
     keys: &[Name],
     results: &[NamedResult],
@@ -135,11 +170,11 @@ pub fn bind_group(
         return Ok(None);
     };
     let names = group_names(alloc, keys, results)?;
-    group(alloc, input, places, aggs, names)
+    group_by(alloc, input, places, aggs, names)
 }
 
 /// The groups, where the names differ.
-fn group(
+fn group_by(
     alloc: Global,
     input: Bound,
     places: Vec<u32>,
@@ -163,12 +198,19 @@ fn group(
 /// and the right columns have one name.
 pub fn bind_join(
     alloc: Global,
-    left: Bound,
-    right: Bound,
+    left: Option<Bound>,
+    right: Option<Bound>,
     on: &[NamedPair],
 ) -> Result<Option<Bound>, Memory>
-    ensures { IfOk result (λ r. option_map bound_of r ≡ bound_join on.now (bound_of left) (bound_of right)) }
+    ensures { IfOk result (λ r. option_map bound_of r
+        ≡ of_both (bound_join on.now) (option_map bound_of left) (option_map bound_of right)) }
 {
+    let Some(left) = left else {
+        return Ok(None);
+    };
+    let Some(right) = right else {
+        return Ok(None);
+    };
     let Some(pairs) = bind_pairs(alloc, left.names.items(), right.names.items(), on)? else {
         return Ok(None);
     };
@@ -198,21 +240,32 @@ fn join(
 }
 
 /// The first of equal rows.
-pub fn bind_distinct(alloc: Global, input: Bound) -> Result<Bound, Memory>
-    ensures { IfOk result (λ r. bound_of r ≡ bound_distinct (bound_of input)) }
+pub fn bind_distinct(alloc: Global, input: Option<Bound>) -> Result<Option<Bound>, Memory>
+    ensures { IfOk result (λ r. option_map bound_of r ≡ option_map bound_distinct (option_map bound_of input)) }
 {
+    let Some(input) = input else {
+        return Ok(None);
+    };
     let child = Box::new(alloc, input.plan)?;
-    Ok(Bound {
+    Ok(Some(Bound {
         plan: Plan::Distinct { child },
         names: input.names,
         kinds: input.kinds,
-    })
+    }))
 }
 
 /// The rows sorted by keys; `None` exactly where one of their columns isn't there.
-pub fn bind_order(alloc: Global, input: Bound, keys: &[NamedKey]) -> Result<Option<Bound>, Memory>
-    ensures { IfOk result (λ r. option_map bound_of r ≡ bound_order keys.now (bound_of input)) }
+pub fn bind_order(
+    alloc: Global,
+    input: Option<Bound>,
+    keys: &[NamedKey],
+) -> Result<Option<Bound>, Memory>
+    ensures { IfOk result (λ r. option_map bound_of r
+        ≡ option_and_then (bound_order keys.now) (option_map bound_of input)) }
 {
+    let Some(input) = input else {
+        return Ok(None);
+    };
     let Some(keys) = bind_keys(alloc, input.names.items(), keys)? else {
         return Ok(None);
     };
@@ -226,9 +279,20 @@ pub fn bind_order(alloc: Global, input: Bound, keys: &[NamedKey]) -> Result<Opti
 }
 
 /// The left rows and then the right ones, with the left columns' names.
-pub fn bind_concat(alloc: Global, left: Bound, right: Bound) -> Result<Option<Bound>, Memory>
-    ensures { IfOk result (λ r. option_map bound_of r ≡ bound_concat (bound_of left) (bound_of right)) }
+pub fn bind_concat(
+    alloc: Global,
+    left: Option<Bound>,
+    right: Option<Bound>,
+) -> Result<Option<Bound>, Memory>
+    ensures { IfOk result (λ r. option_map bound_of r
+        ≡ of_both bound_concat (option_map bound_of left) (option_map bound_of right)) }
 {
+    let Some(left) = left else {
+        return Ok(None);
+    };
+    let Some(right) = right else {
+        return Ok(None);
+    };
     let plan = Plan::Concat {
         left: Box::new(alloc, left.plan)?,
         right: Box::new(alloc, right.plan)?,
