@@ -17,8 +17,8 @@ use Rattle.plan_text.specs.declared.token.Mark as the_mark
 use Rattle.plan_text.specs.declared.token.Mark.TheVariants as mark
 use Rattle.plan_text.specs.declared.token.Word as the_word
 use Rattle.plan_text.specs.declared.token.Word.TheVariants as word
-use Rattle.plan_text.specs.Token.{word_bytes, all_words, word_with, greatest_number, fits_digit, number_behind, number_with, name_or_number, word_or, word_token, before, word_len, word_at, begins_with, begins_with_digit, mark_at, is_escaped, with_byte, text_behind, text_at, mark_token, token_at, IsToken, trimmed}
-use Rattle.plan_text.specs.Canonical.{mark_bytes, escaped, quoted, spelling}
+use Rattle.plan_text.specs.Token.{word_bytes, mark_bytes, all_words, word_with, greatest_number, fits_digit, number_behind, number_with, name_or_number, word_or, word_token, before, word_len, word_at, begins_with, begins_with_digit, mark_at, is_escaped, with_byte, text_behind, text_at, mark_token, token_at, IsToken, trimmed}
+use Rattle.plan_text.specs.Canonical.{escaped, quoted, spelling}
 
 both_true : (a b : Bool) → (a && b) ≡ true → (a ≡ true) × (b ≡ true)
 both_true true true e = (refl, refl)

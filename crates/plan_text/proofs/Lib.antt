@@ -9,7 +9,7 @@ pub mod RepeatLemmas
 pub mod StageLemmas
 pub mod DraftLemmas
 pub mod PlanDraftLemmas
-pub mod Repeats
+pub mod ListLemmas
 pub mod Complete
 pub mod Sound
 pub mod OneReading

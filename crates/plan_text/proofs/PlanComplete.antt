@@ -20,7 +20,8 @@ use Rattle.plan_text.proofs.Complete.{shorter}
 use Rattle.plan_text.proofs.OneReading.{spelled_is_read}
 use Rattle.plan_text.proofs.PlanDraftLemmas.{no_columns_kept, where_kept, select_kept, distinct_kept, group_kept, join_kept, concat_kept, order_kept}
 use Rattle.plan_text.proofs.PlanItems.{itself, Anything, NoDesc, names_listed, pairs_listed, keys_listed, results_listed, columns_listed, column_value}
-use Rattle.plan_text.proofs.Repeats.{Repeats, Repeats-first, Repeats-next, Repeats-end, list_complete, list_shorter}
+use Rattle.plan_text.proofs.RepeatLemmas.{Repeats, Repeats-start, Repeats-next, Repeats-end}
+use Rattle.plan_text.proofs.ListLemmas.{list_complete, list_shorter}
 
 -- what may stand behind a stage: a bar, or what may stand behind a plan
 record EndsStage (rest : List Token) : Type 0 where
@@ -152,7 +153,7 @@ module _ (most : Counts) where
 
   plan_complete : {n : ℕ} {p : PlainTree} {from rest : List Token} → SpellsPlan n p from rest → EndsStage rest → Reading n p from rest
   plan_complete (g.stream {n = n} {name = name} {rest = rest}) ends =
-      Repeats-first behind_bar (stage_at most (inner_plan most n) n) (plan_at most n (Word word.From ∷ Name name ∷ rest)) (plan_draft_of most (From name)) rest refl
+      Repeats-start behind_bar (stage_at most (inner_plan most n) n) (plan_at most n (Word word.From ∷ Name name ∷ rest)) (plan_draft_of most (From name)) rest refl
   plan_complete (g.filter {n = n} {p = p} {test = test} {from = from} {mid = mid} {rest = rest} s t) ends =
       stage_more n p (Where p test) from (Word word.Where ∷ mid) rest (plan_complete s (bar_ends (Word word.Where ∷ mid))) (where_read n p mid rest ends test t) (omega (arith, shorter t))
   plan_complete (g.select {n = n} {p = p} {columns = columns} {from = from} {mid = mid} {rest = rest} s t) ends =

@@ -23,7 +23,7 @@ use Rattle.plan_text.proofs.Complete.{shorter}
 use Rattle.plan_text.proofs.Sound.{read_is_spelled}
 use Rattle.plan_text.proofs.OneReading.{spelled_is_read}
 use Rattle.plan_text.proofs.PlanDraftLemmas.{one_column_more}
-use Rattle.plan_text.proofs.Repeats.{then_some, ListsItems, ItemSo}
+use Rattle.plan_text.proofs.ListLemmas.{then_some, ListsItems, ItemSo}
 
 -- the item itself
 abbrev pub itself : {A : Type 0} → A → A

@@ -20,7 +20,7 @@ use Rattle.plan_text.proofs.TokenLemmas.{both}
 use Rattle.plan_text.proofs.Sound.{read_is_spelled}
 use Rattle.plan_text.proofs.PlanDraftLemmas.{no_columns_kept, one_column_more, where_kept, select_kept, distinct_kept, group_kept, join_kept, concat_kept, order_kept}
 use Rattle.plan_text.proofs.PlanItems.{itself, column_value, closed_some, open_some, name_sound, pair_sound, key_sound, result_sound, column_sound}
-use Rattle.plan_text.proofs.Repeats.{then_some, repeated_keeps, ListedSo, list_sound}
+use Rattle.plan_text.proofs.ListLemmas.{then_some, repeated_keeps, ListedSo, list_sound}
 
 -- the grammar spells a plan of which this is kept
 pub record PlanSpelled (most : Counts) (n : ℕ) (d : PlanDraft) (from rest : List Token) : Type 0 where

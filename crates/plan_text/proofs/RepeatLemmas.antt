@@ -13,8 +13,11 @@ pub record Repeats {S : Type 0} (separator : List Token → Option (List Token))
   pub reads : whole ≡ repeated separator step turns s rest
 
 module _ {S : Type 0} (separator : List Token → Option (List Token)) (step : S → List Token → ReadOf S) where
+  pub Repeats-start : (whole : ReadOf S) (s : S) (rest : List Token) → whole ≡ all_repeated separator step s rest → Repeats separator step whole s rest
+  Repeats-start whole s rest e = record { turns = suc (length rest); enough = omega arith; reads = e }
+
   pub Repeats-first : (first : ReadOf S) (s : S) (rest : List Token) → first ≡ Some (s, rest) → Repeats separator step (and_then first (all_repeated separator step)) s rest
-  Repeats-first first s rest e = record { turns = suc (length rest); enough = omega arith; reads = ap (λ r. and_then r (all_repeated separator step)) e }
+  Repeats-first first s rest e = Repeats-start (and_then first (all_repeated separator step)) s rest (ap (λ r. and_then r (all_repeated separator step)) e)
 
   -- where the first is no reading, nothing is read
   pub Repeats-none : (first : ReadOf S) → first ≡ None → and_then first (all_repeated separator step) ≡ None

@@ -17,7 +17,7 @@ use Rattle.plan_text.specs.declared.plan.NamedAgg.TheVariants as agg
 use Rattle.plan_text.specs.declared.plan.NamedResult.{NamedResult}
 use Rattle.plan_text.specs.declared.plan.NamedPair.{NamedPair}
 use Rattle.plan_text.specs.declared.plan.NamedKey.{NamedKey}
-use Rattle.plan_text.specs.Token.{word_bytes, is_escaped}
+use Rattle.plan_text.specs.Token.{word_bytes, mark_bytes, is_escaped}
 use Rattle.plan_text.specs.PlainNamed.{PlainExpr, Column, Literal, Call1, Call2, And, Or, If, PlainColumn, PlainTree, From, Where, Select, Distinct, Group, Join, Concat, Order}
 use Rattle.plan_text.specs.Grammar.{Rule, E, AND, NOT, CMP, SUM, MUL, UN, ATOM, agg_word}
 
@@ -31,24 +31,6 @@ abbrev pub tokens_of : List Piece → List Token
 tokens_of [] = []
 tokens_of (Space ∷ pieces) = tokens_of pieces
 tokens_of (One token ∷ pieces) = token ∷ tokens_of pieces
-
-abbrev pub mark_bytes : the_mark.Mark → List ℕ
-mark_bytes mark.Bar = codes "|"
-mark_bytes mark.Comma = codes ","
-mark_bytes mark.Open = codes "("
-mark_bytes mark.Close = codes ")"
-mark_bytes mark.Equal = codes "="
-mark_bytes mark.NotEqual = codes "!="
-mark_bytes mark.Less = codes "<"
-mark_bytes mark.LessEqual = codes "<="
-mark_bytes mark.Greater = codes ">"
-mark_bytes mark.GreaterEqual = codes ">="
-mark_bytes mark.Plus = codes "+"
-mark_bytes mark.Minus = codes "-"
-mark_bytes mark.Sign = codes "-"
-mark_bytes mark.Times = codes "*"
-mark_bytes mark.Divide = codes "/"
-mark_bytes mark.Rest = codes "%"
 
 -- `"` and `\` stand behind a `\`
 abbrev pub escaped : ℕ → List ℕ

@@ -38,6 +38,24 @@ word_bytes word.Concat = codes "concat"
 word_bytes word.Order = codes "order"
 word_bytes word.Desc = codes "desc"
 
+abbrev pub mark_bytes : the_mark.Mark → List ℕ
+mark_bytes mark.Bar = codes "|"
+mark_bytes mark.Comma = codes ","
+mark_bytes mark.Open = codes "("
+mark_bytes mark.Close = codes ")"
+mark_bytes mark.Equal = codes "="
+mark_bytes mark.NotEqual = codes "!="
+mark_bytes mark.Less = codes "<"
+mark_bytes mark.LessEqual = codes "<="
+mark_bytes mark.Greater = codes ">"
+mark_bytes mark.GreaterEqual = codes ">="
+mark_bytes mark.Plus = codes "+"
+mark_bytes mark.Minus = codes "-"
+mark_bytes mark.Sign = codes "-"
+mark_bytes mark.Times = codes "*"
+mark_bytes mark.Divide = codes "/"
+mark_bytes mark.Rest = codes "%"
+
 abbrev pub all_words : List the_word.Word
 all_words =
     word.And ∷ word.Or ∷ word.Not ∷ word.If ∷ word.True ∷ word.False ∷ word.Len ∷ word.Abs ∷ word.Starts ∷ word.Least

@@ -6,39 +6,15 @@ ghost use Rattle.scalar_ops.specs.declared.cell.Cell.TheVariants as cell;
 ghost use Rattle.plan_text.specs.declared.token.Token.{Token};
 ghost use Rattle.plan_text.specs.PlainNamed.{PlainExpr, Call1, Call2, If, expr_of};
 ghost use Rattle.plan_text.specs.Grammar.{E};
-ghost use Rattle.plan_text.specs.Canonical.{Space, One, mark_bytes, escaped, quoted, text_of, between, behind_comma, literal, bare, canonical_expr, function};
+ghost use Rattle.plan_text.specs.Canonical.{Space, One, escaped, quoted, text_of, between, behind_comma, literal, bare, canonical_expr, function};
 ghost use Rattle.plan_text.specs.PrintCode.{grammar_rule};
 
 use crate::expr::NamedExpr;
 use crate::rule::{Form, Rule};
-use crate::token::{Mark, Word};
+use crate::token::Word;
 use itoa::Buffer;
 use rows_core::Memory;
 use scalar_ops::{Cell, Op};
-
-impl Mark {
-    pub fn bytes(&self) -> &[u8]
-        ensures { result.now ≡ mark_bytes self.now }
-    {
-        match self {
-            Mark::Bar => b"|",
-            Mark::Comma => b",",
-            Mark::Open => b"(",
-            Mark::Close => b")",
-            Mark::Equal => b"=",
-            Mark::NotEqual => b"!=",
-            Mark::Less => b"<",
-            Mark::LessEqual => b"<=",
-            Mark::Greater => b">",
-            Mark::GreaterEqual => b">=",
-            Mark::Plus => b"+",
-            Mark::Minus | Mark::Sign => b"-",
-            Mark::Times => b"*",
-            Mark::Divide => b"/",
-            Mark::Rest => b"%",
-        }
-    }
-}
 
 pub fn put(bytes: &[u8], to: &mut Vec<u8>) -> Result<(), Memory>
     ensures { OnOk result (to.new.items ≡ to.old.items ++ bytes.now) }

@@ -1,7 +1,7 @@
 //! The tokens of a plan's text.
 ghost use Rattle.std.specs.Prelude.{◌≡◌, bytes_eq};
 ghost use Rattle.std.specs.List.{find};
-ghost use Rattle.plan_text.specs.Token.{word_bytes, word_with};
+ghost use Rattle.plan_text.specs.Token.{word_bytes, mark_bytes, word_with};
 
 use rows_core::{Name, Txt};
 
@@ -131,6 +131,30 @@ impl Word {
     {
         let words: [Word; 22] = WORDS;
         first_with(words.as_slice(), bytes)
+    }
+}
+
+impl Mark {
+    pub fn bytes(&self) -> &[u8]
+        ensures { result.now ≡ mark_bytes self.now }
+    {
+        match self {
+            Mark::Bar => b"|",
+            Mark::Comma => b",",
+            Mark::Open => b"(",
+            Mark::Close => b")",
+            Mark::Equal => b"=",
+            Mark::NotEqual => b"!=",
+            Mark::Less => b"<",
+            Mark::LessEqual => b"<=",
+            Mark::Greater => b">",
+            Mark::GreaterEqual => b">=",
+            Mark::Plus => b"+",
+            Mark::Minus | Mark::Sign => b"-",
+            Mark::Times => b"*",
+            Mark::Divide => b"/",
+            Mark::Rest => b"%",
+        }
     }
 }
 

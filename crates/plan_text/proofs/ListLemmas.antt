@@ -8,6 +8,7 @@ use Rattle.plan_text.specs.Grammar.{Listed}
 use Rattle.plan_text.specs.Reading.{behind_comma}
 use Rattle.plan_text.specs.PlanReading.{ReadOf, and_then, repeat_step, repeated, all_repeated, item_onto, list_at}
 use Rattle.plan_text.proofs.TokenLemmas.{both}
+use Rattle.plan_text.proofs.RepeatLemmas.{Repeats, Repeats-start, Repeats-next, Repeats-end}
 
 -- what was read first, and what then
 pub then_some : {A B : Type 0} (read : ReadOf A) (next : A → List Token → ReadOf B) (y : B × List Token) → and_then read next ≡ Some y → (x : A) × (ts : List Token) × (read ≡ Some (x, ts)) × (next x ts ≡ Some y)
@@ -15,31 +16,6 @@ then_some None next y q = absurd (cc q)
 then_some (Some x) next y q = (x.0, x.1, refl, q)
 
 module _ {S : Type 0} (separator : List Token → Option (List Token)) (step : S → List Token → ReadOf S) where
-  -- from the start up to a rest, with turns enough for what is left of it
-  pub record Repeats (start : ReadOf S) (s : S) (rest : List Token) : Type 0 where
-    pub turns : ℕ
-    pub enough : length rest < turns
-    pub reads : start ≡ repeated separator step turns s rest
-
-  pub Repeats-first : (start : ReadOf S) (s : S) (rest : List Token) → start ≡ all_repeated separator step s rest → Repeats start s rest
-  Repeats-first start s rest e = record { turns = suc (length rest); enough = omega arith; reads = e }
-
-  turn : (turns : ℕ) (s : S) (rest : List Token) → length rest < turns → repeated separator step turns s rest ≡ repeat_step step (repeated separator step (turns - 1)) s rest (separator rest)
-  unfolding repeated
-  turn zero s rest less = absurd (omega (arith, less))
-  turn (suc k) s rest less = let same : suc k - 1 ≡ k = omega arith in ap (λ j. repeat_step step (repeated separator step j) s rest (separator rest)) (sym same)
-
-  module _ (start : ReadOf S) (s : S) (rest : List Token) (l : Repeats start s rest) where
-    pub Repeats-end : separator rest ≡ None → start ≡ Some (s, rest)
-    Repeats-end none = l.reads ∙ turn l.turns s rest l.enough ∙ ap (repeat_step step (repeated separator step (l.turns - 1)) s rest) none
-
-    pub Repeats-next : (behind : List Token) → separator rest ≡ Some behind → (t : S) (after : List Token) → step s behind ≡ Some (t, after) → length after < length rest → Repeats start t after
-    Repeats-next behind found t after read less = record {
-      turns = l.turns - 1;
-      enough = omega (arith, less, l.enough);
-      reads = l.reads ∙ turn l.turns s rest l.enough ∙ ap (repeat_step step (repeated separator step (l.turns - 1)) s rest) found ∙ ap (λ r. and_then r (repeated separator step (l.turns - 1))) read;
-    }
-
   -- what each turn keeps holds of what was read in all
   module _ (Kept : S → List Token → Type 0) (keeps : (s : S) (ts behind : List Token) (t : S) (after : List Token) → Kept s ts → separator ts ≡ Some behind → step s behind ≡ Some (t, after) → Kept t after) where
     pub repeated_keeps : (turns : ℕ) (s : S) (ts : List Token) (t : S) (rest : List Token) → Kept s ts → repeated separator step turns s ts ≡ Some (t, rest) → Kept t rest
@@ -93,7 +69,7 @@ module _ {X A S : Type 0} (Item : X → List Token → List Token → Type 0) (E
   list_complete (x ∷ xs) from rest s ends none =
       let start = list_at item add (state []) from in
       Repeats-end behind_comma (item_onto item add) start (state (x ∷ xs)) rest
-      (listed start xs x [] from rest s ends (λ t mid read less. Repeats-first behind_comma (item_onto item add) start t mid (ap (λ r. and_then r (all_repeated behind_comma (item_onto item add))) read)))
+      (listed start xs x [] from rest s ends (λ t mid read less. Repeats-start behind_comma (item_onto item add) start t mid (ap (λ r. and_then r (all_repeated behind_comma (item_onto item add))) read)))
       none
 
   pub list_shorter : (xs : List X) (from rest : List Token) → Listed Item xs from rest → length rest < length from
