@@ -202,7 +202,7 @@ three_argument_tokens zs xs ys rest =
     ∙ ap (λ ts. onto zs (Mark mark.Comma ∷ ts)) (onto-append xs (behind_comma ys) (Mark mark.Close ∷ rest))
 
 -- the forms of the operations
-compare_form : (m : the_mark.Mark) (o : Op) → compare_op m ≡ Some o → form_of o ≡ Between (comparison m)
+pub compare_form : (m : the_mark.Mark) (o : Op) → compare_op m ≡ Some o → form_of o ≡ Between (comparison m)
 compare_form mark.Equal o e = let same : op.Eq ≡ o = cc in ap form_of (sym same)
 compare_form mark.NotEqual o e = let same : op.Ne ≡ o = cc in ap form_of (sym same)
 compare_form mark.Less o e = let same : op.Lt ≡ o = cc in ap form_of (sym same)
@@ -212,19 +212,19 @@ compare_form mark.GreaterEqual o e = let same : op.Ge ≡ o = cc in ap form_of (
 compare_form _ o e = absurd (cc)
 
 -- a mark with which the canonical text has the operation
-sum_form : (m : the_mark.Mark) (o : Op) → sum_op m ≡ Some o → (k : the_mark.Mark) × (sum_op k ≡ Some o) × (form_of o ≡ Between (summing k))
+pub sum_form : (m : the_mark.Mark) (o : Op) → sum_op m ≡ Some o → (k : the_mark.Mark) × (sum_op k ≡ Some o) × (form_of o ≡ Between (summing k))
 sum_form mark.Plus o e = let same : op.Add ≡ o = cc in (mark.Plus, e, ap form_of (sym same))
 sum_form mark.Minus o e = let same : op.Sub ≡ o = cc in (mark.Minus, e, ap form_of (sym same))
 sum_form mark.Sign o e = let same : op.Sub ≡ o = cc in (mark.Minus, e, ap form_of (sym same))
 sum_form _ o e = absurd (cc)
 
-mul_form : (m : the_mark.Mark) (o : Op) → mul_op m ≡ Some o → form_of o ≡ Between (multiplying m)
+pub mul_form : (m : the_mark.Mark) (o : Op) → mul_op m ≡ Some o → form_of o ≡ Between (multiplying m)
 mul_form mark.Times o e = let same : op.Mul ≡ o = cc in ap form_of (sym same)
 mul_form mark.Divide o e = let same : op.Div ≡ o = cc in ap form_of (sym same)
 mul_form mark.Rest o e = let same : op.Mod ≡ o = cc in ap form_of (sym same)
 mul_form _ o e = absurd (cc)
 
-call2_form : (w : the_word.Word) (o : Op) → call2_op w ≡ Some o → form_of o ≡ Function w
+pub call2_form : (w : the_word.Word) (o : Op) → call2_op w ≡ Some o → form_of o ≡ Function w
 call2_form word.Starts o e = let same : op.Starts ≡ o = cc in ap form_of (sym same)
 call2_form word.Least o e = let same : op.Least ≡ o = cc in ap form_of (sym same)
 call2_form word.Most o e = let same : op.Most ≡ o = cc in ap form_of (sym same)

@@ -28,3 +28,4 @@ pub mod CanonicalTokens
 pub mod CanonicalExamples
 pub mod Printing
 pub mod BindingExamples
+pub mod NeededParens

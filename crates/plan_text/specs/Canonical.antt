@@ -1,6 +1,6 @@
 -- The canonical text of an expression and of a plan, which is the one that is printed.
 use Prim.Native.Nat.{suc}
-use Rattle.std.specs.Prelude.{ℕ, nat_le, if◌then◌else◌, List, [], ◌∷◌, ◌++◌, codes, pos, negsuc, decimal}
+use Rattle.std.specs.Prelude.{◌≡◌, ℕ, nat_le, if◌then◌else◌, List, [], ◌∷◌, ◌++◌, codes, pos, negsuc, decimal}
 use Rattle.std.specs.List.{flat_map}
 use Rattle.scalar_ops.specs.declared.cell.Cell.{Cell}
 use Rattle.scalar_ops.specs.declared.cell.Cell.TheVariants as cell
@@ -19,7 +19,7 @@ use Rattle.plan_text.specs.declared.plan.NamedPair.{NamedPair}
 use Rattle.plan_text.specs.declared.plan.NamedKey.{NamedKey}
 use Rattle.plan_text.specs.Token.{word_bytes, mark_bytes, is_escaped}
 use Rattle.plan_text.specs.PlainNamed.{PlainExpr, Column, Literal, Call1, Call2, And, Or, If, PlainColumn, PlainTree, From, Where, Select, Distinct, Group, Join, Concat, Order}
-use Rattle.plan_text.specs.Grammar.{Rule, E, AND, NOT, CMP, SUM, MUL, UN, ATOM, agg_word}
+use Rattle.plan_text.specs.Grammar.{Spells, Rule, E, AND, NOT, CMP, SUM, MUL, UN, ATOM, agg_word}
 
 -- A text is made of tokens, and of the spaces between some of them.
 pub data Piece : Type 0 where
@@ -230,3 +230,11 @@ canonical (Order p keys) = stage (canonical p) word.Order (Space ∷ listed key_
 
 abbrev pub canonical_text : PlainTree → List ℕ
 canonical_text plan = text_of (canonical plan)
+
+-- the expression stands in parentheses, with one level less open within them
+pub record StandsInParens (n : ℕ) (e : PlainExpr) (from rest : List Token) : Type 0 where
+  pub inner : ℕ
+  pub level : n ≡ suc inner
+  pub inside : List Token
+  pub opens : from ≡ Mark mark.Open ∷ inside
+  pub spells : Spells E inner e inside (Mark mark.Close ∷ rest)

@@ -1,10 +1,10 @@
 //! Laws of the canonical text.
-ghost use Rattle.std.specs.Prelude.{ℕ, List, []};
+ghost use Rattle.std.specs.Prelude.{◌≡◌, ◌<◌, ℕ, List, []};
 ghost use Rattle.plan_text.specs.declared.token.Token.{Token};
 ghost use Rattle.plan_text.specs.PlainNamed.{PlainExpr, PlainTree};
-ghost use Rattle.plan_text.specs.Grammar.{E, SpellsPlan};
+ghost use Rattle.plan_text.specs.Grammar.{E, Rule, Spells, SpellsPlan};
 ghost use Rattle.plan_text.specs.Answer.{SpellsExpr, SpellsText};
-ghost use Rattle.plan_text.specs.Canonical.{tokens_of, text_of, canonical_expr, canonical, canonical_text};
+ghost use Rattle.plan_text.specs.Canonical.{tokens_of, text_of, canonical_expr, canonical, canonical_text, tightness, rule_of, StandsInParens};
 
 /// The canonical text of a plan opens no more levels than any other text of this plan: its tokens spell the plan with
 /// at most so many levels as suffice for some tokens.
@@ -21,4 +21,16 @@ pub fn canonical_spells()
 /// The canonical text of an expression spells it, where any text does.
 pub fn canonical_expr_spells()
     ensures { (e : PlainExpr) (text : List ℕ) → SpellsExpr e text → SpellsExpr e (text_of (canonical_expr E e)) }
+{}
+
+/// The parentheses of a canonical text are needed: where an expression's own rule is looser than the rule that is to spell
+/// it, each of its texts by this rule is in parentheses.
+pub fn parentheses_are_needed()
+    ensures { (rule : Rule) (levels : ℕ) (e : PlainExpr) (from rest : List Token) → tightness (rule_of e) < tightness rule →
+        Spells rule levels e from rest → StandsInParens levels e from rest }
+{}
+
+/// The canonical text of a plan reads back as this plan and no other.
+pub fn canonical_reads_back()
+    ensures { (plan other : PlainTree) (text : List ℕ) → SpellsText plan text → SpellsText other (canonical_text plan) → other ≡ plan }
 {}
