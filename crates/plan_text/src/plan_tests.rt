@@ -78,7 +78,7 @@ fn stages_have_canonical_texts(rt: HostRuntime) -> Result<(), Fail> {
 }
 
 #[test]
-fn expressions_have_canonical_texts(rt: HostRuntime) -> Result<(), Fail> {
+fn operators_have_canonical_texts(rt: HostRuntime) -> Result<(), Fail> {
     let alloc = rt.alloc();
     for (text, canonical) in [
         ("from s|where a-b-c", "from s | where a - b - c"),
@@ -103,6 +103,17 @@ fn expressions_have_canonical_texts(rt: HostRuntime) -> Result<(), Fail> {
             "from s|where a>b and c>=d",
             "from s | where a > b and c >= d",
         ),
+    ] {
+        assert!(rt; prints(alloc, text.as_bytes(), canonical.as_bytes()));
+        assert!(rt; prints(alloc, canonical.as_bytes(), canonical.as_bytes()));
+    }
+    Ok(())
+}
+
+#[test]
+fn operands_have_canonical_texts(rt: HostRuntime) -> Result<(), Fail> {
+    let alloc = rt.alloc();
+    for (text, canonical) in [
         ("from s|where-a", "from s | where - a"),
         ("from s|where- -a", "from s | where - - a"),
         ("from s|where-5", "from s | where -5"),
