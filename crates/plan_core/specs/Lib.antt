@@ -1,5 +1,6 @@
 pub mod PlainExpr
 pub mod PlainPlan
+pub mod Heights
 pub mod Columns
 pub mod ExpressionValue
 pub mod ExpressionKind

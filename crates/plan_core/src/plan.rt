@@ -1,7 +1,7 @@
 //! Plans.
 ghost use Rattle.std.specs.Prelude.{◌≡◌, ◌++◌, ◌↔◌, map, IfOk, OnOk, IsTrue};
 ghost use Rattle.plan_core.specs.PlainExpr.{expr_of};
-ghost use Rattle.plan_core.specs.PlainPlan.{plan_of, leaves};
+ghost use Rattle.plan_core.specs.PlainPlan.{plan_of, leaves, Scan, Filter, Project, Distinct, Group, Join, Concat, Order};
 
 use crate::agg::Agg;
 use crate::expr::Expr;
@@ -103,64 +103,125 @@ impl Plan {
     }
 
     /// Whether the two are equal.
+    #[cycle(same)]
     pub fn is_same(&self, other: &Plan) -> bool
         ensures { IsTrue result ↔ (plan_of self.now ≡ plan_of other.now) }
     {
-        match (self, other) {
-            (Plan::Scan { stream }, Plan::Scan { stream: other }) => stream == other,
-            (
-                Plan::Filter { child, test },
-                Plan::Filter {
-                    child: other,
-                    test: other_test,
-                },
-            ) => child.is_same(other) && test.is_same(other_test),
-            (
-                Plan::Project { child, columns },
-                Plan::Project {
-                    child: other,
-                    columns: other_columns,
-                },
-            ) => child.is_same(other) && are_same_exprs(columns.items(), other_columns.items()),
-            (Plan::Distinct { child }, Plan::Distinct { child: other }) => child.is_same(other),
-            (
-                Plan::Group { child, keys, aggs },
-                Plan::Group {
-                    child: other,
-                    keys: other_keys,
-                    aggs: other_aggs,
-                },
-            ) => {
-                child.is_same(other)
-                    && are_same_numbers(keys.items(), other_keys.items())
-                    && are_same_aggs(aggs.items(), other_aggs.items())
+        match self {
+            Plan::Scan { stream } => other.is_scan(*stream),
+            Plan::Filter { child, test } => other.is_filter(child, test),
+            Plan::Project { child, columns } => other.is_project(child, columns.items()),
+            Plan::Distinct { child } => other.is_distinct(child),
+            Plan::Group { child, keys, aggs } => other.is_group(child, keys.items(), aggs.items()),
+            Plan::Join { left, right, on } => other.is_join(left, right, on.items()),
+            Plan::Concat { left, right } => other.is_concat(left, right),
+            Plan::Order { child, keys } => other.is_order(child, keys.items()),
+        }
+    }
+
+    fn is_scan(&self, stream: u32) -> bool
+        ensures { IsTrue result ↔ (Scan stream ≡ plan_of self.now) }
+    {
+        match self {
+            Plan::Scan { stream: own } => stream == *own,
+            _ => false,
+        }
+    }
+
+    #[cycle(same)]
+    fn is_filter(&self, child: &Plan, test: &Expr) -> bool
+        ensures { IsTrue result ↔ (Filter (plan_of child.now) (expr_of test.now) ≡ plan_of self.now) }
+    {
+        match self {
+            Plan::Filter {
+                child: own,
+                test: own_test,
+            } => child.is_same(own) && test.is_same(own_test),
+            _ => false,
+        }
+    }
+
+    #[cycle(same)]
+    fn is_project(&self, child: &Plan, columns: &[Expr]) -> bool
+        ensures { IsTrue result ↔ (Project (plan_of child.now) (map expr_of columns.now) ≡ plan_of self.now) }
+    {
+        match self {
+            Plan::Project {
+                child: own,
+                columns: own_columns,
+            } => child.is_same(own) && are_same_exprs(columns, own_columns.items()),
+            _ => false,
+        }
+    }
+
+    #[cycle(same)]
+    fn is_distinct(&self, child: &Plan) -> bool
+        ensures { IsTrue result ↔ (Distinct (plan_of child.now) ≡ plan_of self.now) }
+    {
+        match self {
+            Plan::Distinct { child: own } => child.is_same(own),
+            _ => false,
+        }
+    }
+
+    #[cycle(same)]
+    fn is_group(&self, child: &Plan, keys: &[u32], aggs: &[Agg]) -> bool
+        ensures { IsTrue result ↔ (Group (plan_of child.now) keys.now aggs.now ≡ plan_of self.now) }
+    {
+        match self {
+            Plan::Group {
+                child: own,
+                keys: own_keys,
+                aggs: own_aggs,
+            } => {
+                child.is_same(own)
+                    && are_same_numbers(keys, own_keys.items())
+                    && are_same_aggs(aggs, own_aggs.items())
             }
-            (
-                Plan::Join { left, right, on },
-                Plan::Join {
-                    left: other_left,
-                    right: other_right,
-                    on: other_on,
-                },
-            ) => {
-                left.is_same(other_left)
-                    && right.is_same(other_right)
-                    && are_same_pairs(on.items(), other_on.items())
+            _ => false,
+        }
+    }
+
+    #[cycle(same)]
+    fn is_join(&self, left: &Plan, right: &Plan, on: &[(u32, u32)]) -> bool
+        ensures { IsTrue result ↔ (Join (plan_of left.now) (plan_of right.now) on.now ≡ plan_of self.now) }
+    {
+        match self {
+            Plan::Join {
+                left: own_left,
+                right: own_right,
+                on: own_on,
+            } => {
+                left.is_same(own_left)
+                    && right.is_same(own_right)
+                    && are_same_pairs(on, own_on.items())
             }
-            (
-                Plan::Concat { left, right },
-                Plan::Concat {
-                    left: other_left,
-                    right: other_right,
-                },
-            ) => left.is_same(other_left) && right.is_same(other_right),
-            (
-                Plan::Order { child, keys },
-                Plan::Order {
-                    child: other,
-                    keys: other_keys,
-                },
-            ) => child.is_same(other) && are_same_keys(keys.items(), other_keys.items()),
+            _ => false,
+        }
+    }
+
+    #[cycle(same)]
+    fn is_concat(&self, left: &Plan, right: &Plan) -> bool
+        ensures { IsTrue result ↔ (Concat (plan_of left.now) (plan_of right.now) ≡ plan_of self.now) }
+    {
+        match self {
+            Plan::Concat {
+                left: own_left,
+                right: own_right,
+            } => left.is_same(own_left) && right.is_same(own_right),
+            _ => false,
+        }
+    }
+
+    #[cycle(same)]
+    fn is_order(&self, child: &Plan, keys: &[Key]) -> bool
+        ensures { IsTrue result ↔ (Order (plan_of child.now) keys.now ≡ plan_of self.now) }
+    {
+        match self {
+            Plan::Order {
+                child: own,
+                keys: own_keys,
+            } => child.is_same(own) && are_same_keys(keys, own_keys.items()),
             _ => false,
         }
     }

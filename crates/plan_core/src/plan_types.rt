@@ -36,49 +36,41 @@ pub fn typing_of(
 {
     match plan {
         Plan::Scan { stream } => scan_typing(alloc, schemas, *stream),
-        Plan::Filter { child, test } => {
-            let Some(child) = typing_of(alloc, schemas, child)? else {
-                return Ok(None);
-            };
-            Ok(filter_typing(child, test))
-        }
-        Plan::Project { child, columns } => {
-            let Some(child) = typing_of(alloc, schemas, child)? else {
-                return Ok(None);
-            };
-            project_typing(alloc, &child, columns.items())
-        }
+        Plan::Filter { child, test } => match typing_of(alloc, schemas, child)? {
+            Some(child) => Ok(filter_typing(child, test)),
+            None => Ok(None),
+        },
+        Plan::Project { child, columns } => match typing_of(alloc, schemas, child)? {
+            Some(child) => project_typing(alloc, &child, columns.items()),
+            None => Ok(None),
+        },
         Plan::Distinct { child } => typing_of(alloc, schemas, child),
-        Plan::Group { child, keys, aggs } => {
-            let Some(child) = typing_of(alloc, schemas, child)? else {
-                return Ok(None);
-            };
-            group_typing(alloc, &child, keys.items(), aggs.items())
-        }
+        Plan::Group { child, keys, aggs } => match typing_of(alloc, schemas, child)? {
+            Some(child) => group_typing(alloc, &child, keys.items(), aggs.items()),
+            None => Ok(None),
+        },
         Plan::Join { left, right, on } => {
             let Some(left) = typing_of(alloc, schemas, left)? else {
                 return Ok(None);
             };
-            let Some(right) = typing_of(alloc, schemas, right)? else {
-                return Ok(None);
-            };
-            join_typing(left, &right, on.items())
+            match typing_of(alloc, schemas, right)? {
+                Some(right) => join_typing(left, &right, on.items()),
+                None => Ok(None),
+            }
         }
         Plan::Concat { left, right } => {
             let Some(left) = typing_of(alloc, schemas, left)? else {
                 return Ok(None);
             };
-            let Some(right) = typing_of(alloc, schemas, right)? else {
-                return Ok(None);
-            };
-            Ok(concat_typing(left, &right))
+            match typing_of(alloc, schemas, right)? {
+                Some(right) => Ok(concat_typing(left, &right)),
+                None => Ok(None),
+            }
         }
-        Plan::Order { child, keys } => {
-            let Some(child) = typing_of(alloc, schemas, child)? else {
-                return Ok(None);
-            };
-            Ok(order_typing(child, keys.items()))
-        }
+        Plan::Order { child, keys } => match typing_of(alloc, schemas, child)? {
+            Some(child) => Ok(order_typing(child, keys.items())),
+            None => Ok(None),
+        },
     }
 }
 

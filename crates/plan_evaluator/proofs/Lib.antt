@@ -7,5 +7,4 @@ pub mod TypedOperators
 pub mod TypedPlans
 pub mod Loops
 pub mod TypedParts
-pub mod Heights
 pub mod KeptRows

@@ -1,5 +1,5 @@
 -- How many operators stand one above another in a plan.
-use Rattle.std.proofs.Common.{ℕ, suc, ◌+◌}
+use Rattle.std.specs.Prelude.{ℕ, suc, ◌+◌}
 use Rattle.plan_core.specs.PlainPlan.{PlainPlan, Scan, Filter, Project, Distinct, Group, Join, Concat, Order}
 
 abbrev pub height : PlainPlan → ℕ
