@@ -1,3 +1,2 @@
-pub mod AllThere
 pub mod ExprLaws
 pub mod PlanLaws

@@ -5,6 +5,7 @@ pub mod Columns
 pub mod ExpressionValue
 pub mod ExpressionKind
 pub mod PlanTyping
+pub mod AllThere
 pub mod Filter
 pub mod Project
 pub mod Distinct

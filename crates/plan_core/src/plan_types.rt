@@ -187,7 +187,7 @@ fn order_typing(child: Typing, keys: &[Key]) -> Option<Typing>
 }
 
 /// The kinds of these columns, where each has one.
-#[tactic(auto, using(crate::proofs::AllThere::found_start, crate::proofs::AllThere::found_more, crate::proofs::AllThere::found_none, crate::proofs::AllThere::found_end))]
+#[tactic(auto, using(crate::specs::AllThere::found_start, crate::specs::AllThere::found_more, crate::specs::AllThere::found_none, crate::specs::AllThere::found_end))]
 fn column_kinds(
     alloc: Global,
     kinds: &[Kind],
@@ -206,7 +206,7 @@ fn column_kinds(
 }
 
 /// The kinds of these keys, where each column is there.
-#[tactic(auto, using(crate::proofs::AllThere::found_start, crate::proofs::AllThere::found_more, crate::proofs::AllThere::found_none, crate::proofs::AllThere::found_end))]
+#[tactic(auto, using(crate::specs::AllThere::found_start, crate::specs::AllThere::found_more, crate::specs::AllThere::found_none, crate::specs::AllThere::found_end))]
 fn key_kinds(alloc: Global, kinds: &[Kind], keys: &[u32]) -> Result<Option<Vec<Kind>>, Memory>
     ensures { IfOk result (λ r. option_map (λ v. v.items) r ≡ all_there (map (slice_get kinds.now) keys.now)) }
 {
@@ -221,7 +221,7 @@ fn key_kinds(alloc: Global, kinds: &[Kind], keys: &[u32]) -> Result<Option<Vec<K
 }
 
 /// The kinds of these aggregates, where each has one.
-#[tactic(auto, using(crate::proofs::AllThere::found_start, crate::proofs::AllThere::found_more, crate::proofs::AllThere::found_none, crate::proofs::AllThere::found_end))]
+#[tactic(auto, using(crate::specs::AllThere::found_start, crate::specs::AllThere::found_more, crate::specs::AllThere::found_none, crate::specs::AllThere::found_end))]
 fn agg_kinds(alloc: Global, kinds: &[Kind], aggs: &[Agg]) -> Result<Option<Vec<Kind>>, Memory>
     ensures { IfOk result (λ r. option_map (λ v. v.items) r ≡ all_there (map (agg_kind kinds.now) aggs.now)) }
 {

@@ -1,4 +1,3 @@
-pub mod AllThere
 pub mod BindingLaws
 pub mod BoundKinds
 pub mod BoundLeaves

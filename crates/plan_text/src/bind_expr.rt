@@ -149,7 +149,7 @@ fn choose(
 }
 
 /// The expressions of the columns, where each is there.
-#[tactic(auto, using(crate::proofs::AllThere::found_start, crate::proofs::AllThere::found_more, crate::proofs::AllThere::found_none, crate::proofs::AllThere::found_end))]
+#[tactic(auto, using(plan_core::specs::AllThere::found_start, plan_core::specs::AllThere::found_more, plan_core::specs::AllThere::found_none, plan_core::specs::AllThere::found_end))]
 pub fn bind_exprs(
     alloc: Global,
     names: &[Name],

@@ -61,7 +61,7 @@ pub fn copy_names(alloc: Global, names: &[Name]) -> Result<Vec<Name>, Memory>
 }
 
 /// The places of these names, where each is there.
-#[tactic(auto, using(crate::proofs::AllThere::found_start, crate::proofs::AllThere::found_more, crate::proofs::AllThere::found_none, crate::proofs::AllThere::found_end))]
+#[tactic(auto, using(plan_core::specs::AllThere::found_start, plan_core::specs::AllThere::found_more, plan_core::specs::AllThere::found_none, plan_core::specs::AllThere::found_end))]
 pub fn bind_columns(
     alloc: Global,
     names: &[Name],
@@ -80,7 +80,7 @@ pub fn bind_columns(
 }
 
 /// The pairs with numbers, where each name is there.
-#[tactic(auto, using(crate::proofs::AllThere::found_start, crate::proofs::AllThere::found_more, crate::proofs::AllThere::found_none, crate::proofs::AllThere::found_end))]
+#[tactic(auto, using(plan_core::specs::AllThere::found_start, plan_core::specs::AllThere::found_more, plan_core::specs::AllThere::found_none, plan_core::specs::AllThere::found_end))]
 pub fn bind_pairs(
     alloc: Global,
     lefts: &[Name],
@@ -116,7 +116,7 @@ fn bind_pair(
 }
 
 /// The keys with numbers, where each name is there.
-#[tactic(auto, using(crate::proofs::AllThere::found_start, crate::proofs::AllThere::found_more, crate::proofs::AllThere::found_none, crate::proofs::AllThere::found_end))]
+#[tactic(auto, using(plan_core::specs::AllThere::found_start, plan_core::specs::AllThere::found_more, plan_core::specs::AllThere::found_none, plan_core::specs::AllThere::found_end))]
 pub fn bind_keys(
     alloc: Global,
     names: &[Name],
@@ -143,7 +143,7 @@ fn bind_key(names: &[Name], key: &NamedKey) -> Result<Option<Key>, Memory>
 }
 
 /// The aggregates of the results with numbers, where each column is there.
-#[tactic(auto, using(crate::proofs::AllThere::found_start, crate::proofs::AllThere::found_more, crate::proofs::AllThere::found_none, crate::proofs::AllThere::found_end))]
+#[tactic(auto, using(plan_core::specs::AllThere::found_start, plan_core::specs::AllThere::found_more, plan_core::specs::AllThere::found_none, plan_core::specs::AllThere::found_end))]
 pub fn bind_aggs(
     alloc: Global,
     names: &[Name],

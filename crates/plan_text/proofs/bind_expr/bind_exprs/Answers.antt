@@ -2,9 +2,9 @@
 use Rattle.std.proofs.Common.{◌≡◌, ◌∙◌, sym, ap, map, None, Some, arith}
 use Rattle.plan_core.specs.PlainExpr as bound
 use Rattle.plan_core.specs.PlanTyping.{all_there}
+use Rattle.plan_core.specs.AllThere.{found_none, found_end}
 use Rattle.plan_text.specs.PlainNamed.{expr_of}
 use Rattle.plan_text.specs.Binding.{bound_expr}
-use Rattle.plan_text.proofs.AllThere.{found_none, found_end}
 use Rattle.plan_text.proofs.BindingLaws.{exprs_of_columns}
 use Rattle.plan_text.proofs.bind_expr.bind_exprs.Goals as goal
 

@@ -1,9 +1,9 @@
 -- The expressions so far are those of the columns so far.
 use Rattle.std.proofs.Common.{map}
 use Rattle.plan_core.specs.PlainExpr as bound
+use Rattle.plan_core.specs.AllThere.{HasFound}
 use Rattle.plan_text.specs.PlainNamed.{expr_of}
 use Rattle.plan_text.specs.Binding.{bound_expr}
-use Rattle.plan_text.proofs.AllThere.{HasFound}
 use Rattle.plan_text.proofs.bind_expr.bind_exprs.Given as goal
 
 abbrev pub invariant-loop-column : goal.invariant-loop-column

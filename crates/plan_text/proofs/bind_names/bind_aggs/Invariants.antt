@@ -1,6 +1,6 @@
 -- The aggregates so far are those of the results so far.
+use Rattle.plan_core.specs.AllThere.{HasFound}
 use Rattle.plan_text.specs.Binding.{bound_agg}
-use Rattle.plan_text.proofs.AllThere.{HasFound}
 use Rattle.plan_text.proofs.bind_names.bind_aggs.Given as goal
 
 abbrev pub invariant-loop-result : goal.invariant-loop-result

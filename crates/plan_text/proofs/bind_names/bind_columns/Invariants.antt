@@ -1,6 +1,6 @@
 -- The places so far are those of the columns so far.
+use Rattle.plan_core.specs.AllThere.{HasFound}
 use Rattle.plan_text.specs.Binding.{place_of}
-use Rattle.plan_text.proofs.AllThere.{HasFound}
 use Rattle.plan_text.proofs.bind_names.bind_columns.Given as goal
 
 abbrev pub invariant-loop-column : goal.invariant-loop-column

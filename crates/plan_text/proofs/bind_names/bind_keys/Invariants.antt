@@ -1,6 +1,6 @@
 -- The keys so far are those with names so far.
+use Rattle.plan_core.specs.AllThere.{HasFound}
 use Rattle.plan_text.specs.Binding.{bound_key}
-use Rattle.plan_text.proofs.AllThere.{HasFound}
 use Rattle.plan_text.proofs.bind_names.bind_keys.Given as goal
 
 abbrev pub invariant-loop-key : goal.invariant-loop-key
