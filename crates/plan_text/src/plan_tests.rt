@@ -151,26 +151,62 @@ fn operands_have_canonical_texts(rt: HostRuntime) -> Result<(), Fail> {
 }
 
 #[test]
+fn spaces_mean_nothing(rt: HostRuntime) -> Result<(), Fail> {
+    let alloc = rt.alloc();
+    for (none, many, canonical) in [
+        (
+            "from s|select x=-a,y=if(not b,-5,abs(c))|where x!=y or starts(z,\"q\")",
+            "  from  s  |  select  x  =  -  a  ,  y  =  if  (  not  b  ,  -5  ,  abs  (  c  )  )  |  where  x  !=  y  or  starts  (  z  ,  \"q\"  )  ",
+            "from s | select x = - a, y = if(not b, -5, abs(c)) | where x != y or starts(z, \"q\")",
+        ),
+        (
+            "from s|join(from t|distinct)on a=b,c=d|concat(from u)|order a desc,b",
+            "  from  s  |  join  (  from  t  |  distinct  )  on  a  =  b  ,  c  =  d  |  concat  (  from  u  )  |  order  a  desc  ,  b  ",
+            "from s | join (from t | distinct) on a = b, c = d | concat (from u) | order a desc, b",
+        ),
+        (
+            "from s|group k,m with n=count(),t=sum(q)",
+            "  from  s  |  group  k  ,  m  with  n  =  count  (  )  ,  t  =  sum  (  q  )  ",
+            "from s | group k, m with n = count(), t = sum(q)",
+        ),
+    ] {
+        assert!(rt; prints(alloc, none.as_bytes(), canonical.as_bytes()));
+        assert!(rt; prints(alloc, many.as_bytes(), canonical.as_bytes()));
+    }
+    Ok(())
+}
+
+#[test]
 fn stored_texts_are_their_own_canonical_texts(rt: HostRuntime) -> Result<(), Fail> {
     let alloc = rt.alloc();
     for text in [
         "from orders | group item with n = sum(qty)",
+        "from orders | where item > 1",
+        "from orders | where id > 0",
         "from big | group g with t = sum(v)",
         "from m | select a = x + 1, b = x | select c = b",
         "from l | join (from r) on id = k",
         "from s | join (from s | select b = a * 10) on a = b",
         "from a | group g with w = avg(v)",
         "from p | where a > 1 | where b < 5",
+        "from p | where a > 1 and b < 5",
         "from p | where a > 1 and b < 5 | select c = a * 10 + b",
         "from w | select x = a, y = a, z = a",
         "from e | group a with n = count()",
+        "from e",
+        "from d | distinct",
+        "from d | where a > 0",
         "from o | order k desc",
         "from d | concat (from d)",
         "from m | select y = x % -1",
+        "from m | select y = x / -1",
         "from m | select y = x / 2, z = x % 3",
         "from orders | where id / 0 = 1",
+        "from s0 | group tag with n = count()",
         "from s0 | group tag with t = sum(qty), a = avg(qty)",
+        "from s1 | where qty > 0 | group tag with t = sum(qty)",
         "from s1 | where qty > 0 | select k = tag, v = qty * 2",
+        "from s2 | select k = tag | distinct",
         "from s2 | select k = tag | distinct | order k",
         "from s0 | order qty desc, id",
         "from s0 | concat (from s1) | group tag with n = count()",
@@ -193,6 +229,7 @@ fn what_is_no_plan_is_refused(rt: HostRuntime) -> Result<(), Fail> {
         "from",
         "from s |",
         "from s | where",
+        "from nope | where",
         "from s where a",
         "from s | where a b",
         "from s | select a",
@@ -248,10 +285,58 @@ fn a_plan_has_limits(rt: HostRuntime) -> Result<(), Fail> {
     assert_eq!(rt; refusal(alloc, many.as_slice()), nodes);
     let most = with_more(alloc, b"from s|where a|where a", b"+a", 255)?;
     assert_eq!(rt; refusal(alloc, most.as_slice()), None);
-    let more = with_more(alloc, b"from s|where a+a|where a", b"+a", 255)?;
+    let more = with_more(alloc, b"from s|where a|where a|where a", b"+a", 255)?;
     assert_eq!(rt; refusal(alloc, more.as_slice()), exprs);
     let both = with_more(alloc, b"from s|where a", b"+a|distinct", 300)?;
     assert_eq!(rt; refusal(alloc, both.as_slice()), Some(TextRefusal::Syntax));
+    Ok(())
+}
+
+#[test]
+fn plans_at_the_limits_are_printed(rt: HostRuntime) -> Result<(), Fail> {
+    let alloc = rt.alloc();
+    for (first, part, count) in [
+        ("from s", " | where a", 39),
+        ("from s", " | distinct", 8),
+        ("from s", " | concat (from t)", 8),
+        ("from s", " | join (from t) on a = b", 8),
+        ("from s | where a | where a", " + a", 255),
+        (
+            "from s",
+            " | where if(a, 1, b) or c and not d = e + 5 * len(\"t\")",
+            32,
+        ),
+    ] {
+        let text = with_more(alloc, first.as_bytes(), part.as_bytes(), count)?;
+        assert!(rt; prints(alloc, text.as_slice(), text.as_slice()));
+    }
+    Ok(())
+}
+
+#[test]
+fn plans_beyond_the_limits_are_refused(rt: HostRuntime) -> Result<(), Fail> {
+    let alloc = rt.alloc();
+    for (first, part, count, what) in [
+        ("from s", "|concat(from t)", 20, PlanLimit::Nodes),
+        ("from s", "|concat(from t)", 19, PlanLimit::Wide),
+        ("from s", "|join(from t)on a=b", 9, PlanLimit::Wide),
+        (
+            "from s",
+            "|distinct|concat(from t)|join(from u)on a=b",
+            3,
+            PlanLimit::Wide,
+        ),
+        (
+            "from s|where a",
+            "|where if(a,1,b)or c and not d=e+5*len(\"t\")",
+            32,
+            PlanLimit::Exprs,
+        ),
+    ] {
+        let text = with_more(alloc, first.as_bytes(), part.as_bytes(), count)?;
+        let limit = Some(TextRefusal::Limit { what });
+        assert_eq!(rt; refusal(alloc, text.as_slice()), limit);
+    }
     Ok(())
 }
 
@@ -277,5 +362,34 @@ fn levels_are_counted_over_all_constructs(rt: HostRuntime) -> Result<(), Fail> {
         refusal(alloc, deeper.as_slice()),
         Some(TextRefusal::Syntax)
     );
+    Ok(())
+}
+
+/// A test in so many levels: one part opens each of them, and the other one closes it.
+fn in_levels(
+    alloc: Global,
+    opening: &[u8],
+    closing: &[u8],
+    levels: usize,
+) -> Result<Vec<u8>, AllocError> {
+    let mut text = with_more(alloc, b"from s | where ", opening, levels)?;
+    text.push(b'a')?;
+    with_more(alloc, text.as_slice(), closing, levels)
+}
+
+#[test]
+fn a_test_has_32_levels_at_most(rt: HostRuntime) -> Result<(), Fail> {
+    let alloc = rt.alloc();
+    let bare = in_levels(alloc, b"(", b")", 32)?;
+    assert!(rt; prints(alloc, bare.as_slice(), b"from s | where a"));
+    let syntax = Some(TextRefusal::Syntax);
+    for (opening, closing) in [("not ", ""), ("- ", ""), ("if(", ", b, c)")] {
+        let deepest = in_levels(alloc, opening.as_bytes(), closing.as_bytes(), 32)?;
+        assert!(rt; prints(alloc, deepest.as_slice(), deepest.as_slice()));
+        let deeper = in_levels(alloc, opening.as_bytes(), closing.as_bytes(), 33)?;
+        assert_eq!(rt; refusal(alloc, deeper.as_slice()), syntax);
+    }
+    let deeper = in_levels(alloc, b"(", b")", 33)?;
+    assert_eq!(rt; refusal(alloc, deeper.as_slice()), syntax);
     Ok(())
 }
