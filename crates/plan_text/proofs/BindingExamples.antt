@@ -15,6 +15,7 @@ use Rattle.plan_text.specs.PlainNamed as named
 use Rattle.plan_text.specs.PlainNamed.{PlainTree, From, Where, Select}
 use Rattle.plan_text.specs.OpRows.{row_with, first_row}
 use Rattle.plan_text.specs.Binding.{Names, binding}
+use Rattle.plan_text.specs.CallRows.{plan_lacks_row}
 
 abbrev streams : Names
 streams = codes "l" ∷ codes "r" ∷ []
@@ -47,6 +48,17 @@ kinds_apart : binding streams schemas (Where (From (codes "l")) (named.Call2 op.
     ≡ Ok (Filter (Scan 0) (Call2 13 (Column 0) (Column 1)))
 unfolding row_with first_row
 kinds_apart = refl
+
+call_without_row : plan_lacks_row streams schemas
+    (named.Distinct (Where (From (codes "l")) (named.Call1 op.Not (named.Call2 op.Lt (named.Column (codes "id")) (named.Column (codes "t")))))) ≡ true
+unfolding row_with
+call_without_row = refl
+
+-- numbers are compared with numbers, and texts with texts
+calls_with_rows : plan_lacks_row streams schemas
+    (Where (Where both (named.Call2 op.Lt (named.Column (codes "t")) (named.Column (codes "v")))) (named.Call2 op.Lt (named.Column (codes "id")) (named.Column (codes "k")))) ≡ false
+unfolding row_with
+calls_with_rows = refl
 
 -- a group's columns are its keys and then its results: `from l | group t with n = count(), s = sum(id) | order s desc, t`
 grouped_and_ordered : binding streams schemas

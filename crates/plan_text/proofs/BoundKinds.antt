@@ -38,7 +38,7 @@ both_some f (Some a) (Some b) y e = record { left = a; right = b; left_there = r
 both_some f (Some a) None y e = absurd cc
 both_some f None p y e = absurd cc
 
-if_some : {A : Type 0} (refused : Bool) (o : Option A) (y : A) → cond refused None o ≡ Some y → o ≡ Some y
+pub if_some : {A : Type 0} (refused : Bool) (o : Option A) (y : A) → cond refused None o ≡ Some y → o ≡ Some y
 if_some true o y e = absurd cc
 if_some false o y e = e
 

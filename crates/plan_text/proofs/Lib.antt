@@ -1,6 +1,7 @@
 pub mod BindingLaws
 pub mod BoundKinds
 pub mod BoundLeaves
+pub mod CallRowLaws
 pub mod OpRowLaws
 pub mod TokenLemmas
 pub mod ReadingLemmas

@@ -174,11 +174,9 @@ all_there-some : {A : Type 0} (xs : List A) → all_there (map Some xs) ≡ Some
 all_there-some [] = refl
 all_there-some (x ∷ xs) = ap (option_and_then (λ others. Some (x ∷ others))) (all_there-some xs)
 
--- a row that has the operation and gives a kind at these kinds is the one that is chosen
-pub row_of_kinds : (o : Op) (kinds : List CellKind) (i : ℕ) → op_at i ≡ o → IsSome (call_kind i kinds) → row_for o (map Some kinds) ≡ i
-row_of_kinds o kinds i e typed =
-    ap (λ (ks : Option (List CellKind)). unwrap_or (option_and_then (row_with o) ks) (first_row o)) (all_there-some kinds)
-    ∙ ap (λ (r : Option ℕ). unwrap_or r (first_row o)) (found_row o kinds i (go (slice_get OPS.rows i) refl typed))
+-- a row that has the operation and gives a kind at these kinds is the one that is found
+row_found : (o : Op) (kinds : List CellKind) (i : ℕ) → op_at i ≡ o → IsSome (call_kind i kinds) → row_with o kinds ≡ Some i
+row_found o kinds i e typed = found_row o kinds i (go (slice_get OPS.rows i) refl typed)
   where
     fits : (r : OpRow) (same : Bool) → pointwise same_cell_kind kinds (kinds_of_args r.args) ≡ same → IsSome (cond same (Some r.result) None) → kinds_of_args r.args ≡ kinds
     fits r true is some = sym ((pointwise_decides same_cell_kind-Decides kinds (kinds_of_args r.args)).0 is)
@@ -189,3 +187,16 @@ row_of_kinds o kinds i e typed =
         → IsSomeAnd r (IsRowFor o kinds)
     go None there some = absurd (false≢true some)
     go (Some r) there some = (sym (row_operation r.op r i there refl) ∙ e, fits r _ refl some)
+
+row_for-found : (o : Op) (kinds : List CellKind) → row_for o (map Some kinds) ≡ unwrap_or (row_with o kinds) (first_row o)
+row_for-found o kinds = ap (λ (ks : Option (List CellKind)). unwrap_or (option_and_then (row_with o) ks) (first_row o)) (all_there-some kinds)
+
+-- and the one that is chosen
+pub row_of_kinds : (o : Op) (kinds : List CellKind) (i : ℕ) → op_at i ≡ o → IsSome (call_kind i kinds) → row_for o (map Some kinds) ≡ i
+row_of_kinds o kinds i e typed = row_for-found o kinds ∙ ap (λ (r : Option ℕ). unwrap_or r (first_row o)) (row_found o kinds i e typed)
+
+-- where the call of the chosen row has a kind, the table has a row for its arguments' kinds
+pub chosen_found : (o : Op) (kinds : List CellKind) → IsSome (call_kind (row_for o (map Some kinds)) kinds)
+    → option_and_then (row_with o) (all_there (map Some kinds)) ≡ Some (row_for o (map Some kinds))
+chosen_found o kinds typed =
+    ap (option_and_then (row_with o)) (all_there-some kinds) ∙ row_found o kinds (row_for o (map Some kinds)) (keeps_operation o (map Some kinds)) typed

@@ -13,3 +13,4 @@ pub mod PrintCode
 pub mod OpRows
 pub mod Binding
 pub mod BoundPlan
+pub mod CallRows

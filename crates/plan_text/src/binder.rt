@@ -22,7 +22,9 @@ use std::alloc::Global;
 /// place among the names, a column's its place among the columns of its operator's input. `Unknown` exactly where a stream
 /// isn't there, the first from the left; else `IllTyped` exactly where a column isn't there, two of the columns of a
 /// `select`, a `group` or a `join` have one name, or a stream has no schema. A call is of the row of `OPS` that has its
-/// operation and its arguments' kinds; where none has them it is of the operation's first row, and the plan has no typing.
+/// operation and its arguments' kinds; where none has them it is of the operation's first row, and the plan has no typing
+/// (`plans_without_a_row_have_no_typing`). The rules are this project's own. `Memory` where memory was asked for and
+/// refused, or a place is above 4,294,967,295: no list is that long.
 pub fn bind(
     alloc: Global,
     plan: &NamedPlan,
