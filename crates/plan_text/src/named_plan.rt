@@ -8,7 +8,8 @@ use rows_core::{Memory, Name, Seq};
 use std::alloc::Global;
 use std::marker::Model;
 
-/// A plan with names that some text within the limits spells. Contracts see it as its operators, without their boxes.
+/// A plan with names that some text within the limits spells. The grammar and the limits are this project's own. Contracts
+/// see it as its operators, without their boxes.
 #[derive(Debug, Drop)]
 pub struct NamedPlan {
     tree: NamedTree,
@@ -31,7 +32,7 @@ impl Model for NamedPlan {
 }
 
 impl NamedPlan {
-    /// The plan of these operators.
+    /// The plan of these operators, with copies of its streams' names. `Memory` where memory was asked for and refused.
     pub fn new(alloc: Global, tree: NamedTree) -> Result<NamedPlan, Memory>
         requires written { IsWritten (tree_of tree) }
         ensures { IfOk result (λ plan. plan ≡ tree_of tree) }
@@ -52,7 +53,7 @@ impl NamedPlan {
         &self.tree
     }
 
-    /// The names of the streams of the leaves, from the left.
+    /// The names of the streams of the leaves, from the left. It takes no memory.
     pub fn streams(&self) -> &[Name]
         ensures { result.now ≡ streams_of self.now }
     {

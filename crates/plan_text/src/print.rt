@@ -18,7 +18,8 @@ use crate::token::Word;
 use rows_core::{Memory, Name};
 use std::alloc::Global;
 
-/// The canonical text of an expression, as it stands behind `where`.
+/// The canonical text of an expression, as it stands behind `where`. The rules are this project's own. `Memory` where memory
+/// was asked for and refused.
 pub fn print_expr(alloc: Global, expr: &NamedExpr) -> Result<Vec<u8>, Memory>
     ensures { IfOk result (λ text. text.items ≡ text_of (canonical_expr E (expr_of expr.now))) }
 {
@@ -27,7 +28,8 @@ pub fn print_expr(alloc: Global, expr: &NamedExpr) -> Result<Vec<u8>, Memory>
     Ok(text)
 }
 
-/// The canonical text of a plan, which spells it: single spaces, and parentheses exactly where the grammar needs them.
+/// The canonical text of a plan, which spells it: single spaces, and parentheses exactly where the grammar needs them. The
+/// grammar and these rules are this project's own. `Memory` where memory was asked for and refused.
 pub fn print_plan(alloc: Global, plan: &NamedPlan) -> Result<Vec<u8>, Memory>
     ensures text { IfOk result (λ text. text.items ≡ canonical_text plan.now) }
     ensures spells { IfOk result (λ text. SpellsText plan.now text.items) }

@@ -95,6 +95,7 @@ const WORDS: [Word; 22] = [
 ];
 
 impl Word {
+    /// How the word is spelled, in lower-case letters. It takes no memory.
     pub fn bytes(&self) -> &[u8]
         ensures { result.now ≡ word_bytes self.now }
     {
@@ -135,6 +136,7 @@ impl Word {
 }
 
 impl Mark {
+    /// How the mark is spelled, in one byte or two; `Minus` and `Sign` alike. It takes no memory.
     pub fn bytes(&self) -> &[u8]
         ensures { result.now ≡ mark_bytes self.now }
     {
