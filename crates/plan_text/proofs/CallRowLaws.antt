@@ -1,6 +1,6 @@
 -- A bound plan with a typing has a row for each call.
 use Rattle.std.proofs.Common.{◌≡◌, ◌∙◌, refl, sym, ap, ℕ, Bool, true, false, ◌||◌, cond, List, [], ◌∷◌, ◌++◌, map, slice_get, Option, None, Some, Ok}
-use Rattle.std.proofs.lemmas.Bool.{false≢true}
+use Rattle.std.proofs.lemmas.Bool.{false≢true, or_from}
 use Rattle.std.specs.Option.{option_and_then, is_none, is_some}
 use Rattle.std.specs.List.{list_any}
 use Rattle.rows_core.specs.declared.schema.Column as schema
@@ -22,10 +22,6 @@ use Rattle.plan_text.specs.Binding.{Names, Bound, kind_or_int, call1, call2, of_
 use Rattle.plan_text.specs.CallRows.{has_no_row, bound_kind, lacks_row, test_lacks_row, columns_lack_row, plan_lacks_row}
 use Rattle.plan_text.proofs.OpRowLaws.{chosen_found}
 use Rattle.plan_text.proofs.BoundKinds.{then_some, map_some, both_some, if_some, where_some, columns_some, bound_kinds}
-
-none_false : (a b : Bool) → a ≡ false → b ≡ false → (a || b) ≡ false
-none_false true b e f = absurd (false≢true (sym e))
-none_false false b e f = f
 
 -- what is refused wherever it is found isn't there
 pub not_there : {A : Type 0} (o : Option A) (lacks : Bool) → ((x : A) → o ≡ Some x → lacks ≡ false) → lacks ≡ true → o ≡ None
@@ -139,7 +135,7 @@ module _ (names : Names) (kinds : Kinds) where
       → (lacks_row names kinds a || lacks_row names kinds b) ≡ false
   of_parts a b first second x y k is_x is_y typed =
       let both = both_typed (expression_kind kinds x) (expression_kind kinds y) k typed in
-      none_false _ _ (first x both.0 is_x both.2.0) (second y both.1 is_y both.2.1)
+      or_from _ _ (first x both.0 is_x both.2.0) (second y both.1 is_y both.2.1)
 
   typed_rows : (e : named.PlainExpr) → HasRows e
   typed_rows (named.Column name) x k is typed = refl
@@ -148,13 +144,13 @@ module _ (names : Names) (kinds : Kinds) where
       let arg = map_some (call1 kinds op) (bound_expr names kinds a) x is in
       let call : expression_kind kinds (call1 kinds op arg.0) ≡ Some k = ap (expression_kind kinds) arg.1.1 ∙ typed in
       let its = then_some _ (expression_kind kinds arg.0) k call in
-      none_false _ _ (ap (λ o. has_no_row op (o ∷ [])) (sym (kind_there a arg.0 arg.1.0)) ∙ call1_row kinds op arg.0 k call) (typed_rows a arg.0 its.0 arg.1.0 its.1.0)
+      or_from _ _ (ap (λ o. has_no_row op (o ∷ [])) (sym (kind_there a arg.0 arg.1.0)) ∙ call1_row kinds op arg.0 k call) (typed_rows a arg.0 its.0 arg.1.0 its.1.0)
   typed_rows (named.Call2 op a b) x k is typed =
       let args = two_some (call2 kinds op) (bound_expr names kinds a) (bound_expr names kinds b) x is in
       let call : expression_kind kinds (call2 kinds op args.left args.right) ≡ Some k = ap (expression_kind kinds) args.gives ∙ typed in
       let its = both_some _ (expression_kind kinds args.left) (expression_kind kinds args.right) k (if_some _ _ k call) in
-      none_false _ _
-      (none_false _ _
+      or_from _ _
+      (or_from _ _
       ((λ i. has_no_row op (sym (kind_there a args.left args.left_there) i ∷ sym (kind_there b args.right args.right_there) i ∷ []))
       ∙ call2_row kinds op args.left args.right k call)
       (typed_rows a args.left its.left args.left_there its.left_there))
@@ -169,8 +165,8 @@ module _ (names : Names) (kinds : Kinds) where
       let parts = three_some (bound_expr names kinds c) (bound_expr names kinds a) (bound_expr names kinds b) x is in
       let its = choice_typed (expression_kind kinds parts.test) (expression_kind kinds parts.first) (expression_kind kinds parts.second) k
       (ap (expression_kind kinds) parts.gives ∙ typed) in
-      none_false _ _
-      (none_false _ _ (typed_rows c parts.test its.test parts.test_there its.test_kind) (typed_rows a parts.first its.first parts.first_there its.first_kind))
+      or_from _ _
+      (or_from _ _ (typed_rows c parts.test its.test parts.test_there its.test_kind) (typed_rows a parts.first its.first parts.first_there its.first_kind))
       (typed_rows b parts.second its.second parts.second_there its.second_kind)
 
   pub call_inside : (e : named.PlainExpr) (x : bound.PlainExpr) → bound_expr names kinds e ≡ Some x → lacks_row names kinds e ≡ true → expression_kind kinds x ≡ None
@@ -185,7 +181,7 @@ module _ (names : Names) (kinds : Kinds) where
       let typeds = all_cons (column_kind_of kinds bounds.first) (map (column_kind_of kinds) bounds.others) ks
       (ap (λ (es : List bound.PlainExpr). all_there (map (column_kind_of kinds) es)) (sym bounds.both) ∙ typed) in
       let its = then_some column_kind (expression_kind kinds bounds.first) typeds.first typeds.first_there in
-      none_false _ _ (typed_rows column.expr bounds.first its.0 bounds.first_there its.1.0)
+      or_from _ _ (typed_rows column.expr bounds.first its.0 bounds.first_there its.1.0)
       (columns_rows columns bounds.others typeds.others bounds.others_there typeds.others_there)
 
 -- ---- plans
@@ -214,7 +210,7 @@ module _ (streams : Names) (schemas : List (List schema.Column)) where
       let its = then_some (filter_kinds e.0) (typing input.0.plan) kinds (ap (λ (x : Bound). typing x.plan) e.1.1 ∙ typed) in
       let same = bound_kinds streams schemas child input.0 input.1.0 its.0 its.1.0 in
       let truth = truth_typed (expression_kind its.0 e.0) its.0 kinds its.1.1 in
-      none_false _ _
+      or_from _ _
       (ap (test_lacks_row test) input.1.0
       ∙ typed_rows input.0.names input.0.kinds test e.0 truth.0 e.1.0 (ap (λ (ks : Kinds). expression_kind ks e.0) same ∙ truth.1))
       (below input.0 its.0 input.1.0 its.1.0)
@@ -227,7 +223,7 @@ module _ (streams : Names) (schemas : List (List schema.Column)) where
       let plan = columns_some (Project input.0.plan exprs.0) names (map (λ e. kind_or_int (column_kind_of input.0.kinds e)) exprs.0) b exprs.1.1 in
       let its = then_some (project_kinds exprs.0) (typing input.0.plan) kinds (ap (λ (x : Bound). typing x.plan) plan ∙ typed) in
       let same = bound_kinds streams schemas child input.0 input.1.0 its.0 its.1.0 in
-      none_false _ _
+      or_from _ _
       (ap (columns_lack_row columns) input.1.0
       ∙ columns_rows input.0.names input.0.kinds columns exprs.0 kinds exprs.1.0
       (ap (λ (ks : Kinds). all_there (map (column_kind_of ks) exprs.0)) same ∙ if_some (is_empty exprs.0) (all_there (map (column_kind_of its.0) exprs.0)) kinds its.1.1))
@@ -261,14 +257,14 @@ module _ (streams : Names) (schemas : List (List schema.Column)) where
       let pairs = then_some (joined both.left both.right) (all_there (map (bound_pair both.left.names both.right.names) on)) b both.gives in
       let plan = columns_some (Join both.left.plan both.right.plan pairs.0) (both.left.names ++ both.right.names) (both.left.kinds ++ both.right.kinds) b pairs.1.1 in
       let its = both_some (join_kinds pairs.0) (typing both.left.plan) (typing both.right.plan) kinds (ap (λ (x : Bound). typing x.plan) plan ∙ typed) in
-      none_false _ _ (first both.left its.left both.left_there its.left_there) (second both.right its.right both.right_there its.right_there)
+      or_from _ _ (first both.left its.left both.left_there its.left_there) (second both.right its.right both.right_there its.right_there)
 
   concat_rows : (left right : PlainTree) → PlanHasRows left → PlanHasRows right → PlanHasRows (named.Concat left right)
   concat_rows left right first second b kinds is typed =
       let both = both_some bound_concat (bound_to left) (bound_to right) b is in
       let plan = where_some true (record { plan = Concat both.left.plan both.right.plan; names = both.left.names; kinds = both.left.kinds }) b both.gives in
       let its = both_some concat_kinds (typing both.left.plan) (typing both.right.plan) kinds (ap (λ (x : Bound). typing x.plan) plan ∙ typed) in
-      none_false _ _ (first both.left its.left both.left_there its.left_there) (second both.right its.right both.right_there its.right_there)
+      or_from _ _ (first both.left its.left both.left_there its.left_there) (second both.right its.right both.right_there its.right_there)
 
   plan_rows : (tree : PlainTree) → PlanHasRows tree
   plan_rows (From stream) = λ b kinds is typed. refl
