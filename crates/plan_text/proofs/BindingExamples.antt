@@ -51,7 +51,7 @@ kinds_apart = refl
 
 call_without_row : plan_lacks_row streams schemas
     (named.Distinct (Where (From (codes "l")) (named.Call1 op.Not (named.Call2 op.Lt (named.Column (codes "id")) (named.Column (codes "t")))))) ≡ true
-unfolding row_with
+unfolding row_with first_row
 call_without_row = refl
 
 -- numbers are compared with numbers, and texts with texts
