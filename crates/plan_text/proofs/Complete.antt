@@ -2,7 +2,7 @@
 use Prim.Native.Nat.{zero, suc}
 use Rattle.std.proofs.Common.{◌≡◌, refl, sym, ap, ◌∙◌, subst, ℕ, ◌<◌, ◌≤◌, true, false, cond, nat_lt, nat_le, List, ◌∷◌, length, Option, Some, None, ℤ, pos, negsuc, neg_ℤ, FitsSigned, w64, arith}
 use Rattle.std.proofs.lemmas.Bool.Decides.{nat_tests, Decides-ltb}
-use Rattle.std.specs.Option.{option_map, option_and_then}
+use Rattle.std.specs.Option.{option_map}
 use Rattle.scalar_ops.specs.declared.cell.Cell.TheVariants as cell
 use Rattle.scalar_ops.specs.declared.table.Op.{Op}
 use Rattle.scalar_ops.specs.declared.table.Op.TheVariants as op
@@ -19,7 +19,8 @@ use Rattle.plan_text.specs.PlainNamed.{PlainExpr, Literal, Call1, Call2, And, Or
 use Rattle.plan_text.specs.Grammar as g
 use Rattle.plan_text.specs.Grammar.{Rule, E, AND, NOT, CMP, SUM, MUL, UN, ATOM, Spells, compare_op, sum_op, mul_op, call1_op, call2_op}
 use Rattle.plan_text.specs.Draft.{PlainDraft, draft_of, with2, with3}
-use Rattle.plan_text.specs.Reading.{Read, Reader, Inner, Operators, read_then, operated, behind_close, behind_comma, behind_open, argument, last_argument, call1_at, call2_at, choice_at, function_at, word_atom, atom_at, un_at, mark_operator, mul_at, sum_at, compare_step, cmp_at, not_at, and_operator, and_at, or_operator, expr_at, joined, kept_one, inner}
+use Rattle.plan_text.specs.Reader.{ReadOf, and_then, comma_at, open_at, close_at, up_to}
+use Rattle.plan_text.specs.Reading.{Reader, Inner, Operators, operated, argument, last_argument, call1_at, call2_at, choice_at, function_at, word_atom, atom_at, un_at, mark_operator, mul_at, sum_at, compare_step, cmp_at, not_at, and_operator, and_at, or_operator, expr_at, joined, kept_one, inner}
 use Rattle.plan_text.proofs.DraftLemmas.{with1-draft, with2-draft, with3-draft}
 use Rattle.plan_text.proofs.ReadingLemmas.{Continues, Continues-first, Continues-next, Continues-end}
 
@@ -132,11 +133,11 @@ module _ (most : ℕ) where
 
   -- what begins with `not` is no comparison, and what begins with `-` is no atom
   atom_not : (i : Inner) (ts : List Token) → atom_at most i (Word word.Not ∷ ts) ≡ None
-  atom_not i ts = by (behind_open ts)
+  atom_not i ts = by (open_at ts)
     where
-      by : (o : Option (List Token)) → option_and_then (function_at most i word.Not) o ≡ None
+      by : (o : ReadOf (Unit {0})) → and_then o (λ _. function_at most i word.Not) ≡ None
       by None = refl
-      by (Some rest) = refl
+      by (Some found) = refl
 
   cmp_not : (i : Inner) (ts : List Token) → cmp_at most i (Word word.Not ∷ ts) ≡ None
   cmp_not i ts = rw (atom_not i ts) refl
@@ -182,39 +183,39 @@ module _ (most : ℕ) where
   -- a comparison of two sums
   compared : (i : Inner) (from mid rest : List Token) (m : the_mark.Mark) (o : Op) (a b : PlainExpr) → compare_op m ≡ Some o → sum_at most i from ≡ Some (draft_of most a, Mark m ∷ mid) → sum_at most i mid ≡ Some (draft_of most b, rest) → cmp_at most i from ≡ Some (draft_of most (Call2 o a b), rest)
   compared i from mid rest m o a b e first second =
-      ap (λ r. read_then r (λ d rest. compare_step most (sum_at most i) d rest (mark_operator compare_op rest))) first
+      ap (λ r. and_then r (λ d rest. compare_step most (sum_at most i) d rest (mark_operator compare_op rest))) first
       ∙ ap (compare_step most (sum_at most i) (draft_of most a) (Mark m ∷ mid)) (found_mark compare_op m o mid e)
-      ∙ ap (λ r. read_then r (λ b rest. Some (with2 most (Call2 o) (draft_of most a) b, rest))) second
+      ∙ ap (λ r. and_then r (λ b rest. Some (with2 most (Call2 o) (draft_of most a) b, rest))) second
       ∙ ap (λ d. Some (d, rest)) (with2-draft most (Call2 o) a b)
 
   alone : (i : Inner) (from rest : List Token) (d : PlainDraft) → mark_operator compare_op rest ≡ None → sum_at most i from ≡ Some (d, rest) → cmp_at most i from ≡ Some (d, rest)
   alone i from rest d none first =
-      ap (λ r. read_then r (λ d rest. compare_step most (sum_at most i) d rest (mark_operator compare_op rest))) first
+      ap (λ r. and_then r (λ d rest. compare_step most (sum_at most i) d rest (mark_operator compare_op rest))) first
       ∙ ap (compare_step most (sum_at most i) d rest) none
 
   -- the operation on one operand
-  operated_is : (o : Op) (read : Read) (a : PlainExpr) (rest : List Token) → read ≡ Some (draft_of most a, rest) → operated most o read ≡ Some (draft_of most (Call1 o a), rest)
+  operated_is : (o : Op) (read : ReadOf PlainDraft) (a : PlainExpr) (rest : List Token) → read ≡ Some (draft_of most a, rest) → operated most o read ≡ Some (draft_of most (Call1 o a), rest)
   operated_is o read a rest e = ap (operated most o) e ∙ ap (λ d. Some (d, rest)) (with1-draft most (Call1 o) a)
 
   -- arguments
   module _ (i : Inner) (mid rest : List Token) (e : PlainExpr) where
     last_is : i.expr mid ≡ Some (draft_of most e, Mark mark.Close ∷ rest) → last_argument i mid ≡ Some (draft_of most e, rest)
-    last_is read = ap (λ r. read_then r behind_close) read
+    last_is read = ap (up_to close_at) read
 
     argument_is : i.expr mid ≡ Some (draft_of most e, Mark mark.Comma ∷ rest) → argument i mid ≡ Some (draft_of most e, rest)
-    argument_is read = ap (λ r. read_then r (λ d rest. option_map (λ behind. (d, behind)) (behind_comma rest))) read
+    argument_is read = ap (up_to comma_at) read
 
   call2_is : (i : Inner) (o : Op) (mid after rest : List Token) (a b : PlainExpr) → argument i mid ≡ Some (draft_of most a, after) → last_argument i after ≡ Some (draft_of most b, rest) → call2_at most i o mid ≡ Some (draft_of most (Call2 o a b), rest)
   call2_is i o mid after rest a b first last =
-      ap (λ r. read_then r (λ a next. read_then (last_argument i next) (λ b rest. Some (with2 most (Call2 o) a b, rest)))) first
-      ∙ ap (λ r. read_then r (λ b rest. Some (with2 most (Call2 o) (draft_of most a) b, rest))) last
+      ap (λ r. and_then r (λ a next. and_then (last_argument i next) (λ b rest. Some (with2 most (Call2 o) a b, rest)))) first
+      ∙ ap (λ r. and_then r (λ b rest. Some (with2 most (Call2 o) (draft_of most a) b, rest))) last
       ∙ ap (λ d. Some (d, rest)) (with2-draft most (Call2 o) a b)
 
   choice_is : (i : Inner) (mid after third rest : List Token) (c a b : PlainExpr) → argument i mid ≡ Some (draft_of most c, after) → argument i after ≡ Some (draft_of most a, third) → last_argument i third ≡ Some (draft_of most b, rest) → choice_at most i mid ≡ Some (draft_of most (If c a b), rest)
   choice_is i mid after third rest c a b first second last =
-      ap (λ r. read_then r (λ c next. read_then (argument i next) (λ a last. read_then (last_argument i last) (λ b rest. Some (with3 most If c a b, rest))))) first
-      ∙ ap (λ r. read_then r (λ a last. read_then (last_argument i last) (λ b rest. Some (with3 most If (draft_of most c) a b, rest)))) second
-      ∙ ap (λ r. read_then r (λ b rest. Some (with3 most If (draft_of most c) (draft_of most a) b, rest))) last
+      ap (λ r. and_then r (λ c next. and_then (argument i next) (λ a last. and_then (last_argument i last) (λ b rest. Some (with3 most If c a b, rest))))) first
+      ∙ ap (λ r. and_then r (λ a last. and_then (last_argument i last) (λ b rest. Some (with3 most If (draft_of most c) a b, rest)))) second
+      ∙ ap (λ r. and_then r (λ b rest. Some (with3 most If (draft_of most c) (draft_of most a) b, rest))) last
       ∙ ap (λ d. Some (d, rest)) (with3-draft most If c a b)
 
   free : (rest : List Token) → mark_operator mul_op rest ≡ None → mark_operator sum_op rest ≡ None → mark_operator compare_op rest ≡ None → NoCompare rest

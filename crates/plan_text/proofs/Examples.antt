@@ -10,7 +10,8 @@ use Rattle.plan_text.specs.Token.{AreTokens, token_at, word_at, mark_at, word_wi
 use Rattle.plan_text.specs.PlainNamed.{Column, Call1, Call2, And, Or, From, Select, Distinct, Group, Join, Order}
 use Rattle.plan_text.specs.declared.plan.NamedAgg.TheVariants as agg
 use Rattle.plan_text.specs.PlanDraft.{limits, plan_draft_of}
-use Rattle.plan_text.specs.PlanReading.{plan_at, repeated, inner_plan}
+use Rattle.plan_text.specs.Reader.{repeated}
+use Rattle.plan_text.specs.PlanReading.{plan_at, inner_plan}
 use Rattle.plan_text.specs.Answer.{SpellsText}
 use Rattle.plan_text.specs.Grammar.{Spells, E, UN, or, and, not, compare, sum, of_and, of_not, of_cmp, of_sum, of_mul, of_un, of_atom, a_column, stream, select, distinct, group, join, order}
 

@@ -8,7 +8,8 @@ use Rattle.plan_text.specs.declared.token.Word.TheVariants as word
 use Rattle.plan_text.specs.declared.refusal.PlanLimit.TheVariants as limit
 use Rattle.plan_text.specs.declared.refusal.TextRefusal.TheVariants as refusal
 use Rattle.plan_text.specs.PlanDraft.{limits}
-use Rattle.plan_text.specs.PlanReading.{plan_at, repeated}
+use Rattle.plan_text.specs.Reader.{repeated}
+use Rattle.plan_text.specs.PlanReading.{plan_at}
 use Rattle.plan_text.specs.Answer.{MeansPlan}
 
 abbrev distincts : ℕ → List Token

@@ -4,8 +4,8 @@ pub mod BoundLeaves
 pub mod CallRowLaws
 pub mod OpRowLaws
 pub mod TokenLemmas
-pub mod ReadingLemmas
 pub mod RepeatLemmas
+pub mod ReadingLemmas
 pub mod StageLemmas
 pub mod DraftLemmas
 pub mod PlanDraftLemmas

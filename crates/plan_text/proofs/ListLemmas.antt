@@ -1,40 +1,15 @@
 -- How items are read behind separators, and in lists.
-use Prim.Native.Nat.{zero, suc}
-use Rattle.std.proofs.Common.{◌≡◌, refl, sym, ap, ◌∙◌, subst, ℕ, ◌<◌, ◌-◌, List, [], ◌∷◌, ◌++◌, length, Option, Some, None, append_assoc, arith}
+use Prim.Native.Nat.{suc}
+use Rattle.std.proofs.Common.{◌≡◌, refl, sym, ap, ◌∙◌, subst, ◌<◌, ◌-◌, List, [], ◌∷◌, ◌++◌, length, Some, None, append_assoc, arith}
 use Rattle.plan_text.specs.declared.token.Token.{Token}
 use Rattle.plan_text.specs.declared.token.Token.TheVariants.{Mark}
 use Rattle.plan_text.specs.declared.token.Mark.TheVariants as mark
 use Rattle.plan_text.specs.Grammar.{Listed}
-use Rattle.plan_text.specs.Reading.{behind_comma}
-use Rattle.plan_text.specs.PlanReading.{ReadOf, and_then, repeat_step, repeated, all_repeated, item_onto, list_at}
+use Rattle.plan_text.specs.Reader.{ReadOf, and_then, comma_at, all_repeated}
+use Rattle.plan_text.specs.PlanReading.{item_onto, list_at}
 use Rattle.plan_text.proofs.TokenLemmas.{both}
-use Rattle.plan_text.proofs.RepeatLemmas.{Repeats, Repeats-start, Repeats-next, Repeats-end}
-
--- what was read first, and what then
-pub then_some : {A B : Type 0} (read : ReadOf A) (next : A → List Token → ReadOf B) (y : B × List Token) → and_then read next ≡ Some y → (x : A) × (ts : List Token) × (read ≡ Some (x, ts)) × (next x ts ≡ Some y)
-then_some None next y q = absurd (cc q)
-then_some (Some x) next y q = (x.0, x.1, refl, q)
-
-module _ {S : Type 0} (separator : List Token → Option (List Token)) (step : S → List Token → ReadOf S) where
-  -- what each turn keeps holds of what was read in all
-  module _ (Kept : S → List Token → Type 0) (keeps : (s : S) (ts behind : List Token) (t : S) (after : List Token) → Kept s ts → separator ts ≡ Some behind → step s behind ≡ Some (t, after) → Kept t after) where
-    pub repeated_keeps : (turns : ℕ) (s : S) (ts : List Token) (t : S) (rest : List Token) → Kept s ts → repeated separator step turns s ts ≡ Some (t, rest) → Kept t rest
-    unfolding repeated
-    repeated_keeps zero s ts t rest k q = absurd (cc q)
-    repeated_keeps (suc n) s ts t rest k q = by (separator ts) refl q (repeated_keeps n)
-      where
-        by : (o : Option (List Token)) → separator ts ≡ o → repeat_step step (repeated separator step n) s ts o ≡ Some (t, rest)
-            → ((s : S) (ts : List Token) (t : S) (rest : List Token) → Kept s ts → repeated separator step n s ts ≡ Some (t, rest) → Kept t rest)
-            → Kept t rest
-        by None e q again = let p = both s t ts rest q in subst (λ t. Kept t rest) p.0 (subst (λ r. Kept s r) p.1 k)
-        by (Some behind) e q again =
-            let read = then_some (step s behind) (repeated separator step n) (t, rest) q in
-            again read.0 read.1 t rest (keeps s ts behind read.0 read.1 k e read.2) read.3
-
--- what a comma is followed by
-pub comma_some : (ts behind : List Token) → behind_comma ts ≡ Some behind → ts ≡ Mark mark.Comma ∷ behind
-comma_some (Mark mark.Comma ∷ ts) behind q = let same : ts ≡ behind = cc q in ap (λ r. Mark mark.Comma ∷ r) same
-comma_some _ behind q = absurd (cc q)
+use Rattle.plan_text.proofs.RepeatLemmas.{then_some, Repeats, Repeats-start, Repeats-next, Repeats-end, repeated_keeps}
+use Rattle.plan_text.proofs.ReadingLemmas.{comma_some}
 
 -- items that are spelled, and what is kept of the items so far
 pub record ListsItems {X A S : Type 0} (Item : X → List Token → List Token → Type 0) (Ends : List Token → Type 0) (item : List Token → ReadOf A) (add : S → A → S) (state : List X → S) (value : X → A) : Type 0 where
@@ -46,7 +21,7 @@ pub record ListsItems {X A S : Type 0} (Item : X → List Token → List Token �
 module _ {X A S : Type 0} (Item : X → List Token → List Token → Type 0) (Ends : List Token → Type 0) (item : List Token → ReadOf A) (add : S → A → S) (state : List X → S) (value : X → A) (lists : ListsItems Item Ends item add state value) where
   module _ (start : ReadOf S) where
     abbrev Listing : S → List Token → Type 0
-    Listing = Repeats behind_comma (item_onto item add) start
+    Listing = Repeats comma_at (λ _. item_onto item add) start
 
     -- where one item more is read, the list goes on behind it
     abbrev Turns : List X → List Token → Type 0
@@ -61,15 +36,15 @@ module _ {X A S : Type 0} (Item : X → List Token → List Token → Type 0) (E
         let first = turns (state (done ++ x ∷ [])) (Mark mark.Comma ∷ s.0) (item_read done x from (Mark mark.Comma ∷ s.0) s.1 (lists.comma s.0)) (lists.shorter x from (Mark mark.Comma ∷ s.0) s.1) in
         subst (λ all. Listing (state all) rest) (append_assoc done (x ∷ []) (y ∷ ys))
         (listed ys y (done ++ x ∷ []) s.0 rest s.2 ends
-        (λ t mid read less. Repeats-next behind_comma (item_onto item add) start (state (done ++ x ∷ [])) (Mark mark.Comma ∷ s.0) first s.0 refl t mid read (omega (arith, less))))
+        (λ t mid read less. Repeats-next comma_at (λ _. item_onto item add) start (state (done ++ x ∷ [])) (Mark mark.Comma ∷ s.0) first tt s.0 refl t mid read (omega (arith, less))))
 
   -- a list that is spelled is read
-  pub list_complete : (xs : List X) (from rest : List Token) → Listed Item xs from rest → Ends rest → behind_comma rest ≡ None → list_at item add (state []) from ≡ Some (state xs, rest)
+  pub list_complete : (xs : List X) (from rest : List Token) → Listed Item xs from rest → Ends rest → comma_at rest ≡ None → list_at item add (state []) from ≡ Some (state xs, rest)
   list_complete [] from rest s ends none = absurd s
   list_complete (x ∷ xs) from rest s ends none =
       let start = list_at item add (state []) from in
-      Repeats-end behind_comma (item_onto item add) start (state (x ∷ xs)) rest
-      (listed start xs x [] from rest s ends (λ t mid read less. Repeats-start behind_comma (item_onto item add) start t mid (ap (λ r. and_then r (all_repeated behind_comma (item_onto item add))) read)))
+      Repeats-end comma_at (λ _. item_onto item add) start (state (x ∷ xs)) rest
+      (listed start xs x [] from rest s ends (λ t mid read less. Repeats-start comma_at (λ _. item_onto item add) start t mid (ap (λ r. and_then r (all_repeated comma_at (λ _. item_onto item add))) read)))
       none
 
   pub list_shorter : (xs : List X) (from rest : List Token) → Listed Item xs from rest → length rest < length from
@@ -108,8 +83,8 @@ module _ {X A S : Type 0} (Item : X → List Token → List Token → Type 0) (i
       (read.0, read.2 ∙ ap (λ r. Some (read.0, r)) p.1, p.0)
 
   module _ (from : List Token) where
-    keeps : (s : S) (ts behind : List Token) (t : S) (after : List Token) → ListedSo Item state from s ts → behind_comma ts ≡ Some behind → item_onto item add s behind ≡ Some (t, after) → ListedSo Item state from t after
-    keeps s ts behind t after k found q =
+    keeps : (s : S) (ts : List Token) (o : Unit {0}) (behind : List Token) (t : S) (after : List Token) → ListedSo Item state from s ts → comma_at ts ≡ Some (o, behind) → item_onto item add s behind ≡ Some (t, after) → ListedSo Item state from t after
+    keeps s ts o behind t after k found q =
         let read = onto_some s behind t after q in
         let one = sound behind after read.0 read.1 in
         record {
@@ -127,5 +102,5 @@ module _ {X A S : Type 0} (Item : X → List Token → List Token → Type 0) (i
     -- a list that was read is spelled
     pub list_sound : (t : S) (rest : List Token) → list_at item add (state []) from ≡ Some (t, rest) → ListedSo Item state from t rest
     list_sound t rest q =
-        let read = then_some (item_onto item add (state []) from) (all_repeated behind_comma (item_onto item add)) (t, rest) q in
-        repeated_keeps behind_comma (item_onto item add) (ListedSo Item state from) keeps (suc (length read.1)) read.0 read.1 t rest (first read.0 read.1 read.2) read.3
+        let read = then_some (item_onto item add (state []) from) (all_repeated comma_at (λ _. item_onto item add)) (t, rest) q in
+        repeated_keeps comma_at (λ _. item_onto item add) (ListedSo Item state from) keeps (suc (length read.1)) read.0 read.1 t rest (first read.0 read.1 read.2) read.3

@@ -1,7 +1,6 @@
 -- A plan that the grammar spells is read.
 use Prim.Native.Nat.{suc}
 use Rattle.std.proofs.Common.{◌≡◌, refl, sym, ap, ◌∙◌, ℕ, ◌<◌, List, [], ◌∷◌, length, Some, None, arith}
-use Rattle.std.specs.Option.{option_map, option_and_then}
 use Rattle.plan_text.specs.declared.token.Token.{Token}
 use Rattle.plan_text.specs.declared.token.Token.TheVariants.{Name, Word, Mark}
 use Rattle.plan_text.specs.declared.token.Mark.TheVariants as mark
@@ -13,9 +12,9 @@ use Rattle.plan_text.specs.declared.plan_draft.Counts.{Counts}
 use Rattle.plan_text.specs.PlainNamed.{PlainExpr, PlainColumn, PlainTree, From, Where, Select, Distinct, Group, Join, Concat, Order}
 use Rattle.plan_text.specs.Grammar as g
 use Rattle.plan_text.specs.Grammar.{E, Spells, EndsExpr, EndsPlan, Listed, SpellsName, SpellsColumn, SpellsPair, SpellsKey, SpellsResult, SpellsPlan}
-use Rattle.plan_text.specs.Reading.{behind_comma}
+use Rattle.plan_text.specs.Reader.{and_then, comma_at, close_at, bar_at, with_at, on_at, up_to}
 use Rattle.plan_text.specs.PlanDraft.{PlanDraft, with_column, columns_draft_of, plan_draft_of, where_draft, select_draft, group_draft, join_draft, concat_draft, order_draft}
-use Rattle.plan_text.specs.PlanReading.{and_then, list_at, at_end, name_at, column_at, columns_at, pair_at, pairs_at, key_at, keys_at, result_at, results_at, behind_bar, behind_close, behind_with, behind_on, inner_plan_at, where_at, select_at, group_at, join_at, concat_at, order_at, stage_at, inner_plan, plan_at}
+use Rattle.plan_text.specs.PlanReading.{list_at, at_end, name_at, column_at, columns_at, pair_at, pairs_at, key_at, keys_at, result_at, results_at, inner_plan_at, where_at, select_at, group_at, join_at, concat_at, order_at, stage_at, inner_plan, plan_at}
 use Rattle.plan_text.proofs.Complete.{shorter}
 use Rattle.plan_text.proofs.OneReading.{spelled_is_read}
 use Rattle.plan_text.proofs.PlanDraftLemmas.{no_columns_kept, where_kept, select_kept, distinct_kept, group_kept, join_kept, concat_kept, order_kept}
@@ -26,7 +25,7 @@ use Rattle.plan_text.proofs.ListLemmas.{list_complete, list_shorter}
 -- what may stand behind a stage: a bar, or what may stand behind a plan
 record EndsStage (rest : List Token) : Type 0 where
   expr : EndsExpr rest
-  no_comma : behind_comma rest ≡ None
+  no_comma : comma_at rest ≡ None
   no_desc : NoDesc rest
 
 bar_ends : (rest : List Token) → EndsStage (Mark mark.Bar ∷ rest)
@@ -40,7 +39,7 @@ plan_ends [] e = record { expr = tt; no_comma = refl; no_desc = λ name. refl }
 plan_ends (Mark mark.Close ∷ rest) e = close_ends rest
 plan_ends _ e = absurd e
 
-plan_no_bar : (rest : List Token) → EndsPlan rest → behind_bar rest ≡ None
+plan_no_bar : (rest : List Token) → EndsPlan rest → bar_at rest ≡ None
 plan_no_bar [] e = refl
 plan_no_bar (Mark mark.Close ∷ rest) e = refl
 plan_no_bar _ e = absurd e
@@ -78,14 +77,14 @@ plan_shorter (g.order {keys = keys} {mid = mid} {rest = rest} s t) = let less = 
 module _ (most : Counts) where
   -- up to a rest the plan is read, and stages may follow
   abbrev Reading : ℕ → PlainTree → List Token → List Token → Type 0
-  Reading n p from rest = Repeats behind_bar (stage_at most (inner_plan most n) n) (plan_at most n from) (plan_draft_of most p) rest
+  Reading n p from rest = Repeats bar_at (λ _. stage_at most (inner_plan most n) n) (plan_at most n from) (plan_draft_of most p) rest
 
   stage_more : (n : ℕ) (p q : PlainTree) (from behind rest : List Token) → Reading n p from (Mark mark.Bar ∷ behind) → stage_at most (inner_plan most n) n (plan_draft_of most p) behind ≡ Some (plan_draft_of most q, rest) → length rest < length behind → Reading n q from rest
   stage_more n p q from behind rest l read less =
-      Repeats-next behind_bar (stage_at most (inner_plan most n) n) (plan_at most n from) (plan_draft_of most p) (Mark mark.Bar ∷ behind) l behind refl (plan_draft_of most q) rest read (omega (arith, less))
+      Repeats-next bar_at (λ _. stage_at most (inner_plan most n) n) (plan_at most n from) (plan_draft_of most p) (Mark mark.Bar ∷ behind) l tt behind refl (plan_draft_of most q) rest read (omega (arith, less))
 
-  ended : (n : ℕ) (p : PlainTree) (from rest : List Token) → behind_bar rest ≡ None → Reading n p from rest → plan_at most n from ≡ Some (plan_draft_of most p, rest)
-  ended n p from rest none l = Repeats-end behind_bar (stage_at most (inner_plan most n) n) (plan_at most n from) (plan_draft_of most p) rest l none
+  ended : (n : ℕ) (p : PlainTree) (from rest : List Token) → bar_at rest ≡ None → Reading n p from rest → plan_at most n from ≡ Some (plan_draft_of most p, rest)
+  ended n p from rest none l = Repeats-end bar_at (λ _. stage_at most (inner_plan most n) n) (plan_at most n from) (plan_draft_of most p) rest l none
 
   -- a plan in parentheses
   inner_is : (n : ℕ) (ts : List Token) → inner_plan most (suc n) ts ≡ plan_at most n ts
@@ -93,7 +92,7 @@ module _ (most : Counts) where
   inner_is n ts = refl
 
   inside : (n : ℕ) (q : PlainTree) (mid rest : List Token) → plan_at most n mid ≡ Some (plan_draft_of most q, Mark mark.Close ∷ rest) → inner_plan_at (inner_plan most (suc n)) (Mark mark.Open ∷ mid) ≡ Some (plan_draft_of most q, rest)
-  inside n q mid rest e = ap (λ r. and_then r (λ d rest. option_map (λ behind. (d, behind)) (behind_close rest))) (inner_is n mid ∙ e)
+  inside n q mid rest e = ap (up_to close_at) (inner_is n mid ∙ e)
 
   -- the lists of the stages
   names_read : (keys : List (List ℕ)) (mid behind : List Token) → Listed SpellsName keys mid (Word word.With ∷ behind) → list_at name_at at_end [] mid ≡ Some (keys, Word word.With ∷ behind)
@@ -131,7 +130,7 @@ module _ (most : Counts) where
 
     group_read : (keys : List (List ℕ)) (results : List NamedResult) (next : List Token) → Listed SpellsName keys mid (Word word.With ∷ next) → Listed (SpellsResult n) results next rest → group_at most n kept mid ≡ Some (plan_draft_of most (Group p keys results), rest)
     group_read keys results next s t =
-        ap (λ r. and_then r (λ keys next. option_and_then (λ behind. and_then (results_at n behind) (λ results rest. Some (group_draft most kept keys results, rest))) (behind_with next))) (names_read keys mid next s)
+        ap (λ r. and_then (up_to with_at r) (λ keys next. and_then (results_at n next) (λ results rest. Some (group_draft most kept keys results, rest)))) (names_read keys mid next s)
         ∙ ap (λ r. and_then r (λ results rest. Some (group_draft most kept keys results, rest))) (results_read n results next rest ends t)
         ∙ ap (λ d. Some (d, rest)) (group_kept most p keys results)
 
@@ -147,13 +146,13 @@ module _ (most : Counts) where
 
     join_read : (q : PlainTree) (on : List NamedPair) (next : List Token) → plan_at most n mid ≡ Some (plan_draft_of most q, Mark mark.Close ∷ Word word.On ∷ next) → Listed SpellsPair on next rest → join_at most (inner_plan most (suc n)) kept (Mark mark.Open ∷ mid) ≡ Some (plan_draft_of most (Join p q on), rest)
     join_read q on next e s =
-        ap (λ r. and_then r (λ right next. option_and_then (λ behind. and_then (pairs_at behind) (λ on rest. Some (join_draft most kept right on, rest))) (behind_on next))) (inside n q mid (Word word.On ∷ next) e)
+        ap (λ r. and_then (up_to on_at r) (λ right next. and_then (pairs_at next) (λ on rest. Some (join_draft most kept right on, rest)))) (inside n q mid (Word word.On ∷ next) e)
         ∙ ap (λ r. and_then r (λ on rest. Some (join_draft most kept (plan_draft_of most q) on, rest))) (pairs_read on next rest ends s)
         ∙ ap (λ d. Some (d, rest)) (join_kept most p q on)
 
   plan_complete : {n : ℕ} {p : PlainTree} {from rest : List Token} → SpellsPlan n p from rest → EndsStage rest → Reading n p from rest
   plan_complete (g.stream {n = n} {name = name} {rest = rest}) ends =
-      Repeats-start behind_bar (stage_at most (inner_plan most n) n) (plan_at most n (Word word.From ∷ Name name ∷ rest)) (plan_draft_of most (From name)) rest refl
+      Repeats-start bar_at (λ _. stage_at most (inner_plan most n) n) (plan_at most n (Word word.From ∷ Name name ∷ rest)) (plan_draft_of most (From name)) rest refl
   plan_complete (g.filter {n = n} {p = p} {test = test} {from = from} {mid = mid} {rest = rest} s t) ends =
       stage_more n p (Where p test) from (Word word.Where ∷ mid) rest (plan_complete s (bar_ends (Word word.Where ∷ mid))) (where_read n p mid rest ends test t) (omega (arith, shorter t))
   plan_complete (g.select {n = n} {p = p} {columns = columns} {from = from} {mid = mid} {rest = rest} s t) ends =

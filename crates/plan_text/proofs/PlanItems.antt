@@ -2,7 +2,7 @@
 use Prim.Native.Nat.{zero, suc}
 use Rattle.std.proofs.Common.{◌≡◌, refl, sym, ap, ◌∙◌, subst, ℕ, ◌<◌, Bool, true, false, cond, List, [], ◌∷◌, ◌++◌, length, Option, Some, None, codes, bytes_eq, arith}
 use Rattle.std.proofs.lemmas.Slice.Eq.{bytes_eq-Decides}
-use Rattle.std.specs.Option.{option_map, option_and_then}
+use Rattle.std.specs.Option.{option_map}
 use Rattle.plan_text.specs.declared.token.Token.{Token}
 use Rattle.plan_text.specs.declared.token.Token.TheVariants.{Name, Word, Mark}
 use Rattle.plan_text.specs.declared.token.Mark.TheVariants as mark
@@ -15,15 +15,18 @@ use Rattle.plan_text.specs.declared.plan.NamedKey.{NamedKey}
 use Rattle.plan_text.specs.PlainNamed.{PlainColumn}
 use Rattle.plan_text.specs.Grammar.{EndsExpr, SpellsName, SpellsColumn, SpellsPair, SpellsKey, SpellsResult, agg_word, agg_argument}
 use Rattle.plan_text.specs.Draft.{PlainDraft, draft_of}
-use Rattle.plan_text.specs.Reading.{expr_at, inner, behind_open}
+use Rattle.plan_text.specs.Reader.{and_then, open_at, close_at}
+use Rattle.plan_text.specs.Reading.{expr_at, inner}
 use Rattle.plan_text.specs.PlanDraft.{columns_draft_of, with_column}
-use Rattle.plan_text.specs.PlanReading.{ReadOf, and_then, at_end, name_at, named_at, column_at, pair_at, key_of, key_at, agg_named, behind_close, argument_at, agg_at, result_at}
+use Rattle.plan_text.specs.PlanReading.{at_end, name_at, named_at, column_at, pair_at, key_of, key_at, agg_named, agg_of, count_of, closed_at, argument_at, agg_at, result_at}
 use Rattle.plan_text.proofs.TokenLemmas.{both}
 use Rattle.plan_text.proofs.Complete.{shorter}
 use Rattle.plan_text.proofs.Sound.{read_is_spelled}
 use Rattle.plan_text.proofs.OneReading.{spelled_is_read}
 use Rattle.plan_text.proofs.PlanDraftLemmas.{one_column_more}
-use Rattle.plan_text.proofs.ListLemmas.{then_some, ListsItems, ItemSo}
+use Rattle.plan_text.proofs.RepeatLemmas.{then_some}
+use Rattle.plan_text.proofs.ReadingLemmas.{open_some, close_some, up_to_some}
+use Rattle.plan_text.proofs.ListLemmas.{ListsItems, ItemSo}
 
 -- the item itself
 abbrev pub itself : {A : Type 0} → A → A
@@ -134,22 +137,6 @@ named_some : (from rest : List Token) (a : List ℕ) → named_at from ≡ Some 
 named_some (Name name ∷ Mark mark.Equal ∷ ts) rest a q = let p = both name a ts rest q in λ i. Name (p.0 i) ∷ Mark mark.Equal ∷ p.1 i
 named_some _ rest a q = absurd (cc q)
 
-pub close_some : (ts rest : List Token) → behind_close ts ≡ Some rest → ts ≡ Mark mark.Close ∷ rest
-close_some (Mark mark.Close ∷ ts) rest q = let same : ts ≡ rest = cc q in ap (λ r. Mark mark.Close ∷ r) same
-close_some _ rest q = absurd (cc q)
-
-pub open_some : {B : Type 0} (f : List Token → ReadOf B) (ts : List Token) (y : B × List Token) → option_and_then f (behind_open ts) ≡ Some y → (mid : List Token) × (ts ≡ Mark mark.Open ∷ mid) × (f mid ≡ Some y)
-open_some f (Mark mark.Open ∷ ts) y q = (ts, refl, q)
-open_some f _ y q = absurd (cc q)
-
--- something up to a parenthesis that closes
-pub closed_some : {B : Type 0} (b c : B) (ts rest : List Token) → option_map {U = B × List Token} (λ behind. (b, behind)) (behind_close ts) ≡ Some (c, rest) → (b ≡ c) × (ts ≡ Mark mark.Close ∷ rest)
-closed_some {B} b c ts rest q = by (behind_close ts) refl q
-  where
-    by : (o : Option (List Token)) → behind_close ts ≡ o → option_map {U = B × List Token} (λ behind. (b, behind)) o ≡ Some (c, rest) → (b ≡ c) × (ts ≡ Mark mark.Close ∷ rest)
-    by None e q = absurd (cc q)
-    by (Some behind) e q = let p = both b c behind rest q in (p.0, close_some ts behind e ∙ ap (λ r. Mark mark.Close ∷ r) p.1)
-
 pub name_sound : (from rest : List Token) (a : List ℕ) → name_at from ≡ Some (a, rest) → ItemSo SpellsName itself a from rest
 name_sound from rest a q = record { item = a; is = refl; spells = name_some from rest a q }
 
@@ -206,34 +193,43 @@ agg_named_some name make q =
 abbrev ArgumentSo : List ℕ → NamedAgg → List Token → List Token → Type 0
 ArgumentSo name a ts rest = (name ≡ agg_word a) × (ts ≡ agg_argument a ++ Mark mark.Close ∷ rest)
 
-counted_some : (name : List ℕ) (ts rest : List Token) (a : NamedAgg) → cond {A = ReadOf NamedAgg} (bytes_eq name (codes "count")) (option_map (λ rest. (agg.Count, rest)) (behind_close ts)) None ≡ Some (a, rest) → ArgumentSo name a ts rest
-counted_some name ts rest a q = by (bytes_eq name (codes "count")) refl q
+-- an aggregate that was read up to a parenthesis was there
+closed_some : (found : Option NamedAgg) (ts rest : List Token) (a : NamedAgg) → closed_at found ts ≡ Some (a, rest) → (found ≡ Some a) × (ts ≡ Mark mark.Close ∷ rest)
+closed_some None ts rest a q = absurd (cc q)
+closed_some (Some b) ts rest a q =
+    let read = up_to_some close_at (Some (b, ts)) a rest q in
+    let p = both b a ts read.0 read.1 in
+    (ap Some p.0, p.1 ∙ close_some read.0 rest read.2)
+
+counted_some : (name : List ℕ) (ts rest : List Token) (a : NamedAgg) → closed_at (count_of name) ts ≡ Some (a, rest) → ArgumentSo name a ts rest
+counted_some name ts rest a q = by (bytes_eq name (codes "count")) refl (closed_some (count_of name) ts rest a q).0
   where
-    by : (b : Bool) → bytes_eq name (codes "count") ≡ b → cond {A = ReadOf NamedAgg} b (option_map (λ rest. (agg.Count, rest)) (behind_close ts)) None ≡ Some (a, rest) → ArgumentSo name a ts rest
-    by true e q =
-        let p = closed_some agg.Count a ts rest q in
+    by : (b : Bool) → bytes_eq name (codes "count") ≡ b → cond {A = Option NamedAgg} b (Some agg.Count) None ≡ Some a → ArgumentSo name a ts rest
+    by true e found =
+        let same : agg.Count ≡ a = cc found in
         let is : name ≡ codes "count" = (bytes_eq-Decides name (codes "count")).0 e in
-        subst (λ a. ArgumentSo name a ts rest) p.0 (is, p.1)
-    by false e q = absurd (cc q)
+        subst (λ a. ArgumentSo name a ts rest) same (is, (closed_some (count_of name) ts rest a q).1)
+    by false e found = absurd (cc found)
 
 argument_some : (name : List ℕ) (ts rest : List Token) (a : NamedAgg) → argument_at name ts ≡ Some (a, rest) → ArgumentSo name a ts rest
-argument_some name (Name column ∷ ts) rest a q = by (agg_named name) refl q
+argument_some name (Name column ∷ ts) rest a q = by (agg_named name) refl (closed_some (agg_of name column) ts rest a q).0
   where
-    by : (o : Option (List ℕ → NamedAgg)) → agg_named name ≡ o → option_and_then {U = NamedAgg × List Token} (λ make. option_map (λ rest. (make column, rest)) (behind_close ts)) o ≡ Some (a, rest) → ArgumentSo name a (Name column ∷ ts) rest
-    by None e q = absurd (cc q)
-    by (Some make) e q =
-        let p = closed_some (make column) a ts rest q in
+    by : (o : Option (List ℕ → NamedAgg)) → agg_named name ≡ o → option_map (λ make. make column) o ≡ Some a → ArgumentSo name a (Name column ∷ ts) rest
+    by None e found = absurd (cc found)
+    by (Some make) e found =
+        let same : make column ≡ a = cc found in
         let so = agg_named_some name make e column in
-        subst (λ a. ArgumentSo name a (Name column ∷ ts) rest) p.0 (so.0, ap (λ r. Name column ∷ r) p.1 ∙ ap (λ front. front ++ Mark mark.Close ∷ rest) (sym so.1))
+        let closes = (closed_some (agg_of name column) ts rest a q).1 in
+        subst (λ a. ArgumentSo name a (Name column ∷ ts) rest) same (so.0, ap (λ r. Name column ∷ r) closes ∙ ap (λ front. front ++ Mark mark.Close ∷ rest) (sym so.1))
 argument_some name ts rest a q = counted_some name ts rest a q
 
 agg_some : (n : ℕ) (ts rest : List Token) (a : NamedAgg) → agg_at n ts ≡ Some (a, rest) → (0 < n) × (ts ≡ Name (agg_word a) ∷ Mark mark.Open ∷ (agg_argument a ++ Mark mark.Close ∷ rest))
 agg_some zero ts rest a q = absurd (cc q)
 agg_some (suc k) ts rest a q =
-    let one = then_some (name_at ts) (λ name behind. option_and_then (argument_at name) (behind_open behind)) (a, rest) q in
-    let two = open_some (argument_at one.0) one.1 (a, rest) one.3 in
-    let so = argument_some one.0 two.0 rest a two.2 in
-    (omega arith, name_some ts one.1 one.0 one.2 ∙ ap (λ r. Name one.0 ∷ r) two.1 ∙ (λ i. Name (so.0 i) ∷ Mark mark.Open ∷ so.1 i))
+    let one = then_some (name_at ts) (λ name behind. and_then (open_at behind) (λ _. argument_at name)) (a, rest) q in
+    let two = then_some (open_at one.1) (λ _. argument_at one.0) (a, rest) one.3 in
+    let so = argument_some one.0 two.1 rest a two.3 in
+    (omega arith, name_some ts one.1 one.0 one.2 ∙ ap (λ r. Name one.0 ∷ r) (open_some one.1 two.1 two.2) ∙ (λ i. Name (so.0 i) ∷ Mark mark.Open ∷ so.1 i))
 
 pub result_sound : (n : ℕ) (from rest : List Token) (a : NamedResult) → result_at n from ≡ Some (a, rest) → ItemSo (SpellsResult n) itself a from rest
 result_sound n from rest a q =

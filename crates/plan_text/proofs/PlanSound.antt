@@ -1,7 +1,6 @@
 -- A plan that is read the grammar spells.
 use Prim.Native.Nat.{zero, suc}
 use Rattle.std.proofs.Common.{◌≡◌, refl, sym, ap, ◌∙◌, subst, ℕ, List, ◌∷◌, length, Some}
-use Rattle.std.specs.Option.{option_map, option_and_then}
 use Rattle.plan_text.specs.declared.token.Token.{Token}
 use Rattle.plan_text.specs.declared.token.Token.TheVariants.{Name, Word, Mark}
 use Rattle.plan_text.specs.declared.token.Mark.TheVariants as mark
@@ -15,12 +14,15 @@ use Rattle.plan_text.specs.Grammar as g
 use Rattle.plan_text.specs.Grammar.{Listed, SpellsName, SpellsColumn, SpellsPair, SpellsKey, SpellsResult, SpellsPlan}
 use Rattle.plan_text.specs.Reading.{expr_at, inner}
 use Rattle.plan_text.specs.PlanDraft.{PlanDraft, ColumnsDraft, with_column, columns_draft_of, plan_draft_of, from_draft, where_draft, select_draft, distinct_draft, group_draft, join_draft, concat_draft, order_draft}
-use Rattle.plan_text.specs.PlanReading.{ReadOf, PlanReader, and_then, all_repeated, list_at, at_end, name_at, names_at, column_at, columns_at, pair_at, pairs_at, key_at, keys_at, result_at, results_at, behind_bar, behind_close, behind_with, behind_on, inner_plan_at, where_at, select_at, group_at, join_at, concat_at, order_at, stage_at, from_at, plan_with, inner_plan, plan_at}
+use Rattle.plan_text.specs.Reader.{ReadOf, and_then, open_at, close_at, bar_at, with_at, on_at, up_to, all_repeated}
+use Rattle.plan_text.specs.PlanReading.{PlanReader, list_at, at_end, name_at, names_at, column_at, columns_at, pair_at, pairs_at, key_at, keys_at, result_at, results_at, inner_plan_at, where_at, select_at, group_at, join_at, concat_at, order_at, stage_at, from_at, plan_with, inner_plan, plan_at}
 use Rattle.plan_text.proofs.TokenLemmas.{both}
 use Rattle.plan_text.proofs.Sound.{read_is_spelled}
 use Rattle.plan_text.proofs.PlanDraftLemmas.{no_columns_kept, one_column_more, where_kept, select_kept, distinct_kept, group_kept, join_kept, concat_kept, order_kept}
-use Rattle.plan_text.proofs.PlanItems.{itself, column_value, closed_some, open_some, name_sound, pair_sound, key_sound, result_sound, column_sound}
-use Rattle.plan_text.proofs.ListLemmas.{then_some, repeated_keeps, ListedSo, list_sound}
+use Rattle.plan_text.proofs.PlanItems.{itself, column_value, name_sound, pair_sound, key_sound, result_sound, column_sound}
+use Rattle.plan_text.proofs.RepeatLemmas.{then_some, repeated_keeps}
+use Rattle.plan_text.proofs.ReadingLemmas.{open_some, close_some, bar_some, with_some, on_some, up_to_some}
+use Rattle.plan_text.proofs.ListLemmas.{ListedSo, list_sound}
 
 -- the grammar spells a plan of which this is kept
 pub record PlanSpelled (most : Counts) (n : ℕ) (d : PlanDraft) (from rest : List Token) : Type 0 where
@@ -54,19 +56,6 @@ columns_sound m n from columns rest q =
     list_sound (SpellsColumn n) (column_at m n) (with_column m) (columns_draft_of m) (column_value m n) (λ done x. one_column_more m done x.name x.expr) (column_sound m n) from columns rest
     (ap (λ none. list_at (column_at m n) (with_column m) none from) (no_columns_kept m) ∙ q)
 
--- the words between the parts of a stage
-with_some : {B : Type 0} (f : List Token → ReadOf B) (ts : List Token) (y : B × List Token) → option_and_then f (behind_with ts) ≡ Some y → (mid : List Token) × (ts ≡ Word word.With ∷ mid) × (f mid ≡ Some y)
-with_some f (Word word.With ∷ ts) y q = (ts, refl, q)
-with_some f _ y q = absurd (cc q)
-
-on_some : {B : Type 0} (f : List Token → ReadOf B) (ts : List Token) (y : B × List Token) → option_and_then f (behind_on ts) ≡ Some y → (mid : List Token) × (ts ≡ Word word.On ∷ mid) × (f mid ≡ Some y)
-on_some f (Word word.On ∷ ts) y q = (ts, refl, q)
-on_some f _ y q = absurd (cc q)
-
-bar_some : (ts behind : List Token) → behind_bar ts ≡ Some behind → ts ≡ Mark mark.Bar ∷ behind
-bar_some (Mark mark.Bar ∷ ts) behind q = let same : ts ≡ behind = cc q in ap (λ r. Mark mark.Bar ∷ r) same
-bar_some _ behind q = absurd (cc q)
-
 module _ (most : Counts) where
   -- the reader within parentheses, where n levels may be open
   abbrev SoundWithin : ℕ → PlanReader → Type 0
@@ -75,10 +64,9 @@ module _ (most : Counts) where
   module _ (within : PlanReader) (n : ℕ) (sound : SoundWithin n within) where
     inner_some : (ts rest : List Token) (d : PlanDraft) → inner_plan_at within ts ≡ Some (d, rest) → (mid : List Token) × (ts ≡ Mark mark.Open ∷ mid) × (within mid ≡ Some (d, Mark mark.Close ∷ rest))
     inner_some ts rest d q =
-        let o = open_some (λ mid. and_then (within mid) (λ d rest. option_map (λ behind. (d, behind)) (behind_close rest))) ts (d, rest) q in
-        let read = then_some (within o.0) (λ d rest. option_map (λ behind. (d, behind)) (behind_close rest)) (d, rest) o.2 in
-        let end = closed_some read.0 d read.1 rest read.3 in
-        (o.0, o.1, read.2 ∙ (λ k. Some (end.0 k, end.1 k)))
+        let o = then_some (open_at ts) (λ _ mid. up_to close_at (within mid)) (d, rest) q in
+        let read = up_to_some close_at (within o.1) d rest o.3 in
+        (o.1, open_some ts o.1 o.2, read.1 ∙ ap (λ r. Some (d, r)) (close_some read.0 rest read.2))
 
     -- a stage on a plan that is spelled
     module _ (p : PlainTree) (from : List Token) where
@@ -104,13 +92,13 @@ module _ (most : Counts) where
 
       group_sound : (ts rest : List Token) (d : PlanDraft) → SpellsPlan n p from (Mark mark.Bar ∷ Word word.Group ∷ ts) → group_at most n kept ts ≡ Some (d, rest) → So d rest
       group_sound ts rest d s q =
-          let keys = then_some (names_at ts) (λ keys next. option_and_then (λ behind. and_then (results_at n behind) (λ results rest. Some (group_draft most kept keys results, rest))) (behind_with next)) (d, rest) q in
-          let next = with_some (λ behind. and_then (results_at n behind) (λ results rest. Some (group_draft most kept keys.0 results, rest))) keys.1 (d, rest) keys.3 in
-          let read = then_some (results_at n next.0) (λ results rest. Some (group_draft most kept keys.0 results, rest)) (d, rest) next.2 in
+          let keys = then_some (up_to with_at (names_at ts)) (λ keys next. and_then (results_at n next) (λ results rest. Some (group_draft most kept keys results, rest))) (d, rest) q in
+          let next = up_to_some with_at (names_at ts) keys.0 keys.1 keys.2 in
+          let read = then_some (results_at n keys.1) (λ results rest. Some (group_draft most kept keys.0 results, rest)) (d, rest) keys.3 in
           let e = both (group_draft most kept keys.0 read.0) d read.1 rest read.3 in
-          let first = names_sound ts keys.0 (Word word.With ∷ next.0) (keys.2 ∙ ap (λ r. Some (keys.0, r)) next.1) in
-          let second = results_sound n next.0 read.0 rest (read.2 ∙ ap (λ r. Some (read.0, r)) e.1) in
-          record { plan = Group p keys.0 read.0; is = sym e.0 ∙ group_kept most p keys.0 read.0; spells = g.group next.0 s first second }
+          let first = names_sound ts keys.0 (Word word.With ∷ keys.1) (next.1 ∙ ap (λ r. Some (keys.0, r)) (with_some next.0 keys.1 next.2)) in
+          let second = results_sound n keys.1 read.0 rest (read.2 ∙ ap (λ r. Some (read.0, r)) e.1) in
+          record { plan = Group p keys.0 read.0; is = sym e.0 ∙ group_kept most p keys.0 read.0; spells = g.group keys.1 s first second }
 
       order_sound : (ts rest : List Token) (d : PlanDraft) → SpellsPlan n p from (Mark mark.Bar ∷ Word word.Order ∷ ts) → order_at most kept ts ≡ Some (d, rest) → So d rest
       order_sound ts rest d s q =
@@ -140,13 +128,13 @@ module _ (most : Counts) where
 
       join_sound : (ts rest : List Token) (d : PlanDraft) → SpellsPlan n p from (Mark mark.Bar ∷ Word word.Join ∷ ts) → join_at most within kept ts ≡ Some (d, rest) → So d rest
       join_sound ts rest d s q =
-          let right = then_some (inner_plan_at within ts) (λ right next. option_and_then (λ behind. and_then (pairs_at behind) (λ on rest. Some (join_draft most kept right on, rest))) (behind_on next)) (d, rest) q in
-          let next = on_some (λ behind. and_then (pairs_at behind) (λ on rest. Some (join_draft most kept right.0 on, rest))) right.1 (d, rest) right.3 in
-          let read = then_some (pairs_at next.0) (λ on rest. Some (join_draft most kept right.0 on, rest)) (d, rest) next.2 in
+          let right = then_some (up_to on_at (inner_plan_at within ts)) (λ right next. and_then (pairs_at next) (λ on rest. Some (join_draft most kept right on, rest))) (d, rest) q in
+          let next = up_to_some on_at (inner_plan_at within ts) right.0 right.1 right.2 in
+          let read = then_some (pairs_at right.1) (λ on rest. Some (join_draft most kept right.0 on, rest)) (d, rest) right.3 in
           let e = both (join_draft most kept right.0 read.0) d read.1 rest read.3 in
-          let on = pairs_sound next.0 read.0 rest (read.2 ∙ ap (λ r. Some (read.0, r)) e.1) in
-          let i = inner_some ts (Word word.On ∷ next.0) right.0 (right.2 ∙ ap (λ r. Some (right.0, r)) next.1) in
-          let t = sound i.0 (Mark mark.Close ∷ Word word.On ∷ next.0) right.0 i.2 in
+          let on = pairs_sound right.1 read.0 rest (read.2 ∙ ap (λ r. Some (read.0, r)) e.1) in
+          let i = inner_some ts (Word word.On ∷ right.1) right.0 (next.1 ∙ ap (λ r. Some (right.0, r)) (on_some next.0 right.1 next.2)) in
+          let t = sound i.0 (Mark mark.Close ∷ Word word.On ∷ right.1) right.0 i.2 in
           let left : SpellsPlan (suc t.0) p from (Mark mark.Bar ∷ Word word.Join ∷ Mark mark.Open ∷ i.0) = subst (λ k. SpellsPlan k p from (Mark mark.Bar ∷ Word word.Join ∷ Mark mark.Open ∷ i.0)) t.1 (subst (λ r. SpellsPlan n p from (Mark mark.Bar ∷ Word word.Join ∷ r)) i.1 s) in
           let whole : SpellsPlan (suc t.0) (Join p t.2.plan read.0) from rest = g.join left t.2.spells on in
           record {
@@ -175,14 +163,14 @@ module _ (most : Counts) where
               record { plan = From name; is = sym e.0; spells = subst (λ r. SpellsPlan n (From name) (Word word.From ∷ Name name ∷ ts) r) e.1 g.stream }
           by _ rest d q = absurd (cc q)
 
-      keeps : (d : PlanDraft) (ts behind : List Token) (t : PlanDraft) (after : List Token) → PlanSpelled most n d from ts → behind_bar ts ≡ Some behind → stage_at most within n d behind ≡ Some (t, after) → PlanSpelled most n t from after
-      keeps d ts behind t after k found q =
+      keeps : (d : PlanDraft) (ts : List Token) (o : Unit {0}) (behind : List Token) (t : PlanDraft) (after : List Token) → PlanSpelled most n d from ts → bar_at ts ≡ Some (o, behind) → stage_at most within n d behind ≡ Some (t, after) → PlanSpelled most n t from after
+      keeps d ts o behind t after k found q =
           stage_sound k.plan from behind after t (subst (λ ts. SpellsPlan n k.plan from ts) (bar_some ts behind found) k.spells) (sym (ap (λ d. stage_at most within n d behind) k.is) ∙ q)
 
       plan_sound : (rest : List Token) (d : PlanDraft) → plan_with most within n from ≡ Some (d, rest) → PlanSpelled most n d from rest
       plan_sound rest d q =
-          let read = then_some (from_at most from) (all_repeated behind_bar (stage_at most within n)) (d, rest) q in
-          repeated_keeps behind_bar (stage_at most within n) (λ d ts. PlanSpelled most n d from ts) keeps (suc (length read.1)) read.0 read.1 d rest (first_sound read.1 read.0 read.2) read.3
+          let read = then_some (from_at most from) (all_repeated bar_at (λ _. stage_at most within n)) (d, rest) q in
+          repeated_keeps bar_at (λ _. stage_at most within n) (λ d ts. PlanSpelled most n d from ts) keeps (suc (length read.1)) read.0 read.1 d rest (first_sound read.1 read.0 read.2) read.3
 
   inner_plan_sound : (n : ℕ) → SoundWithin n (inner_plan most n)
   unfolding inner_plan

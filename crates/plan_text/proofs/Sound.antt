@@ -2,7 +2,7 @@
 use Prim.Native.Nat.{zero, suc}
 use Rattle.std.proofs.Common.{◌≡◌, refl, sym, ap, ◌∙◌, subst, ℕ, ◌≤◌, Bool, true, false, cond, nat_lt, nat_le, List, [], ◌∷◌, length, Option, Some, None, pos, neg_ℤ, FitsSigned, w64, arith}
 use Rattle.std.proofs.lemmas.Bool.Decides.{nat_tests, Decides-ltb}
-use Rattle.std.specs.Option.{option_map, option_and_then}
+use Rattle.std.specs.Option.{option_map}
 use Rattle.scalar_ops.specs.declared.cell.Cell.TheVariants as cell
 use Rattle.scalar_ops.specs.declared.table.Op.{Op}
 use Rattle.scalar_ops.specs.declared.table.Op.TheVariants as op
@@ -19,9 +19,12 @@ use Rattle.plan_text.specs.PlainNamed.{PlainExpr, Column, Literal, Call1, Call2,
 use Rattle.plan_text.specs.Grammar as g
 use Rattle.plan_text.specs.Grammar.{Rule, E, AND, NOT, CMP, SUM, MUL, UN, ATOM, Spells, compare_op, sum_op, mul_op, call1_op, call2_op}
 use Rattle.plan_text.specs.Draft.{PlainDraft, draft_of, with1, with2, with3}
-use Rattle.plan_text.specs.Reading.{Read, Reader, Inner, Operators, read_then, operated, behind_close, behind_comma, behind_open, argument, last_argument, call1_at, call2_at, choice_at, function_at, word_atom, mark_atom, number_atom, minus_atom, atom_at, un_at, mark_operator, more_step, more_at, left_at, mul_at, sum_at, compare_step, cmp_at, not_at, and_operator, and_at, or_operator, expr_at, joined, kept_one, inner}
+use Rattle.plan_text.specs.Reader.{ReadOf, and_then, comma_at, open_at, close_at, up_to, all_repeated}
+use Rattle.plan_text.specs.Reading.{Reader, Inner, Operators, operated, argument, last_argument, call1_at, call2_at, choice_at, function_at, word_atom, mark_atom, number_atom, minus_atom, atom_at, un_at, mark_operator, operand_onto, left_at, mul_at, sum_at, compare_step, cmp_at, not_at, and_operator, and_at, or_operator, expr_at, joined, kept_one, inner}
 use Rattle.plan_text.proofs.DraftLemmas.{with1-draft, with2-draft, with3-draft}
 use Rattle.plan_text.proofs.TokenLemmas.{both}
+use Rattle.plan_text.proofs.RepeatLemmas.{then_some, repeated_keeps}
+use Rattle.plan_text.proofs.ReadingLemmas.{comma_some, open_some, close_some, up_to_some}
 use Rattle.plan_text.proofs.Complete.{made}
 
 -- the rule spells an expression of which this is kept
@@ -40,39 +43,16 @@ module _ (most : ℕ) where
   abbrev pub Sound : Rule → ℕ → Reader → Type 0
   Sound rule n reader = (from rest : List Token) (d : PlainDraft) → reader from ≡ Some (d, rest) → Spelled most rule n d from rest
 
-  here : (rule : Rule) (n : ℕ) (e : PlainExpr) (from ts rest : List Token) (d : PlainDraft) → Spells rule n e from ts → ◌≡◌ {A = Read} (Some (draft_of most e, ts)) (Some (d, rest)) → Spelled most rule n d from rest
+  here : (rule : Rule) (n : ℕ) (e : PlainExpr) (from ts rest : List Token) (d : PlainDraft) → Spells rule n e from ts → ◌≡◌ {A = ReadOf PlainDraft} (Some (draft_of most e, ts)) (Some (d, rest)) → Spelled most rule n d from rest
   here rule n e from ts rest d s q = let p = both (draft_of most e) d ts rest q in record { expr = e; is = sym p.0; spells = subst (λ r. Spells rule n e from r) p.1 s }
 
-  -- what was read first, and what then
-  then_some : (read : Read) (f : PlainDraft → Reader) (y : PlainDraft × List Token) → read_then read f ≡ Some y → (d : PlainDraft) × (ts : List Token) × (read ≡ Some (d, ts)) × (f d ts ≡ Some y)
-  then_some None f y q = absurd (cc q)
-  then_some (Some x) f y q = (x.0, x.1, refl, q)
-
-  close_some : (d e : PlainDraft) (ts rest : List Token) → behind_close d ts ≡ Some (e, rest) → (d ≡ e) × (ts ≡ Mark mark.Close ∷ rest)
-  close_some d e (Mark mark.Close ∷ ts) rest q = let p = both d e ts rest q in (p.0, ap (λ r. Mark mark.Close ∷ r) p.1)
-  close_some d e _ rest q = absurd (cc q)
-
-  comma_some : (d e : PlainDraft) (ts rest : List Token) → option_map {U = PlainDraft × List Token} (λ behind. (d, behind)) (behind_comma ts) ≡ Some (e, rest) → (d ≡ e) × (ts ≡ Mark mark.Comma ∷ rest)
-  comma_some d e (Mark mark.Comma ∷ ts) rest q = let p = both d e ts rest q in (p.0, ap (λ r. Mark mark.Comma ∷ r) p.1)
-  comma_some d e _ rest q = absurd (cc q)
-
-  open_some : (f : Reader) (ts : List Token) (y : PlainDraft × List Token) → option_and_then f (behind_open ts) ≡ Some y → (mid : List Token) × (ts ≡ Mark mark.Open ∷ mid) × (f mid ≡ Some y)
-  open_some f (Mark mark.Open ∷ ts) y q = (ts, refl, q)
-  open_some f _ y q = absurd (cc q)
-
   last_some : (i : Inner) (ts rest : List Token) (d : PlainDraft) → last_argument i ts ≡ Some (d, rest) → i.expr ts ≡ Some (d, Mark mark.Close ∷ rest)
-  last_some i ts rest d q =
-      let first = then_some (i.expr ts) behind_close (d, rest) q in
-      let end = close_some first.0 d first.1 rest first.3 in
-      first.2 ∙ (λ k. Some (end.0 k, end.1 k))
+  last_some i ts rest d q = let p = up_to_some close_at (i.expr ts) d rest q in p.1 ∙ ap (λ r. Some (d, r)) (close_some p.0 rest p.2)
 
   argument_some : (i : Inner) (ts rest : List Token) (d : PlainDraft) → argument i ts ≡ Some (d, rest) → i.expr ts ≡ Some (d, Mark mark.Comma ∷ rest)
-  argument_some i ts rest d q =
-      let first = then_some (i.expr ts) (λ d rest. option_map (λ behind. (d, behind)) (behind_comma rest)) (d, rest) q in
-      let end = comma_some first.0 d first.1 rest first.3 in
-      first.2 ∙ (λ k. Some (end.0 k, end.1 k))
+  argument_some i ts rest d q = let p = up_to_some comma_at (i.expr ts) d rest q in p.1 ∙ ap (λ r. Some (d, r)) (comma_some p.0 rest p.2)
 
-  operated_some : (o : Op) (read : Read) (rest : List Token) (d : PlainDraft) → operated most o read ≡ Some (d, rest) → (a : PlainDraft) × (read ≡ Some (a, rest)) × (d ≡ with1 most (Call1 o) a)
+  operated_some : (o : Op) (read : ReadOf PlainDraft) (rest : List Token) (d : PlainDraft) → operated most o read ≡ Some (d, rest) → (a : PlainDraft) × (read ≡ Some (a, rest)) × (d ≡ with1 most (Call1 o) a)
   operated_some o read rest d q =
       let first = then_some read (λ a rest. Some (with1 most (Call1 o) a, rest)) (d, rest) q in
       let p = both (with1 most (Call1 o) first.0) d first.1 rest first.3 in
@@ -111,26 +91,27 @@ module _ (most : ℕ) where
   module _ (operators : Operators) (item : Reader) (low list : Rule) (n : ℕ) (items : Sound low n item)
       (single : (e : PlainExpr) (from rest : List Token) → Spells low n e from rest → Spells list n e from rest)
       (longer : (j : the_operator.Operator) (a b : PlainExpr) (from ts mid rest : List Token) → operators ts ≡ Some (j, mid) → Spells list n a from ts → Spells low n b mid rest → Spells list n (joined j a b) from rest) where
-    more_sound : (turns : ℕ) (a : PlainExpr) (from ts rest : List Token) (d : PlainDraft) → Spells list n a from ts → more_at most operators item turns (draft_of most a) ts ≡ Some (d, rest) → Spelled most list n d from rest
-    unfolding more_at
-    more_sound zero a from ts rest d s q = absurd (cc q)
-    more_sound (suc k) a from ts rest d s q = by (operators ts) refl q (more_sound k)
-      where
-        by : (o : Option (the_operator.Operator × List Token)) → operators ts ≡ o → more_step most item (more_at most operators item k) (draft_of most a) ts o ≡ Some (d, rest)
-            → ((a : PlainExpr) (from ts rest : List Token) (d : PlainDraft) → Spells list n a from ts → more_at most operators item k (draft_of most a) ts ≡ Some (d, rest) → Spelled most list n d from rest)
-            → Spelled most list n d from rest
-        by None e q again = here list n a from ts rest d s q
-        by (Some x) e q again =
-            let read = then_some (item x.1) (λ e rest. more_at most operators item k (with2 most (joined x.0) (draft_of most a) e) rest) (d, rest) q in
-            let t = items x.1 read.1 read.0 read.2 in
-            let is : with2 most (joined x.0) (draft_of most a) read.0 ≡ draft_of most (joined x.0 a t.expr) = ap (with2 most (joined x.0) (draft_of most a)) t.is ∙ made most x.0 a t.expr in
-            again (joined x.0 a t.expr) from read.1 rest d (longer x.0 a t.expr from ts x.1 read.1 e s t.spells) (sym (ap (λ e. more_at most operators item k e read.1) is) ∙ read.3)
+    module _ (from : List Token) where
+      keeps : (d : PlainDraft) (ts : List Token) (j : the_operator.Operator) (mid : List Token) (t : PlainDraft) (after : List Token) → Spelled most list n d from ts → operators ts ≡ Some (j, mid) → operand_onto most item j d mid ≡ Some (t, after) → Spelled most list n t from after
+      keeps d ts j mid t after k found q =
+          let read = then_some (item mid) (λ e rest. Some (with2 most (joined j) d e, rest)) (t, after) q in
+          let p = both (with2 most (joined j) d read.0) t read.1 after read.3 in
+          let s = items mid after read.0 (read.2 ∙ ap (λ r. Some (read.0, r)) p.1) in
+          record {
+            expr = joined j k.expr s.expr;
+            is = sym p.0 ∙ (λ i. with2 most (joined j) (k.is i) (s.is i)) ∙ made most j k.expr s.expr;
+            spells = longer j k.expr s.expr from ts mid after found k.spells s.spells;
+          }
+
+      left_sound_from : (rest : List Token) (d : PlainDraft) → left_at most operators item from ≡ Some (d, rest) → Spelled most list n d from rest
+      left_sound_from rest d q =
+          let read = then_some (item from) (all_repeated operators (operand_onto most item)) (d, rest) q in
+          let s = items from read.1 read.0 read.2 in
+          let first : Spelled most list n read.0 from read.1 = record { expr = s.expr; is = s.is; spells = single s.expr from read.1 s.spells } in
+          repeated_keeps operators (operand_onto most item) (λ d ts. Spelled most list n d from ts) keeps (suc (length read.1)) read.0 read.1 d rest first read.3
 
     left_sound : Sound list n (left_at most operators item)
-    left_sound from rest d q =
-        let read = then_some (item from) (λ d rest. more_at most operators item (suc (length rest)) d rest) (d, rest) q in
-        let s = items from read.1 read.0 read.2 in
-        more_sound (suc (length read.1)) s.expr from read.1 rest d (single s.expr from read.1 s.spells) (sym (ap (λ e. more_at most operators item (suc (length read.1)) e read.1) s.is) ∙ read.3)
+    left_sound = left_sound_from
 
   mark_some : (op_of : the_mark.Mark → Option Op) (ts mid : List Token) (j : the_operator.Operator) → mark_operator op_of ts ≡ Some (j, mid) → (m : the_mark.Mark) × (o : Op) × (ts ≡ Mark m ∷ mid) × (op_of m ≡ Some o) × (j ≡ operator.Call o)
   mark_some op_of (Mark m ∷ ts) mid j q = by (op_of m) refl q
@@ -178,14 +159,14 @@ module _ (most : ℕ) where
   number_sound : (n number : ℕ) (ts rest : List Token) (d : PlainDraft) → number_atom most number ts ≡ Some (d, rest) → Spelled most ATOM n d (Number number ∷ ts) rest
   number_sound n number ts rest d q = by (nat_lt number greatest_number) refl q
     where
-      by : (b : Bool) → nat_lt number greatest_number ≡ b → cond {A = Read} b (Some (kept_one most (Literal (cell.Int (pos number))), ts)) None ≡ Some (d, rest) → Spelled most ATOM n d (Number number ∷ ts) rest
+      by : (b : Bool) → nat_lt number greatest_number ≡ b → cond {A = ReadOf PlainDraft} b (Some (kept_one most (Literal (cell.Int (pos number))), ts)) None ≡ Some (d, rest) → Spelled most ATOM n d (Number number ∷ ts) rest
       by true e q = here ATOM n (Literal (cell.Int (pos number))) (Number number ∷ ts) ts rest d (g.an_int (in_i64 number e)) q
       by false e q = absurd (cc q)
 
   minus_sound : (n : ℕ) (ts rest : List Token) (d : PlainDraft) → minus_atom most ts ≡ Some (d, rest) → Spelled most ATOM n d (Mark mark.Sign ∷ ts) rest
   minus_sound n (Number number ∷ ts) rest d q = by (nat_le number greatest_number) refl q
     where
-      by : (b : Bool) → nat_le number greatest_number ≡ b → cond {A = Read} b (Some (kept_one most (Literal (cell.Int (neg_ℤ (pos number)))), ts)) None ≡ Some (d, rest) → Spelled most ATOM n d (Mark mark.Sign ∷ Number number ∷ ts) rest
+      by : (b : Bool) → nat_le number greatest_number ≡ b → cond {A = ReadOf PlainDraft} b (Some (kept_one most (Literal (cell.Int (neg_ℤ (pos number)))), ts)) None ≡ Some (d, rest) → Spelled most ATOM n d (Mark mark.Sign ∷ Number number ∷ ts) rest
       by true e q = here ATOM n (Literal (cell.Int (neg_ℤ (pos number)))) (Mark mark.Sign ∷ Number number ∷ ts) ts rest d (g.a_minus_int refl (minus_in_i64 number e)) q
       by false e q = absurd (cc q)
   minus_sound n _ rest d q = absurd (cc q)
@@ -194,7 +175,7 @@ module _ (most : ℕ) where
     -- arguments, each with the levels that are left
     call2_sound : (w : the_word.Word) (o : Op) → call2_op w ≡ Some o → (mid rest : List Token) (d : PlainDraft) → call2_at most i o mid ≡ Some (d, rest) → Spelled most ATOM n d (Word w ∷ Mark mark.Open ∷ mid) rest
     call2_sound w o e mid rest d q =
-        let first = then_some (argument i mid) (λ a next. read_then (last_argument i next) (λ b rest. Some (with2 most (Call2 o) a b, rest))) (d, rest) q in
+        let first = then_some (argument i mid) (λ a next. and_then (last_argument i next) (λ b rest. Some (with2 most (Call2 o) a b, rest))) (d, rest) q in
         let last = then_some (last_argument i first.1) (λ b rest. Some (with2 most (Call2 o) first.0 b, rest)) (d, rest) first.3 in
         let p = both (with2 most (Call2 o) first.0 last.0) d last.1 rest last.3 in
         let s = within.expr mid (Mark mark.Comma ∷ first.1) first.0 (argument_some i mid first.1 first.0 first.2) in
@@ -210,8 +191,8 @@ module _ (most : ℕ) where
 
     choice_sound : (mid rest : List Token) (d : PlainDraft) → choice_at most i mid ≡ Some (d, rest) → Spelled most ATOM n d (Word word.If ∷ Mark mark.Open ∷ mid) rest
     choice_sound mid rest d q =
-        let first = then_some (argument i mid) (λ c next. read_then (argument i next) (λ a last. read_then (last_argument i last) (λ b rest. Some (with3 most If c a b, rest)))) (d, rest) q in
-        let second = then_some (argument i first.1) (λ a last. read_then (last_argument i last) (λ b rest. Some (with3 most If first.0 a b, rest))) (d, rest) first.3 in
+        let first = then_some (argument i mid) (λ c next. and_then (argument i next) (λ a last. and_then (last_argument i last) (λ b rest. Some (with3 most If c a b, rest)))) (d, rest) q in
+        let second = then_some (argument i first.1) (λ a last. and_then (last_argument i last) (λ b rest. Some (with3 most If first.0 a b, rest))) (d, rest) first.3 in
         let last = then_some (last_argument i second.1) (λ b rest. Some (with3 most If first.0 second.0 b, rest)) (d, rest) second.3 in
         let p = both (with3 most If first.0 second.0 last.0) d last.1 rest last.3 in
         let s = within.expr mid (Mark mark.Comma ∷ first.1) first.0 (argument_some i mid first.1 first.0 first.2) in
@@ -237,10 +218,10 @@ module _ (most : ℕ) where
     function_sound word.Most mid rest d q = call2_sound word.Most op.Most refl mid rest d q
     function_sound _ mid rest d q = absurd (cc q)
 
-    opened : (w : the_word.Word) (ts rest : List Token) (d : PlainDraft) → option_and_then (function_at most i w) (behind_open ts) ≡ Some (d, rest) → Spelled most ATOM n d (Word w ∷ ts) rest
+    opened : (w : the_word.Word) (ts rest : List Token) (d : PlainDraft) → and_then (open_at ts) (λ _. function_at most i w) ≡ Some (d, rest) → Spelled most ATOM n d (Word w ∷ ts) rest
     opened w ts rest d q =
-        let o = open_some (function_at most i w) ts (d, rest) q in
-        subst (λ ts. Spelled most ATOM n d (Word w ∷ ts) rest) (sym o.1) (function_sound w o.0 rest d o.2)
+        let o = then_some (open_at ts) (λ _. function_at most i w) (d, rest) q in
+        subst (λ ts. Spelled most ATOM n d (Word w ∷ ts) rest) (sym (open_some ts o.1 o.2)) (function_sound w o.1 rest d o.3)
 
     word_sound : (w : the_word.Word) (ts rest : List Token) (d : PlainDraft) → word_atom most i w ts ≡ Some (d, rest) → Spelled most ATOM n d (Word w ∷ ts) rest
     word_sound word.True ts rest d q = here ATOM n (Literal (cell.Bool true)) (Word word.True ∷ ts) ts rest d (g.a_truth {b = true}) q

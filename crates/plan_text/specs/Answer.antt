@@ -12,9 +12,8 @@ use Rattle.plan_text.specs.PlainNamed.{PlainExpr, PlainTree, expr_of, tree_of}
 use Rattle.plan_text.specs.Grammar.{Spells, E, SpellsPlan}
 use Rattle.plan_text.specs.Counts.{IsWithinLimits}
 use Rattle.plan_text.specs.Draft.{PlainDraft, Whole, TooMany}
-use Rattle.plan_text.specs.Reading.{Read}
+use Rattle.plan_text.specs.Reader.{ReadOf}
 use Rattle.plan_text.specs.PlanDraft.{PlanDraft, WholePlan, TooLarge, first_above}
-use Rattle.plan_text.specs.PlanReading.{ReadOf}
 
 -- The text spells the expression, with at most 32 levels open.
 pub record SpellsExpr (e : PlainExpr) (text : List ℕ) : Type 0 where
@@ -33,7 +32,7 @@ abbrev pub IsWritten : PlainTree → Type 0
 IsWritten plan = ((text : List ℕ) × SpellsText plan text) × IsWithinLimits plan
 
 -- the answer is the expression that was read up to the end, or why there is none
-abbrev pub MeansWhole : Result code.NamedExpr TextRefusal → Read → Type 0
+abbrev pub MeansWhole : Result code.NamedExpr TextRefusal → ReadOf PlainDraft → Type 0
 MeansWhole (Ok e) read = (nodes : ℕ) × (read ≡ Some (Whole (expr_of e) nodes, []))
 MeansWhole (Err refusal.Syntax) read = (d : PlainDraft) → read ≢ Some (d, [])
 MeansWhole (Err (refusal.Limit limit.Nodes)) read = ⊥

@@ -3,6 +3,7 @@ pub mod PlainNamed
 pub mod Counts
 pub mod Grammar
 pub mod Draft
+pub mod Reader
 pub mod Reading
 pub mod PlanDraft
 pub mod PlanReading

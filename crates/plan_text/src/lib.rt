@@ -9,6 +9,7 @@ mod bound;
 mod draft;
 pub mod expr;
 mod expr_printer;
+mod expressions;
 pub mod laws;
 mod lists;
 pub mod named_plan;

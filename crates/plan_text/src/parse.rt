@@ -11,11 +11,10 @@ ghost use Rattle.plan_text.specs.PlanReading.{plan_at};
 use crate::draft::Draft;
 use crate::expr::NamedExpr;
 use crate::named_plan::NamedPlan;
-use crate::parser::expr;
+use crate::parser::Parser;
 use crate::plan::NamedTree;
 use crate::plan_draft::PlanDraft;
 use crate::refusal::{PlanLimit, TextRefusal};
-use crate::stages::plan;
 use crate::token::Token;
 use crate::tokenizer::tokens_of;
 use std::alloc::Global;
@@ -25,7 +24,8 @@ const MAX_LEVELS: u32 = 32;
 
 /// The plan that a text spells, with spaces before, between and behind its tokens: `Syntax` exactly where it spells none,
 /// else `Limit` exactly where the plan as written has more than 40 nodes, more than 8 wide ones or more than 512 expression
-/// nodes, with the first of these. No text spells two plans, as `one_plan` says.
+/// nodes, with the first of these. `Memory` may come in place of any of these, where memory was asked for and refused. The
+/// grammar and the limits are this project's own. No text spells two plans, as `one_plan` says.
 pub fn parse_plan(alloc: Global, text: &[u8]) -> Result<NamedPlan, TextRefusal>
     ensures found { IfOk result (λ plan. SpellsText plan text.now × IsWithinLimits plan) }
     ensures syntax { IsErrOf result TextRefusal.Syntax → ((plan : PlainTree) → SpellsText plan text.now → ⊥) }
@@ -57,7 +57,8 @@ fn tree_of_text(alloc: Global, text: &[u8]) -> Result<NamedTree, TextRefusal>
 }
 
 /// The expression that a text spells, with spaces before, between and behind its tokens: `Syntax` exactly where it spells
-/// none, else `Limit` exactly where it has more than 512 nodes.
+/// none, else `Limit` exactly where it has more than 512 nodes. `Memory` may come in place of either, where memory was asked
+/// for and refused. The grammar and the limit are this project's own.
 pub fn parse_expr(alloc: Global, text: &[u8]) -> Result<NamedExpr, TextRefusal>
     ensures found { IfOk result (λ e. SpellsExpr (expr_of e) text.now × (expr_nodes (expr_of e) ≤ 512)) }
     ensures syntax { IsErrOf result TextRefusal.Syntax → ((e : PlainExpr) → SpellsExpr e text.now → ⊥) }
@@ -76,8 +77,9 @@ pub fn parse_expr(alloc: Global, text: &[u8]) -> Result<NamedExpr, TextRefusal>
 fn whole_expr(alloc: Global, tokens: &[Token]) -> Result<NamedExpr, TextRefusal>
     ensures { MeansWhole result (expr_at 512 (inner 512 32) tokens.now) }
 {
-    let (draft, rest) = expr(alloc, MAX_LEVELS, tokens)?;
-    if !rest.is_empty() {
+    let mut parser = Parser::new(alloc, tokens);
+    let draft = parser.expr(MAX_LEVELS)?;
+    if !parser.is_at_end() {
         return Err(TextRefusal::Syntax);
     }
     match draft {
@@ -92,8 +94,9 @@ fn whole_expr(alloc: Global, tokens: &[Token]) -> Result<NamedExpr, TextRefusal>
 fn whole_plan(alloc: Global, tokens: &[Token]) -> Result<NamedTree, TextRefusal>
     ensures { MeansPlan result (plan_at limits 32 tokens.now) }
 {
-    let (draft, behind) = plan(alloc, MAX_LEVELS, tokens)?;
-    if !behind.is_empty() {
+    let mut parser = Parser::new(alloc, tokens);
+    let draft = parser.plan(MAX_LEVELS)?;
+    if !parser.is_at_end() {
         return Err(TextRefusal::Syntax);
     }
     match draft {

@@ -2,9 +2,10 @@
 -- say, and turns are left for the rest.
 use Rattle.std.proofs.Common.{◌+◌, ◌*◌, ◌≤◌, length}
 use Rattle.plan_text.specs.PlanDraft.{seen_plan, limits}
-use Rattle.plan_text.specs.PlanReading.{behind_bar, stage_at, inner_plan, plan_at}
+use Rattle.plan_text.specs.Reader.{bar_at}
+use Rattle.plan_text.specs.PlanReading.{stage_at, inner_plan, plan_at}
 use Rattle.plan_text.proofs.RepeatLemmas.{Repeats}
-use Rattle.plan_text.proofs.stages.+plan.Given as goal
+use Rattle.plan_text.proofs.parser.Parser.+plan.Given as goal
 
 abbrev pub decreases-plan : goal.decreases-plan
 decreases-plan l = 8 * l.levels + 5
@@ -21,14 +22,16 @@ decreases-join_stage l = 8 * l.levels + 2
 abbrev pub decreases-concat_stage : goal.decreases-concat_stage
 decreases-concat_stage l = 8 * l.levels + 2
 
-abbrev pub decreases-in_parentheses : goal.decreases-in_parentheses
-decreases-in_parentheses l = 8 * l.levels + 1
+abbrev pub decreases-inner_plan : goal.decreases-inner_plan
+decreases-inner_plan l = 8 * l.levels + 1
 
-abbrev pub decreases-within : goal.decreases-within
-decreases-within l = 8 * l.levels + 0
+abbrev pub decreases-plan_within : goal.decreases-plan_within
+decreases-plan_within l = 8 * l.levels + 0
 
-abbrev pub invariant-plan-loop-behind : goal.invariant-plan-loop-behind
-invariant-plan-loop-behind l = record { read : Repeats behind_bar (stage_at limits (inner_plan limits l.levels) l.levels) (plan_at limits l.levels l.tokens) (seen_plan l.plan) l.rest; no_longer : length l.rest ≤ length l.tokens }
+abbrev pub invariant-plan-loop-self : goal.invariant-plan-loop-self
+invariant-plan-loop-self l =
+    Repeats bar_at (λ _. stage_at limits (inner_plan limits l.levels) l.levels) (plan_at limits l.levels l.fn.self.rest.now) (seen_plan l.plan) l.self.rest.now
+    × (length l.self.rest.now ≤ length l.fn.self.rest.now)
 
-abbrev pub decreases-plan-loop-behind : goal.decreases-plan-loop-behind
-decreases-plan-loop-behind l = length l.rest
+abbrev pub decreases-plan-loop-self : goal.decreases-plan-loop-self
+decreases-plan-loop-self l = length l.self.rest.now
