@@ -6,3 +6,5 @@ pub mod Members
 pub mod StableLists
 pub mod TypedOperators
 pub mod TypedPlans
+pub mod ValidPlans
+pub mod ValidValues

@@ -1,1 +1,2 @@
 pub mod KeptForm
+pub mod ValidRows
