@@ -18,6 +18,3 @@ pub use item::{Command, Item, commands_are_whole};
 pub use laws::{count_is_short, refusal_is_short};
 pub use lines::Lines;
 pub use spelling::{append_spelling, stream_spelling};
-
-#[cfg(test)]
-mod tests;

@@ -8,6 +8,3 @@ mod stream;
 
 pub use laws::one_outcome;
 pub use session::Session;
-
-#[cfg(test)]
-mod tests;
