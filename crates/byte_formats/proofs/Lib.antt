@@ -18,3 +18,5 @@ pub mod Nodes
 pub mod Loop
 pub mod Parts
 pub mod PartsGo
+pub mod Names
+pub mod NamesGo

@@ -1,9 +1,8 @@
 -- A part that may be absent, items in order, a test that counts at the last byte, and bytes as they are.
-use Rattle.std.proofs.Common.{◌≡◌, ℕ, zero, suc, ◌+◌, ◌^◌, ◌<◌, ◌≤◌, ◌⊎◌, inl, inr, Bool, true, false, ltb, cond, List, [], ◌∷◌, ◌++◌, length, take, drop, Option, Some, None, Result, Ok, Err, refl, sym, ap, subst, ◌∙◌, append_assoc, arith}
+use Rattle.std.proofs.Common.{◌≡◌, ℕ, zero, suc, ◌+◌, ◌^◌, ◌<◌, ◌≤◌, inl, inr, Bool, true, false, ltb, cond, List, [], ◌∷◌, ◌++◌, length, take, drop, Option, Some, None, Ok, Err, refl, sym, ap, subst, ◌∙◌, append_assoc, arith}
 use Rattle.std.specs.Int.{w32, to_be_bytes}
 use Rattle.std.proofs.lemmas.Bool.{ltb-true, ltb-false, le-ltb}
 use Rattle.std.proofs.lemmas.List.{append-nil, length-append, length-take, take-append-drop, take_at, drop_at}
-use Rattle.rows_core.specs.declared.file_ref.Digest.{Digest}
 use Rattle.byte_formats.specs.Reading.{◌>>=◌, Read}
 use Rattle.byte_formats.specs.Format.{Format, made, flag, ◌▷◌, u32, read_as, first_of, FitsChain, chain_spelling, AreChain, chain_at, chain, counted_chain, empty, Part, part, option_of, FitsOption, option_spelling, optional, passed, passing, run_at, run, digest, sized}
 use Rattle.byte_formats.proofs.Readers.{IsBytes, bind_ok, guard_ok, ok_is}

@@ -1,12 +1,11 @@
 -- What begins a spelling of a part that may be absent, of items in order, of bytes as they are, or of a value behind its
 -- length is the front of one.
-use Rattle.std.proofs.Common.{◌≡◌, ℕ, zero, suc, ◌+◌, ◌-◌, ◌^◌, ◌<◌, ◌≤◌, Bool, true, false, List, [], ◌∷◌, ◌++◌, length, Option, Some, None, refl, sym, ap, subst, ◌∙◌, arith}
+use Rattle.std.proofs.Common.{◌≡◌, ℕ, zero, suc, ◌-◌, ◌^◌, ◌<◌, Bool, true, false, List, [], ◌∷◌, ◌++◌, length, Option, Some, None, refl, sym, ap, subst, ◌∙◌, arith}
 use Rattle.std.specs.Int.{w32, w64, to_be_bytes}
 use Rattle.std.proofs.lemmas.List.{append-nil, length-append}
-use Rattle.rows_core.specs.declared.file_ref.Digest.{Digest}
-use Rattle.byte_formats.specs.Format.{Format, flag, made, ◌▷◌, first_of, u32, u64, FitsChain, chain_spelling, chain, counted_chain, empty, Part, part, option_of, FitsOption, option_spelling, optional, run, digest, sized, exactly}
+use Rattle.byte_formats.specs.Format.{Format, flag, ◌▷◌, u32, u64, FitsChain, chain_spelling, chain, counted_chain, empty, Part, part, option_of, FitsOption, option_spelling, optional, run, digest, sized, exactly}
 use Rattle.byte_formats.proofs.Fields.{wide64}
-use Rattle.byte_formats.proofs.Goes.{Front, Goes, zeros, length-zeros, number_goes, u32_goes, flag_goes, both_goes, made_goes}
+use Rattle.byte_formats.proofs.Goes.{Goes, zeros, length-zeros, number_goes, u32_goes, flag_goes, both_goes, made_goes}
 
 pub u64_goes : Goes u64 (λ n. n < 2 ^ 64)
 u64_goes = number_goes w64 (2 ^ 64) (omega arith) wide64

@@ -1,10 +1,12 @@
 -- Formats of bytes as descriptions. A format says which values have a spelling, how each is spelled, which bytes begin
 -- one as far as reading can tell, and what reading gives. Numbers are big-endian.
-use Rattle.std.specs.Prelude.{◌≡◌, ℕ, ℤ, zero, suc, ◌+◌, ◌^◌, ◌<◌, ◌≤◌, ◌⊎◌, ◌==◌, Bool, true, false, if◌then◌else◌, List, [], ◌∷◌, ◌++◌, length, take, drop, nat_lt, nat_le, Option, Some, None, Result, Ok, Err}
+use Rattle.std.specs.Prelude.{◌≡◌, ℕ, ℤ, zero, suc, ◌+◌, ◌^◌, ◌<◌, ◌≤◌, ◌⊎◌, ◌-◌, ◌==◌, ◌&&◌, not, IsTrue, Bool, true, false, if◌then◌else◌, List, [], ◌∷◌, ◌++◌, length, take, drop, nat_lt, nat_le, Option, Some, None, Result, Ok, Err}
 use Rattle.std.specs.Int.{Width, w32, w64, byte_len, to_be_bytes, cast_signed, cast_unsigned}
 use Rattle.std.specs.Int.RustNames.{FitsSigned}
-use Rattle.std.specs.List.{flat_map, AllByRecursion}
+use Rattle.std.specs.Char.{is_ascii_lowercase}
+use Rattle.std.specs.List.{flat_map, list_all, AllByRecursion}
 use Rattle.rows_core.specs.declared.file_ref.Digest.{Digest}
+use Rattle.rows_core.specs.Name.{IsName, begins_with_letter, is_name_byte, is_reserved}
 use Rattle.rows_core.specs.Txt.{IsTxt}
 use Rattle.byte_formats.specs.Reading.{◌>>=◌, Read, number_at, bounded_at, text_at, ended}
 
@@ -269,6 +271,35 @@ digest = made (λ bytes. record { bytes = bytes }) (λ digest. length digest.byt
 -- bytes behind their length
 abbrev pub sized : Format (List ℕ)
 sized = made (λ p. p.1) (λ bytes. length bytes < 2 ^ 32) (λ bytes. to_be_bytes w32 (length bytes) ++ bytes) (u32 ▷ run)
+
+-- ---- a name behind its length
+
+abbrev pub if_it : (ℕ → Bool) → ℕ → Option ℕ
+if_it test b = if test b then Some b else None
+
+-- a byte that passes a test
+abbrev pub byte_that : (ℕ → Bool) → Format ℕ
+byte_that test = symbol (λ b. b) (if_it test)
+
+abbrev pub is_name_len : ℕ → Bool
+is_name_len n = nat_le 1 n && nat_le n 64
+
+abbrev pub AreLetters : ℕ → List ℕ → Type 0
+AreLetters n bytes = (length bytes ≡ n) × IsTrue (begins_with_letter bytes) × IsTrue (list_all is_name_byte bytes)
+
+-- a letter, and then letters, digits and `_`: n bytes
+abbrev pub letters : ℕ → Format (List ℕ)
+letters n = made first_of (AreLetters n) (λ bytes. bytes) (byte_that is_ascii_lowercase ⊗ times (n - 1) (byte_that is_name_byte))
+
+abbrev pub isnt_reserved : List ℕ → Bool
+isnt_reserved bytes = not (is_reserved bytes)
+
+abbrev pub name_spelling : List ℕ → List ℕ
+name_spelling name = length name ∷ name
+
+-- the length in a byte, and then the name: reading stops where no name of this length goes on
+abbrev pub name : Format (List ℕ)
+name = made (λ p. p.1) IsName name_spelling (byte_that is_name_len ▷ λ n. passing isnt_reserved (letters n))
 
 -- ---- a text of at most 1,000 bytes behind its length
 

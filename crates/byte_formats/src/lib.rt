@@ -6,6 +6,7 @@
 pub mod between;
 pub mod items;
 pub mod literal;
+pub mod name;
 pub mod put;
 pub mod read;
 pub mod text;
@@ -14,7 +15,10 @@ pub mod unread;
 pub use between::{u32_between, u64_between, u128_between};
 pub use items::items_at;
 pub use literal::after_literal;
-pub use put::{put_byte, put_flag, put_i64, put_text, put_u32, put_u64, put_u128};
-pub use read::{byte_at, flag_at, i64_at, u32_at, u64_at};
+pub use name::name_at;
+pub use put::{
+    put_byte, put_digest, put_flag, put_i64, put_name, put_text, put_u32, put_u64, put_u128,
+};
+pub use read::{byte_at, digest_at, flag_at, i64_at, u32_at, u64_at};
 pub use text::text_at;
 pub use unread::Unread;

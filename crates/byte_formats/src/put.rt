@@ -1,10 +1,10 @@
 //! Fields at the end of the bytes.
 ghost use Rattle.std.specs.Prelude.{◌≡◌, ◌++◌, ◌∷◌, [], OnOk};
 ghost use Rattle.std.specs.Int.{w32, w64, w128, to_be_bytes};
-ghost use Rattle.byte_formats.specs.Format.{signed, text_spelling, byte_of_flag};
+ghost use Rattle.byte_formats.specs.Format.{signed, text_spelling, name_spelling, byte_of_flag};
 
 use byteorder::{BigEndian, ByteOrder};
-use rows_core::{Memory, Txt};
+use rows_core::{Digest, Memory, Name, Txt};
 
 pub fn put_byte(out: &mut Vec<u8>, byte: u8) -> Result<(), Memory>
     ensures { OnOk result (out.new.items ≡ out.old.items ++ byte ∷ []) }
@@ -60,5 +60,22 @@ pub fn put_text(out: &mut Vec<u8>, text: &Txt) -> Result<(), Memory>
     let bytes = text.bytes();
     put_u32(out, bytes.len() as u32)?;
     out.extend_from_slice(bytes)?;
+    Ok(())
+}
+
+/// A name behind its length.
+pub fn put_name(out: &mut Vec<u8>, name: &Name) -> Result<(), Memory>
+    ensures { OnOk result (out.new.items ≡ out.old.items ++ name_spelling name.now) }
+{
+    let bytes = name.bytes();
+    put_byte(out, bytes.len() as u8)?;
+    out.extend_from_slice(bytes)?;
+    Ok(())
+}
+
+pub fn put_digest(out: &mut Vec<u8>, digest: &Digest) -> Result<(), Memory>
+    ensures { OnOk result (out.new.items ≡ out.old.items ++ digest.now.bytes) }
+{
+    out.extend_from_slice(&digest.bytes)?;
     Ok(())
 }

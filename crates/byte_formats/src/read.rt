@@ -1,9 +1,10 @@
 //! Fields at the front of the bytes, each with the bytes behind it.
 ghost use Rattle.std.specs.Prelude.{◌≡◌};
 ghost use Rattle.byte_formats.specs.Reading.{Gives};
-ghost use Rattle.byte_formats.specs.Format.{byte, flag, u32, u64, i64};
+ghost use Rattle.byte_formats.specs.Format.{byte, flag, u32, u64, i64, digest};
 
 use crate::unread::Unread;
+use rows_core::Digest;
 
 pub fn byte_at(bytes: &[u8]) -> Result<(u8, &[u8]), Unread>
     ensures { Gives (λ x. (x.0, x.1.now)) result (byte.read bytes.now) }
@@ -48,4 +49,14 @@ pub fn i64_at(bytes: &[u8]) -> Result<(i64, &[u8]), Unread>
 {
     let (bits, rest) = u64_at(bytes)?;
     Ok((bits.cast_signed(), rest))
+}
+
+/// A digest of 32 bytes.
+pub fn digest_at(bytes: &[u8]) -> Result<(Digest, &[u8]), Unread>
+    ensures { Gives (λ x. (x.0, x.1.now)) result (digest.read bytes.now) }
+{
+    let Some((front, rest)) = bytes.split_first_chunk::<32>() else {
+        return Err(Unread::Left(0));
+    };
+    Ok((Digest { bytes: *front }, rest))
 }

@@ -28,8 +28,6 @@ pub fn decode(alloc: Global, bytes: &[u8], shape: &Shape) -> Result<Kept, BlobRe
     // What is spelled so is read, unless memory runs out.
     ensures only { (kept : Kept) → IsKept shape.now kept → bytes.now ≡ kept_spelling kept
         → MatchResult result (λ found. found ≡ kept) (λ e. e ≡ BlobRefusal.Memory) }
-    // Which value it is, or at which place reading stops.
-    ensures exact { Reads result (kept_at shape.now bytes.now) (length bytes.now) }
     // A spelling has the bytes up to the place, and none has the byte there too.
     ensures place { IfErr result (λ e. IsPlace shape.now bytes.now e) }
 {

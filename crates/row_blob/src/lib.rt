@@ -19,6 +19,3 @@ pub use kept::{Acc, GroupRow, Kept, TaggedRow};
 pub use length::encoded_len;
 pub use refusal::BlobRefusal;
 pub use shape::{AccKind, Shape};
-
-#[cfg(test)]
-mod tests;

@@ -1,6 +1,6 @@
 //! A second reader, slow and plain: byte by byte it asks whether a spelling can go on so.
 
-use crate::{AccKind, Shape};
+use row_blob::{AccKind, Shape};
 use rows_core::{Kind, Memory};
 use std::alloc::Global;
 
