@@ -69,9 +69,10 @@ impl<'a, R: AllocGlobal + Files<File = File>> Folder<'a, R> {
         }
     }
 
-    /// Writes the bytes at `at`, and makes the file where it isn't there.
+    /// Writes the bytes at `at`, and makes the file where it isn't there. No bytes make a shorter file that long too.
     pub fn write(&mut self, number: u64, at: u64, bytes: &[u8]) -> io::Result<()> {
         match self.place(number, true)? {
+            Some(place) if bytes.is_empty() => lengthen_shorter(&self.open[place].file, at),
             Some(place) => self.open[place].file.write_all_at(bytes, at),
             None => Err(io::Error::from(ErrorKind::NotFound)),
         }
@@ -188,6 +189,14 @@ fn read_full_at(file: &File, at: u64, buf: &mut [u8]) -> io::Result<usize>
         }
     }
     Ok(count)
+}
+
+// The system's write of no bytes leaves a file's length.
+fn lengthen_shorter(file: &File, len: u64) -> io::Result<()> {
+    if file.metadata()?.len() < len {
+        file.set_len(len)?;
+    }
+    Ok(())
 }
 
 fn cut_longer(file: &File, len: u64) -> io::Result<()> {

@@ -326,6 +326,9 @@ fn folder_is_made_and_its_files_are_read_back(rt: HostRuntime) -> Result<(), Fai
     assert_eq!(rt; again.read(7, 0, &mut buf)?, 7);
     assert_eq!(rt; buf, *b"\0\0bytes\x01\x01");
     assert_eq!(rt; again.next_file(0)?, Some(7));
+    again.write(7, 9, b"")?;
+    again.write(7, 1, b"")?;
+    assert_eq!(rt; again.size(7)?, 9);
     again.cut(7, 3)?;
     assert_eq!(rt; again.size(7)?, 3);
     again.remove(7)?;
