@@ -22,9 +22,9 @@ use Rattle.plan_core.specs.PlanTyping.{Kinds, plan_kinds, filter_kinds, project_
 use Rattle.plan_core.specs.Project.{project_rows}
 use Rattle.plan_core.specs.StableOrder.{order_rows}
 use Rattle.plan_core.specs.TypedRows.{HaveKinds, AreOfStreams}
-use Rattle.plan_evaluator.proofs.Answers.{both_ok, both_some, tested, otherwise}
-use Rattle.plan_evaluator.proofs.Insertion.{permutes}
-use Rattle.plan_evaluator.proofs.TypedOperators.{filter_typed, filter_same_kinds, project_typed, distinct_typed, groups_typed, join_typed, join_kinds_are, concat_kinds_are}
+use Rattle.plan_laws.proofs.Answers.{both_ok, both_some, tested, otherwise}
+use Rattle.plan_laws.proofs.Insertion.{permutes}
+use Rattle.plan_laws.proofs.TypedOperators.{filter_typed, filter_same_kinds, project_typed, distinct_typed, groups_typed, join_typed, join_kinds_are, concat_kinds_are}
 
 -- the lists of the left part's leaves, and those of the right part's
 pub lists_of_parts : (schemas : List Kinds) (left right : List ℕ) (lists : List Rows) → AreOfStreams schemas (left ++ right) lists

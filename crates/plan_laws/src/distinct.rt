@@ -1,7 +1,8 @@
 //! The first of equal rows.
 ghost use Rattle.std.specs.Prelude.{◌≡◌, ◌≢◌, ◌↔◌, true, [], ◌∷◌, ◌++◌, if◌then◌else◌, Contains, AllPairs};
 ghost use Rattle.std.specs.List.{list_any};
-ghost use Rattle.plan_core.specs.Columns.{Row, Rows, row_eq};
+ghost use Rattle.rows_core.specs.Value.{row_eq};
+ghost use Rattle.plan_core.specs.Columns.{Row, Rows};
 ghost use Rattle.plan_core.specs.Distinct.{distinct_rows};
 
 /// The first of equal rows differ from each other, are the rows that the given ones have, and stand in the order in which

@@ -1,5 +1,5 @@
-use Rattle.plan_evaluator.proofs.Insertion.{ordered, only}
-use Rattle.plan_evaluator.proofs.order.one_stable_order.Goals as goal
+use Rattle.plan_laws.proofs.Insertion.{ordered, only}
+use Rattle.plan_laws.proofs.order.one_stable_order.Goals as goal
 
 pub returns-clause-ordered : goal.returns-clause-ordered
 returns-clause-ordered c = λ keys. ordered keys (c.total_order.ensures keys)

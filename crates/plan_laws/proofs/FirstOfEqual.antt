@@ -1,26 +1,13 @@
 -- The first of equal rows.
 use Rattle.std.proofs.Common.{◌≡◌, ◌≢◌, refl, sym, ap, ◌∙◌, subst, ◌⊎◌, inl, inr, Bool, true, false, true≢false, cond, not, ◌||◌, [], ◌∷◌, ◌++◌, arith}
-use Rattle.std.specs.Bool.{Decides}
 use Rattle.std.specs.List.{filter, list_any, Contains, AllPairs}
-use Rattle.std.specs.Cmp.Lexicographic.{pointwise_decides, bytes_decides}
-use Rattle.std.proofs.lemmas.Bool.{false≢true}
-use Rattle.std.proofs.lemmas.Bool.Decides.{Decides-int_eq, Decides-like}
 use Rattle.std.proofs.lemmas.List.Elements.{filter-append, filter_passes}
 use Rattle.std.proofs.lemmas.List.Kept.{AllPairs-cons, AllPairs-filter}
-use Rattle.rows_core.specs.declared.value.Value.{Value}
-use Rattle.rows_core.specs.declared.value.Value.TheVariants.{Int, Text}
-use Rattle.plan_core.specs.Columns.{Row, Rows, value_eq, row_eq}
+use Rattle.rows_core.specs.Equality.{row_eq-Decides}
+use Rattle.rows_core.specs.Value.{row_eq}
+use Rattle.plan_core.specs.Columns.{Row, Rows}
 use Rattle.plan_core.specs.Distinct.{distinct_rows}
-use Rattle.plan_evaluator.proofs.Members.{at_front, behind, front_or_behind, kept, was_there}
-
-pub value_eq-Decides : (a b : Value) → Decides (value_eq a b) (a ≡ b)
-value_eq-Decides (Int a) (Int b) = Decides-like _ (λ e. ap Int e) (λ e. cc) (Decides-int_eq a b)
-value_eq-Decides (Int a) (Text t) = (λ e. absurd (false≢true e), λ e. cc)
-value_eq-Decides (Text s) (Int b) = (λ e. absurd (false≢true e), λ e. cc)
-value_eq-Decides (Text s) (Text t) = Decides-like _ (λ e. ap Text e) (λ e. cc) (bytes_decides s t)
-
-pub row_eq-Decides : (a b : Row) → Decides (row_eq a b) (a ≡ b)
-row_eq-Decides a b = pointwise_decides value_eq-Decides a b
+use Rattle.plan_laws.proofs.Members.{at_front, behind, front_or_behind, kept, was_there}
 
 equal : (a b : Row) → row_eq a b ≡ true → a ≡ b
 equal a b h = (row_eq-Decides a b).0 h

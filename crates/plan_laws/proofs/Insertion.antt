@@ -11,7 +11,7 @@ use Rattle.rows_core.specs.declared.order.Key.{Key}
 use Rattle.rows_core.specs.RowOrder.{row_cmp}
 use Rattle.plan_core.specs.Columns.{Row, Rows}
 use Rattle.plan_core.specs.StableOrder.{IsOrderedBy, insert_row, order_rows}
-use Rattle.plan_evaluator.proofs.StableLists.{Ascends, NoneBelow, ascends_from_sorted, sorted_from_ascends, one_list}
+use Rattle.plan_laws.proofs.StableLists.{Ascends, NoneBelow, ascends_from_sorted, sorted_from_ascends, one_list}
 
 abbrev pub below : List Key → Row → Row → Bool
 below keys a b = is_lt (row_cmp keys a b)

@@ -21,7 +21,7 @@ use Rattle.scalar_ops.specs.declared.table.TheConstants.{OPS}
 use Rattle.scalar_ops.specs.Cells.{kind_of_cell}
 use Rattle.scalar_ops.specs.Table.{kinds_of_args}
 use Rattle.scalar_ops.specs.Meaning.{Exact, Whole, Truth, exact_value, fits_i64, overflow, cell_of, exact_cell, row_at, op_at, overflows_at, meaning}
-use Rattle.scalar_ops.specs.RowLaws.{same_cell_kind-Decides, list_all-get}
+use Rattle.scalar_ops.proofs.RowLaws.{same_cell_kind-Decides, list_all-get}
 use Rattle.plan_core.specs.PlainExpr.{Column, Literal, Call1, Call2, And, Or, If}
 use Rattle.plan_core.specs.Columns.{no_value}
 use Rattle.plan_core.specs.ExpressionValue.{◌>>=◌, expression_value, cell_of_value, is_true}

@@ -1,5 +1,6 @@
-use Rattle.plan_evaluator.proofs.FirstOfEqual.{differ, has_all, has_no_more, one_more, row_eq-Decides}
-use Rattle.plan_evaluator.proofs.distinct.first_of_equal_rows.Goals as goal
+use Rattle.plan_laws.proofs.FirstOfEqual.{differ, has_all, has_no_more, one_more}
+use Rattle.rows_core.specs.Equality.{row_eq-Decides}
+use Rattle.plan_laws.proofs.distinct.first_of_equal_rows.Goals as goal
 
 pub returns-clause-differ : goal.returns-clause-differ
 returns-clause-differ c = differ

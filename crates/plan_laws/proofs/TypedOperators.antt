@@ -1,5 +1,5 @@
 -- Each operator gives rows of its kinds where it takes in rows of theirs.
-use Rattle.std.proofs.Common.{zero, suc, ◌≡◌, refl, sym, ap, ◌∙◌, subst, ℕ, ◌-◌, ℤ, pos, Bool, true, false, cond, List, [], ◌∷◌, ◌++◌, map, length, get_or, Result, Ok, Err, Option, None, Some, arith}
+use Rattle.std.proofs.Common.{zero, suc, ◌≡◌, ◌||◌, refl, sym, ap, ◌∙◌, subst, ℕ, ◌-◌, ℤ, pos, Bool, true, false, cond, List, [], ◌∷◌, ◌++◌, map, length, get_or, Result, Ok, Err, Option, None, Some, arith}
 use Rattle.std.specs.Bool.{Decides}
 use Rattle.std.specs.Cmp.Lexicographic.{pointwise, pointwise_decides}
 use Rattle.std.specs.List.{AllByRecursion, Contains, filter, list_all, list_any, slice_get}
@@ -25,7 +25,8 @@ use Rattle.scalar_ops.specs.Meaning.{fits_i64, overflow}
 use Rattle.plan_core.specs.declared.agg.Agg.{Agg}
 use Rattle.plan_core.specs.declared.agg.Agg.TheVariants as agg
 use Rattle.plan_core.specs.Aggregate.{aggregate_value, values_of, whole_value, exact_sum, least_value, greatest_value, first_value, last_value}
-use Rattle.plan_core.specs.Columns.{Row, Rows, column_of, columns_of, no_value, row_eq}
+use Rattle.rows_core.specs.Value.{row_eq}
+use Rattle.plan_core.specs.Columns.{Row, Rows, column_of, columns_of, no_value}
 use Rattle.plan_core.specs.Distinct.{distinct_rows}
 use Rattle.plan_core.specs.ExpressionKind.{expression_kind}
 use Rattle.plan_core.specs.ExpressionValue.{all_of, expression_value, value_of_cell}
@@ -36,10 +37,11 @@ use Rattle.plan_core.specs.PlainExpr.{PlainExpr}
 use Rattle.plan_core.specs.PlanTyping.{Kinds, same_kind, is_empty, all_there, column_kind, is_truth, filter_kinds, project_kinds, number_kind, agg_kind, group_kinds, pair_agrees, join_kinds, concat_kinds}
 use Rattle.plan_core.specs.Project.{column_value, project_row, project_rows}
 use Rattle.plan_core.specs.TypedRows.{HaveKinds}
-use Rattle.plan_core.specs.ValueKinds.{typed_value}
-use Rattle.plan_evaluator.proofs.Answers.{both_ok, both_some, tested, otherwise, there_front, each_of, zipped}
-use Rattle.plan_evaluator.proofs.FirstOfEqual.{has_no_more, row_eq-Decides}
-use Rattle.plan_evaluator.proofs.Members.{kept, mapped_from}
+use Rattle.plan_core.proofs.ValueKinds.{typed_value}
+use Rattle.plan_laws.proofs.Answers.{both_ok, both_some, tested, otherwise, there_front, each_of, zipped}
+use Rattle.plan_laws.proofs.FirstOfEqual.{has_no_more}
+use Rattle.rows_core.specs.Equality.{row_eq-Decides}
+use Rattle.plan_laws.proofs.Members.{kept, mapped_from}
 
 abbrev HasKinds : Kinds → Row → Type 0
 HasKinds kinds row = map kind_of row ≡ kinds
@@ -169,7 +171,7 @@ group_typed keys aggs kinds key_kinds agg_kinds rows key out typed keys_there ag
 pub groups_typed : (keys : List ℕ) (aggs : List Agg) (kinds out_kinds : Kinds) (rows out : Rows) → HaveKinds kinds rows
     → group_kinds keys aggs kinds ≡ Some out_kinds → group_rows keys aggs rows ≡ Ok out → HaveKinds out_kinds out
 groups_typed keys aggs kinds out_kinds rows out typed there is =
-    let both = both_some (λ key_kinds agg_kinds. Some (key_kinds ++ agg_kinds)) (all_there (map (slice_get kinds) keys)) (all_there (map (agg_kind kinds) aggs)) out_kinds (otherwise (is_empty keys) _ out_kinds there) in
+    let both = both_some (λ key_kinds agg_kinds. Some (key_kinds ++ agg_kinds)) (all_there (map (slice_get kinds) keys)) (all_there (map (agg_kind kinds) aggs)) out_kinds (otherwise (is_empty keys || is_empty aggs) _ out_kinds there) in
     let kinds_are : both.0 ++ both.1 ≡ out_kinds = let h = both.4 in cc in
     All-from_recursion (HasKinds out_kinds) out
     (each_of (group_row keys aggs rows) (Contains (keys_of keys rows)) (HasKinds out_kinds)

@@ -1,8 +1,10 @@
 use Rattle.std.proofs.Common.{sym, map}
-use Rattle.plan_core.specs.Columns.{columns_of, row_eq}
-use Rattle.plan_evaluator.proofs.FirstOfEqual.{differ, has_all, has_no_more, row_eq-Decides}
-use Rattle.plan_evaluator.proofs.Members.{kept, was_there, mapped, mapped_from}
-use Rattle.plan_evaluator.proofs.groups.keys_of_groups.Goals as goal
+use Rattle.rows_core.specs.Value.{row_eq}
+use Rattle.plan_core.specs.Columns.{columns_of}
+use Rattle.plan_laws.proofs.FirstOfEqual.{differ, has_all, has_no_more}
+use Rattle.rows_core.specs.Equality.{row_eq-Decides}
+use Rattle.plan_laws.proofs.Members.{kept, was_there, mapped, mapped_from}
+use Rattle.plan_laws.proofs.groups.keys_of_groups.Goals as goal
 
 pub returns-clause-differ : goal.returns-clause-differ
 returns-clause-differ c = λ keys rows. differ (map (columns_of keys) rows)

@@ -15,7 +15,7 @@ use Rattle.plan_core.specs.Group.{keys_of, members_of, group_row, group_rows}
 use Rattle.plan_core.specs.Join.{rows_agree, join_rows}
 use Rattle.plan_core.specs.PlainPlan.{PlainPlan, Scan, Filter, Project, Distinct, Group, Join, Concat, Order, leaf_count}
 use Rattle.plan_core.specs.PlanMeaning.{plan_meaning}
-use Rattle.plan_evaluator.specs.KeptForm.{acc_of, kept_group, tagged_from, kept_form, value_of_acc, row_of_group, rows_of_kept}
+use Rattle.plan_laws.specs.KeptForm.{acc_of, kept_group, tagged_from, kept_form, value_of_acc, row_of_group, rows_of_kept}
 
 value_kept : (rows : Rows) (a : Agg) → value_of_acc (acc_of rows a) ≡ aggregate_value a rows
 value_kept rows agg.Count = refl
