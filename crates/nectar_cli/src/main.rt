@@ -3,6 +3,8 @@
 
 mod folder;
 mod folder_store;
+#[cfg(test)]
+mod folder_tests;
 mod report;
 #[cfg(test)]
 mod tests;
