@@ -5,9 +5,9 @@ ghost use Rattle.std.specs.Prelude.{◌≡◌, map, drop, string_bytes, IfOk};
 
 mod folder;
 mod folder_store;
-mod report;
 #[cfg(test)]
-mod tests;
+mod folder_tests;
+mod report;
 
 use crate::folder_store::FolderStore;
 use crate::report::{message, status};
