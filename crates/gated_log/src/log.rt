@@ -1,11 +1,11 @@
 //! Logs in a store.
-ghost use Rattle.std.specs.Prelude.{◌≡◌, ℕ, ◌+◌, ◌^◌, ◌<◌, ◌≤◌, List, [], ◌∷◌, ◌++◌, ◌⊎◌, length, take, IsTrue, IfOk, IsErrOf, OnOk, OnErr};
+ghost use Rattle.std.specs.Prelude.{◌≡◌, ℕ, ◌+◌, ◌^◌, ◌<◌, ◌≤◌, List, [], ◌∷◌, ◌++◌, ◌⊎◌, length, take, drop, IsTrue, IfOk, IsErrOf, OnOk, OnErr};
 ghost use Rattle.std.specs.List.{All};
 ghost use Rattle.outside_traits.specs.Counts.{Rose};
 ghost use Rattle.outside_traits.specs.View.{Now, Only};
 ghost use Rattle.outside_traits.specs.Calls.{CountsTaken, MayRaiseWrites, Rises};
 ghost use Rattle.outside_traits.specs.Runs.{Touches, ChangesOnly, Narrows};
-ghost use Rattle.gated_log.specs.Logs.{front, length_bytes, contents, IsBody, Reads, StopsAt};
+ghost use Rattle.gated_log.specs.Logs.{front, sealed, length_bytes, contents, IsBody, Reads, StopsAt};
 
 use crate::reading::{Parsed, length_of_front, parse};
 use crate::refusal::LogRefusal;
@@ -31,11 +31,14 @@ pub struct Log {
 impl Log {
     ghost use Rattle.gated_log.specs.Stands.{file_of, end_of, Stands, IsBeforeOrAfter, IsStaged};
 
-    /// Makes an empty log of the file: it is cut to nothing and made stable, and then written and made stable.
+    /// Makes an empty log of the file: it is cut to nothing and made stable, and then written and made stable. After `Ok`
+    /// the file is the header and one closed gate.
     pub fn create<D: Store>(store: &mut D, file: u64) -> Result<Log, Failed>
         ensures file { IfOk result (λ log. file_of log ≡ file) }
         ensures end { IfOk result (λ log. end_of log ≡ 9) }
         ensures made { IsTrue D.tells → IfOk result (λ log. Stands (D.view store.new) log []) }
+        ensures bytes { IsTrue D.tells → OnOk result ((D.view store.new).files file ≡ sealed [] []) }
+        ensures stable { IsTrue D.tells → OnOk result (Only (sealed [] []) (Now (D.view store.new) file)) }
         // A file that was short stays short, also where the call fails.
         ensures crash { (n : ℕ) → 9 ≤ n → ((x : List ℕ) → Now (D.view store.old) file x → length x ≤ n) → Touches file (λ x. length x ≤ n) (D.view store.old) (D.view store.new) }
         ensures alone { ChangesOnly file (D.view store.old) (D.view store.new) }
@@ -100,7 +103,7 @@ impl Log {
     fn stage<D: Store>(&self, store: &mut D, body: &[u8]) -> Result<(), Failed>
         requires size { IsBody body.now }
         requires room { end_of self.now + length body.now + 5 < 2 ^ 64 }
-        ensures staged { IsTrue D.tells → (bodies : List (List ℕ)) → Stands (D.view store.old) self.now bodies → OnOk result ((x : List ℕ) → Now (D.view store.new) (file_of self.now) x → IsStaged bodies body.now x) }
+        ensures staged { IsTrue D.tells → (bodies : List (List ℕ)) → Stands (D.view store.old) self.now bodies → OnOk result ((x : List ℕ) → Now (D.view store.new) (file_of self.now) x → IsStaged bodies body.now (drop (end_of self.now + length body.now + 5) ((D.view store.old).files (file_of self.now))) x) }
         ensures crash { (bodies : List (List ℕ)) → Stands (D.view store.old) self.now bodies → Touches (file_of self.now) (Reads bodies) (D.view store.old) (D.view store.new) }
         ensures alone { ChangesOnly (file_of self.now) (D.view store.old) (D.view store.new) }
         ensures cause { OnErr result (Rose (D.counts store.old).writes (D.counts store.new).writes) }
@@ -117,8 +120,8 @@ impl Log {
 
     // Opens the last gate, and makes that stable.
     fn open_gate<D: Store>(&self, store: &mut D) -> Result<(), Failed>
-        ensures opened { IsTrue D.tells → (bodies : List (List ℕ)) (body : List ℕ) → end_of self.now ≡ length (front bodies) + 1 → ((x : List ℕ) → Now (D.view store.old) (file_of self.now) x → IsStaged bodies body x) → OnOk result ((x : List ℕ) → Now (D.view store.new) (file_of self.now) x → Reads (bodies ++ body ∷ []) x) }
-        ensures crash { (bodies : List (List ℕ)) (body : List ℕ) → end_of self.now ≡ length (front bodies) + 1 → ((x : List ℕ) → Now (D.view store.old) (file_of self.now) x → IsStaged bodies body x) → Touches (file_of self.now) (IsBeforeOrAfter bodies body) (D.view store.old) (D.view store.new) }
+        ensures opened { IsTrue D.tells → (bodies : List (List ℕ)) (body rest : List ℕ) → end_of self.now ≡ length (front bodies) + 1 → ((x : List ℕ) → Now (D.view store.old) (file_of self.now) x → IsStaged bodies body rest x) → OnOk result (Only (sealed (bodies ++ body ∷ []) rest) (Now (D.view store.new) (file_of self.now))) }
+        ensures crash { (bodies : List (List ℕ)) (body rest : List ℕ) → end_of self.now ≡ length (front bodies) + 1 → ((x : List ℕ) → Now (D.view store.old) (file_of self.now) x → IsStaged bodies body rest x) → Touches (file_of self.now) (IsBeforeOrAfter bodies body) (D.view store.old) (D.view store.new) }
         ensures alone { ChangesOnly (file_of self.now) (D.view store.old) (D.view store.new) }
         ensures cause { OnErr result (Rose (D.counts store.old).writes (D.counts store.new).writes) }
         ensures no_fault { OnOk result ((D.counts store.new).writes ≡ (D.counts store.old).writes) }
@@ -137,6 +140,9 @@ impl Log {
         ensures file { IfOk result (λ log. file_of log ≡ file_of self) }
         ensures end { IfOk result (λ log. end_of log ≡ end_of self + length body.now + 5) }
         ensures committed { IsTrue D.tells → (bodies : List (List ℕ)) → Stands (D.view store.old) self bodies → IfOk result (λ log. Stands (D.view store.new) log (bodies ++ body.now ∷ [])) }
+        // The bodies, the new one, a closed gate 0, and what stood behind; a crash leaves these bytes too.
+        ensures bytes { IsTrue D.tells → (bodies : List (List ℕ)) → Stands (D.view store.old) self bodies → OnOk result ((D.view store.new).files (file_of self) ≡ sealed (bodies ++ body.now ∷ []) (drop (end_of self + length body.now + 5) ((D.view store.old).files (file_of self)))) }
+        ensures stable { IsTrue D.tells → (bodies : List (List ℕ)) → Stands (D.view store.old) self bodies → OnOk result (Only ((D.view store.new).files (file_of self)) (Now (D.view store.new) (file_of self))) }
         ensures crash { IsTrue D.tells → (bodies : List (List ℕ)) → Stands (D.view store.old) self bodies → Touches (file_of self) (IsBeforeOrAfter bodies body.now) (D.view store.old) (D.view store.new) }
         ensures alone { ChangesOnly (file_of self) (D.view store.old) (D.view store.new) }
         ensures cause { OnErr result (Rose (D.counts store.old).writes (D.counts store.new).writes) }
