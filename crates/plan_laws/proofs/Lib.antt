@@ -1,6 +1,8 @@
 pub mod Answers
 pub mod FirstOfEqual
 pub mod Insertion
+pub mod KeptBounds
+pub mod KeptParts
 pub mod KeptRows
 pub mod Members
 pub mod StableLists

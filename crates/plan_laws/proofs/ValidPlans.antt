@@ -62,7 +62,7 @@ module _ {X : Type 0} (P : X → Type 0) where
   all-true each [] = tt
   all-true each (x ∷ xs) = (each x, all-true each xs)
 
-filter_shorter : {X : Type 0} (p : X → Bool) (xs : List X) → length (filter p xs) ≤ length xs
+pub filter_shorter : {X : Type 0} (p : X → Bool) (xs : List X) → length (filter p xs) ≤ length xs
 filter_shorter p [] = omega arith
 filter_shorter p (x ∷ xs) = go (p x) (filter_shorter p xs)
   where
@@ -150,7 +150,7 @@ pub inputs_below : (left right : PlainPlan) (lefts rights : List Rows) (bound : 
     → IsBelow left lefts bound × IsBelow right rights bound
 inputs_below left right lefts rights bound below = (record { time = omega arith; given = omega arith }, record { time = omega arith; given = omega arith })
 
-count_of : (r : Result Rows Overflow) (rows : Rows) (bound : ℕ) → r ≡ Ok rows → row_count r < bound → length rows < bound
+pub count_of : (r : Result Rows Overflow) (rows : Rows) (bound : ℕ) → r ≡ Ok rows → row_count r < bound → length rows < bound
 count_of r rows bound is below = subst (λ (x : Result Rows Overflow). row_count x < bound) is below
 
 module _ (cells_are : GivesCells) (schemas : List Kinds) where

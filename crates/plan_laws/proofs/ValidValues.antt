@@ -230,7 +230,7 @@ members_valid rows few = record { sfits = omega arith }
 ok_value : (x v : Value) → IsValid x → ◌≡◌ {A = Result Value Overflow} (Ok x) (Ok v) → IsValid v
 ok_value x v valid is = let same : x ≡ v = cc in subst IsValid same valid
 
-length-values_of : (column : ℕ) (rows : Rows) → length (values_of column rows) ≡ length rows
+pub length-values_of : (column : ℕ) (rows : Rows) → length (values_of column rows) ≡ length rows
 length-values_of column rows = length-map rows (λ row. column_of row column)
 
 pub aggregate_valid : (rows : Rows) → AreValidRows rows → length rows < 2 ^ 63 → (a : Agg) (v : Value) → aggregate_value a rows ≡ Ok v → IsValid v

@@ -1,12 +1,17 @@
--- Worked kept forms: the definition computes them.
-use Rattle.std.specs.Prelude.{◌≡◌, refl, pos, [], ◌∷◌, Ok, codes}
+-- Worked kept forms and shapes: the definitions compute them.
+use Rattle.std.specs.Prelude.{◌≡◌, refl, pos, List, [], ◌∷◌, Ok, codes}
 use Rattle.rows_core.specs.declared.value.Value.TheVariants.{Int, Text}
+use Rattle.rows_core.specs.declared.kind.Kind.TheVariants as kind
 use Rattle.row_blob.specs.declared.kept.Acc.TheVariants as acc
 use Rattle.row_blob.specs.declared.kept.Kept.TheVariants as kept
+use Rattle.row_blob.specs.declared.shape.AccKind.TheVariants as acc_kind
+use Rattle.row_blob.specs.declared.shape.Shape.TheVariants as shape
 use Rattle.plan_core.specs.declared.agg.Agg.TheVariants.{Count, Sum, Max, Avg}
 use Rattle.plan_core.specs.Columns.{Rows}
-use Rattle.plan_core.specs.PlainPlan.{Scan, Group, Join}
+use Rattle.plan_core.specs.PlainPlan.{Scan, Distinct, Group, Join}
+use Rattle.plan_core.specs.PlanTyping.{Kinds}
 use Rattle.plan_laws.specs.KeptForm.{kept_form}
+use Rattle.plan_laws.specs.PlanShape.{plan_shape}
 
 abbrev pub orders : Rows
 orders =
@@ -35,3 +40,19 @@ pub kept_join :
     ∷ record { left = 0; row = Int (pos 1) ∷ Int (pos 1) ∷ Int (pos 11) ∷ [] }
     ∷ record { left = 2; row = Int (pos 2) ∷ Int (pos 2) ∷ Int (pos 20) ∷ [] } ∷ []))
 kept_join = refl
+
+-- ---- shapes
+
+abbrev streams : List Kinds
+streams = (kind.Text ∷ kind.Int ∷ []) ∷ (kind.Int ∷ []) ∷ []
+
+pub groups_shape :
+    plan_shape streams (Group (Scan 0) (0 ∷ []) (Count ∷ Sum 1 ∷ Max 0 ∷ Avg 1 ∷ []))
+    ≡ shape.Groups (kind.Text ∷ []) (acc_kind.Count ∷ acc_kind.Sum ∷ acc_kind.Pick kind.Text ∷ acc_kind.Avg ∷ [])
+groups_shape = refl
+
+pub join_shape : plan_shape streams (Join (Scan 0) (Scan 1) ((1, 0) ∷ [])) ≡ shape.Tagged (kind.Text ∷ kind.Int ∷ kind.Int ∷ [])
+join_shape = refl
+
+pub rows_shape : plan_shape streams (Distinct (Scan 0)) ≡ shape.Rows (kind.Text ∷ kind.Int ∷ [])
+rows_shape = refl

@@ -1,3 +1,4 @@
 pub mod Examples
 pub mod KeptForm
+pub mod PlanShape
 pub mod ValidRows

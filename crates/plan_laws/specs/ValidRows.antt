@@ -1,5 +1,5 @@
 -- Values, rows and lists of rows that a program holds and a file keeps: numbers in i64 and texts of at most 1,000 bytes.
-use Rattle.std.specs.Prelude.{List, FitsSigned}
+use Rattle.std.specs.Prelude.{List, length, ◌<◌, ◌^◌, FitsSigned}
 use Rattle.std.specs.Int.{w64}
 use Rattle.std.specs.List.{AllByRecursion}
 use Rattle.rows_core.specs.declared.value.Value.{Value}
@@ -19,3 +19,7 @@ AreValidRows = AllByRecursion IsValidRow
 
 abbrev pub AreValidLists : List Rows → Type 0
 AreValidLists = AllByRecursion AreValidRows
+
+-- lists that memory can hold
+abbrev pub AreShortLists : List Rows → Type 0
+AreShortLists = AllByRecursion (λ rows. length rows < 2 ^ 64)

@@ -11,7 +11,7 @@ pub mod valid;
 
 pub use distinct::first_of_equal_rows;
 pub use groups::keys_of_groups;
-pub use kept::rows_of_kept_forms;
+pub use kept::{kept_forms_have_their_shape, rows_of_kept_forms};
 pub use order::one_stable_order;
 pub use typed::typed_plans_give_typed_rows;
 pub use valid::typed_plans_give_valid_rows;
