@@ -1,11 +1,10 @@
 -- What is kept of a typed plan's result is a kept form of the plan's shape, within the bounds of a file.
-use Rattle.std.proofs.Common.{zero, suc, ◌≡◌, ◌||◌, refl, sym, ap, ◌∙◌, subst, ℕ, ◌+◌, ◌*◌, ◌^◌, ◌<◌, ◌≤◌, Bool, true, false, not, cond, List, [], ◌∷◌, ◌++◌, map, length, take, drop, Result, Ok, Err, Option, None, Some, unwrap_or, IfOk, arith}
+use Rattle.std.proofs.Common.{suc, ◌≡◌, ◌||◌, refl, sym, ap, ◌∙◌, subst, ℕ, ◌^◌, ◌<◌, ◌≤◌, Bool, true, false, not, cond, List, [], ◌∷◌, ◌++◌, map, length, take, drop, Result, Ok, Err, Some, unwrap_or, IfOk, arith}
 use Rattle.std.specs.Cmp.{IsTotalOrder}
 use Rattle.std.specs.List.{AllByRecursion, filter, list_any, slice_get, Contains}
 use Rattle.std.specs.Ordering.{is_le}
 use Rattle.std.proofs.lemmas.List.{length-append, length-map}
 use Rattle.std.proofs.lemmas.List.Elements.{All-from_recursion, recursion_from_All, All-contains, All-contains_itself}
-use Rattle.rows_core.specs.declared.kind.Kind.TheVariants as kind
 use Rattle.rows_core.specs.declared.order.Key.{Key}
 use Rattle.rows_core.specs.declared.overflow.Overflow.{Overflow}
 use Rattle.rows_core.specs.RowOrder.{row_cmp}
@@ -14,7 +13,6 @@ use Rattle.rows_core.specs.Equality.{row_eq-Decides}
 use Rattle.scalar_ops.specs.Meaning.{overflow}
 use Rattle.row_blob.specs.declared.kept.Kept.{Kept}
 use Rattle.row_blob.specs.declared.kept.Kept.TheVariants as kept
-use Rattle.row_blob.specs.declared.shape.Shape.{Shape}
 use Rattle.row_blob.specs.declared.shape.Shape.TheVariants as shape
 use Rattle.row_blob.specs.Kept.{IsRow, AreEach, IsAcc, AreInOrder, IsKept}
 use Rattle.plan_core.specs.declared.agg.Agg.{Agg}
@@ -22,7 +20,7 @@ use Rattle.plan_core.specs.Columns.{Row, Rows, columns_of}
 use Rattle.plan_core.specs.Distinct.{distinct_rows}
 use Rattle.plan_core.specs.ExpressionValue.{◌>>=◌, all_of}
 use Rattle.plan_core.specs.Filter.{filter_rows, overflows, passes}
-use Rattle.plan_core.specs.Group.{keys_of, members_of}
+use Rattle.plan_core.specs.Group.{keys_of}
 use Rattle.plan_core.specs.Literals.{HasValidLiterals}
 use Rattle.plan_core.specs.MachineTime.{machine_time}
 use Rattle.plan_core.specs.PlainExpr.{PlainExpr}
@@ -87,9 +85,11 @@ after_two (Ok lefts) s f Q h = after_one s (f lefts) Q (λ rights e. h lefts rig
 after_two (Err o) s f Q h = tt
 
 rows_kept : (given kinds : Kinds) (rows : Rows) → given ≡ kinds → length rows < 2 ^ 64 → HaveKinds kinds rows → AreValidRows rows → IsKept (shape.Rows given) (kept.Rows rows)
-rows_kept given kinds rows same few typed valid =
-    (few, subst (λ (k : Kinds). AreInOrder (λ before. IsRow k) [] rows) (sym same)
-    (in_order (IsRow kinds) [] rows (rows_are kinds rows (recursion_from_All (HasKinds kinds) rows typed) valid)))
+rows_kept given kinds rows same few typed valid = (
+  few,
+  subst (λ (k : Kinds). AreInOrder (λ before. IsRow k) [] rows) (sym same)
+      (in_order (IsRow kinds) [] rows (rows_are kinds rows (recursion_from_All (HasKinds kinds) rows typed) valid)),
+)
 
 given_as : (schemas : List Kinds) (plan : PlainPlan) (kinds : Kinds) → plan_kinds schemas plan ≡ Some kinds → kinds_given schemas plan ≡ kinds
 given_as schemas plan kinds there = ap (λ o. unwrap_or o []) there
@@ -109,10 +109,11 @@ module _ (kinds : Kinds) (keys : List ℕ) (aggs : List Agg) (key_kinds agg_kind
       let key_valid = subst IsValidRow found.2 (columns_valid row keys row_valid) in
       let key_typed = ap (map kind_of) (sym found.2) ∙ keys_typed kinds row (All-contains (HasKinds kinds) rows row typed found.1) keys key_kinds keys_there in
       let same_kinds : map (kind_at kinds) keys ≡ key_kinds = kinds_there (slice_get kinds) keys key_kinds keys_there in
-      let fewer : length (filter p rows) ≤ 4294967295 = omega (arith, filter_shorter p rows) in
-      (subst (λ (k : Kinds). IsRow k key) (key_typed ∙ sym same_kinds) (row_is key key_valid),
-      accs_of_members (filter p rows) fewer row (kept_member p rows row found.1 ((row_eq-Decides key (columns_of keys row)).1 (sym found.2)))
-      (all-filter (HasKinds kinds) p rows (recursion_from_All (HasKinds kinds) rows typed)) (all-filter IsValidRow p rows valid))
+      let fewer : length (filter p rows) ≤ 4294967295 = omega (arith, filter_shorter p rows) in (
+        subst (λ (k : Kinds). IsRow k key) (key_typed ∙ sym same_kinds) (row_is key key_valid),
+        accs_of_members (filter p rows) fewer row (kept_member p rows row found.1 ((row_eq-Decides key (columns_of keys row)).1 (sym found.2)))
+            (all-filter (HasKinds kinds) p rows (recursion_from_All (HasKinds kinds) rows typed)) (all-filter IsValidRow p rows valid),
+      )
 
   all_groups : (ks : List Row) → AllByRecursion (Contains (keys_of keys rows)) ks
       → AllByRecursion (IsGroup (kept_group keys aggs rows) (λ key. refl) (map (kind_at kinds) keys) (map (acc_kind_of kinds) aggs)) ks
@@ -121,17 +122,19 @@ module _ (kinds : Kinds) (keys : List ℕ) (aggs : List Agg) (key_kinds agg_kind
 
   pub groups_kept : IsKept (shape.Groups (map (kind_at kinds) keys) (map (acc_kind_of kinds) aggs)) (kept.Groups (map (kept_group keys aggs rows) (keys_of keys rows)))
   groups_kept =
-      let all_keys = keys_of keys rows in
-      (omega (arith, length-map all_keys (kept_group keys aggs rows), distinct_fewer (map (columns_of keys) rows), length-map rows (columns_of keys)),
-      groups_in_order (kept_group keys aggs rows) (λ key. refl) (map (kind_at kinds) keys) (map (acc_kind_of kinds) aggs) [] all_keys (fresh_distinct (map (columns_of keys) rows))
-      (all_groups all_keys (recursion_from_All (Contains all_keys) all_keys (All-contains_itself all_keys))))
+      let all_keys = keys_of keys rows in (
+        omega (arith, length-map all_keys (kept_group keys aggs rows), distinct_fewer (map (columns_of keys) rows), length-map rows (columns_of keys)),
+        groups_in_order (kept_group keys aggs rows) (λ key. refl) (map (kind_at kinds) keys) (map (acc_kind_of kinds) aggs) [] all_keys (fresh_distinct (map (columns_of keys) rows))
+            (all_groups all_keys (recursion_from_All (Contains all_keys) all_keys (All-contains_itself all_keys))),
+      )
 
 pair_rows : (left_kinds right_kinds : Kinds) (left : Row) (rights : Rows) → HasKinds left_kinds left → IsValidRow left → AllByRecursion (HasKinds right_kinds) rights → AreValidRows rights
     → AllByRecursion (λ right. IsRow (left_kinds ++ right_kinds) (left ++ right)) rights
 pair_rows left_kinds right_kinds left [] typed valid r_typed r_valid = tt
-pair_rows left_kinds right_kinds left (right ∷ rights) typed valid r_typed r_valid =
-    (subst (λ (k : Kinds). IsRow k (left ++ right)) (pair_typed left_kinds right_kinds left right typed r_typed.0) (row_is (left ++ right) (all-append IsValid left right valid r_valid.0)),
-    pair_rows left_kinds right_kinds left rights typed valid r_typed.1 r_valid.1)
+pair_rows left_kinds right_kinds left (right ∷ rights) typed valid r_typed r_valid = (
+  subst (λ (k : Kinds). IsRow k (left ++ right)) (pair_typed left_kinds right_kinds left right typed r_typed.0) (row_is (left ++ right) (all-append IsValid left right valid r_valid.0)),
+  pair_rows left_kinds right_kinds left rights typed valid r_typed.1 r_valid.1,
+)
 
 all_pairs : (left_kinds right_kinds : Kinds) (lefts rights : Rows) → AllByRecursion (HasKinds left_kinds) lefts → AreValidRows lefts → AllByRecursion (HasKinds right_kinds) rights → AreValidRows rights
     → AllByRecursion (λ left. AllByRecursion (λ right. IsRow (left_kinds ++ right_kinds) (left ++ right)) rights) lefts
@@ -142,12 +145,13 @@ all_pairs left_kinds right_kinds (left ∷ lefts) rights l_typed l_valid r_typed
 join_kept : (on : List (ℕ × ℕ)) (left_kinds right_kinds : Kinds) (lefts rights : Rows) → length lefts < 4294967296 → length rights < 4294967296
     → HaveKinds left_kinds lefts → AreValidRows lefts → HaveKinds right_kinds rights → AreValidRows rights
     → IsKept (shape.Tagged (left_kinds ++ right_kinds)) (kept.Tagged (length lefts) (tagged_from 0 on lefts rights))
-join_kept on left_kinds right_kinds lefts rights l_few r_few l_typed l_valid r_typed r_valid =
-    (omega (arith, tagged_count (left_kinds ++ right_kinds) (length lefts) on rights 0 lefts, few_pairs (length lefts) (length rights) l_few r_few),
-    omega arith,
-    tagged_in_order (left_kinds ++ right_kinds) (length lefts) on rights 0 lefts (omega arith)
-    (all_pairs left_kinds right_kinds lefts rights (recursion_from_All (HasKinds left_kinds) lefts l_typed) l_valid (recursion_from_All (HasKinds right_kinds) rights r_typed) r_valid)
-    [] (omega arith))
+join_kept on left_kinds right_kinds lefts rights l_few r_few l_typed l_valid r_typed r_valid = (
+  omega (arith, tagged_count (left_kinds ++ right_kinds) (length lefts) on rights 0 lefts, few_pairs (length lefts) (length rights) l_few r_few),
+  omega arith,
+  tagged_in_order (left_kinds ++ right_kinds) (length lefts) on rights 0 lefts (omega arith)
+      (all_pairs left_kinds right_kinds lefts rights (recursion_from_All (HasKinds left_kinds) lefts l_typed) l_valid (recursion_from_All (HasKinds right_kinds) rights r_typed) r_valid)
+      [] (omega arith),
+)
 
 -- ---- plans
 

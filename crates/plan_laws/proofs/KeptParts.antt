@@ -1,17 +1,16 @@
 -- What is kept of groups and of a join is within the bounds of a file.
-use Rattle.std.proofs.Common.{zero, suc, ◌≡◌, refl, sym, ap, ◌∙◌, subst, ℕ, ◌+◌, ◌-◌, ◌*◌, ◌^◌, ◌<◌, ◌≤◌, ℤ, pos, negsuc, Bool, true, false, not, ◌||◌, cond, List, [], ◌∷◌, ◌++◌, map, length, append-nil, Ok, Option, None, Some, unwrap_or, arith}
-use Rattle.std.specs.List.{AllByRecursion, filter, list_any, slice_get, Contains}
+use Rattle.std.proofs.Common.{◌≡◌, refl, sym, ap, ◌∙◌, subst, ℕ, ◌+◌, ◌-◌, ◌*◌, ◌^◌, ◌<◌, ◌≤◌, ℤ, pos, negsuc, Bool, true, false, not, ◌||◌, cond, List, [], ◌∷◌, ◌++◌, map, length, append-nil, Option, Some, unwrap_or, arith}
+use Rattle.std.specs.List.{AllByRecursion, filter, list_any, slice_get}
 use Rattle.std.proofs.lemmas.Bool.{false≢true}
 use Rattle.std.proofs.lemmas.Int.{ints}
 use Rattle.std.proofs.lemmas.List.{length-append, length-map, map-append}
-use Rattle.std.proofs.lemmas.List.Elements.{All-from_recursion, recursion_from_All, All-contains, filter-append}
+use Rattle.std.proofs.lemmas.List.Elements.{filter-append}
 use Rattle.std.proofs.Math.Nat.{mul-le-mul}
 use Rattle.rows_core.specs.declared.kind.Kind.{Kind}
 use Rattle.rows_core.specs.declared.kind.Kind.TheVariants as kind
 use Rattle.rows_core.specs.declared.value.Value.{Value}
 use Rattle.rows_core.specs.declared.value.Value.TheVariants as value
 use Rattle.rows_core.specs.Value.{kind_of, row_eq}
-use Rattle.row_blob.specs.declared.kept.Acc.TheVariants as acc
 use Rattle.row_blob.specs.declared.kept.GroupRow.{GroupRow}
 use Rattle.row_blob.specs.declared.kept.TaggedRow.{TaggedRow}
 use Rattle.row_blob.specs.declared.shape.AccKind.{AccKind}
@@ -24,7 +23,7 @@ use Rattle.plan_core.specs.Columns.{Row, Rows}
 use Rattle.plan_core.specs.Distinct.{distinct_rows}
 use Rattle.plan_core.specs.Join.{rows_agree}
 use Rattle.plan_core.specs.PlanTyping.{Kinds, all_there, agg_kind}
-use Rattle.plan_laws.specs.KeptForm.{acc_of, kept_group, tagged_from}
+use Rattle.plan_laws.specs.KeptForm.{acc_of, tagged_from}
 use Rattle.plan_laws.specs.PlanShape.{kind_at, acc_kind_of}
 use Rattle.plan_laws.specs.ValidRows.{IsValid, IsValidRow, AreValidRows}
 use Rattle.plan_laws.proofs.Answers.{there_front}
@@ -137,9 +136,10 @@ module _ (first : Row) where
 
       go : (b : Bool) → is_other row ≡ b → AreFresh (first ∷ filter is_other (before ++ row ∷ [])) (filter is_other rows)
           → AreFresh (first ∷ filter is_other before) (cond b (row ∷ filter is_other rows) (filter is_other rows))
-      go true e rest =
-          (neither (row_eq row first) (list_any (row_eq row) (filter is_other before)) (not_first row e) (none_in_filter (row_eq row) is_other before fresh.0),
-          subst (λ (l : List Row). AreFresh (first ∷ l) (filter is_other rows)) (grown true e) rest)
+      go true e rest = (
+        neither (row_eq row first) (list_any (row_eq row) (filter is_other before)) (not_first row e) (none_in_filter (row_eq row) is_other before fresh.0),
+        subst (λ (l : List Row). AreFresh (first ∷ l) (filter is_other rows)) (grown true e) rest,
+      )
       go false e rest =
           subst (λ (l : List Row). AreFresh (first ∷ l) (filter is_other rows)) (grown false e ∙ append-nil (filter is_other before)) rest
 
@@ -157,10 +157,14 @@ module _ (g : Row → GroupRow) (same : (key : Row) → (g key).key ≡ key) (ki
 
   pub groups_in_order : (before keys : List Row) → AreFresh before keys → AllByRecursion IsGroup keys → AreInOrder (IsNextGroup kinds accs) (map g before) (map g keys)
   groups_in_order before [] fresh all = tt
-  groups_in_order before (key ∷ keys) fresh all =
-      ((subst (IsRow kinds) (sym (same key)) all.0.0, all.0.1,
-      subst (λ (k : Row). list_any (row_eq k) (bounds.keys_of (map g before)) ≡ false) (sym (same key)) (ap (list_any (row_eq key)) (keys_are before) ∙ fresh.0)),
-      subst (λ (l : List GroupRow). AreInOrder (IsNextGroup kinds accs) l (map g keys)) (map-append g before (key ∷ [])) (groups_in_order (before ++ key ∷ []) keys fresh.1 all.1))
+  groups_in_order before (key ∷ keys) fresh all = (
+    (
+      subst (IsRow kinds) (sym (same key)) all.0.0,
+      all.0.1,
+      subst (λ (k : Row). list_any (row_eq k) (bounds.keys_of (map g before)) ≡ false) (sym (same key)) (ap (list_any (row_eq key)) (keys_are before) ∙ fresh.0),
+    ),
+    subst (λ (l : List GroupRow). AreInOrder (IsNextGroup kinds accs) l (map g keys)) (map-append g before (key ∷ [])) (groups_in_order (before ++ key ∷ []) keys fresh.1 all.1),
+  )
 
 -- ---- joins
 
@@ -200,8 +204,13 @@ module _ (kinds : Kinds) (total : ℕ) (on : List (ℕ × ℕ)) (rights : Rows) 
   tagged_count position [] = omega arith
   tagged_count position (left ∷ lefts) =
       let agree = filter (rows_agree on left) rights in
-      omega (arith, tagged_count (position + 1) lefts, filter_shorter (rows_agree on left) rights, length-map agree (tag position left),
-      length-append (map (tag position left) agree) (tagged_from (position + 1) on lefts rights))
+      omega (
+        arith,
+        tagged_count (position + 1) lefts,
+        filter_shorter (rows_agree on left) rights,
+        length-map agree (tag position left),
+        length-append (map (tag position left) agree) (tagged_from (position + 1) on lefts rights),
+      )
 
 pub few_pairs : (l r : ℕ) → l < 4294967296 → r < 4294967296 → l * r < 2 ^ 64
 few_pairs l r left right =

@@ -1,33 +1,28 @@
 -- A typed plan with valid literals gives valid rows on valid lists.
-use Rattle.std.proofs.Common.{zero, suc, ◌≡◌, ◌||◌, refl, sym, ap, ◌∙◌, subst, ℕ, ◌+◌, ◌^◌, ◌<◌, ◌≤◌, Bool, true, false, not, cond, List, [], ◌∷◌, ◌++◌, map, length, take, drop, Result, Ok, Err, Option, None, Some, IfOk, arith}
-use Rattle.std.specs.List.{AllByRecursion, filter, list_any, flat_map, slice_get}
-use Rattle.std.specs.Option.{option_and_then}
+use Rattle.std.proofs.Common.{zero, suc, ◌≡◌, refl, subst, ℕ, ◌+◌, ◌^◌, ◌<◌, ◌≤◌, Bool, true, false, not, cond, List, [], ◌∷◌, ◌++◌, map, length, take, drop, Result, Ok, Err, Some, IfOk, arith}
+use Rattle.std.specs.List.{AllByRecursion, filter, list_any}
 use Rattle.std.specs.Ordering.{is_le}
 use Rattle.rows_core.specs.declared.order.Key.{Key}
 use Rattle.rows_core.specs.declared.overflow.Overflow.{Overflow}
 use Rattle.rows_core.specs.RowOrder.{row_cmp}
 use Rattle.rows_core.specs.Value.{row_eq}
-use Rattle.scalar_ops.specs.declared.cell.CellKind.{CellKind}
-use Rattle.scalar_ops.specs.declared.cell.CellKind.TheVariants as kind
 use Rattle.scalar_ops.specs.Meaning.{overflow}
 use Rattle.plan_core.specs.declared.agg.Agg.{Agg}
 use Rattle.plan_core.specs.Aggregate.{aggregate_value}
 use Rattle.plan_core.specs.Columns.{Row, Rows, columns_of}
 use Rattle.plan_core.specs.Distinct.{distinct_rows}
-use Rattle.plan_core.specs.ExpressionKind.{expression_kind}
 use Rattle.plan_core.specs.ExpressionValue.{◌>>=◌, all_of}
 use Rattle.plan_core.specs.Filter.{filter_rows, overflows, passes}
 use Rattle.plan_core.specs.Group.{keys_of, members_of, group_row, group_rows}
 use Rattle.plan_core.specs.Join.{join_rows, rows_agree}
-use Rattle.plan_core.specs.Literals.{HasCells, HaveCells, HasValidLiterals}
+use Rattle.plan_core.specs.Literals.{HaveCells, HasValidLiterals}
 use Rattle.plan_core.specs.MachineTime.{row_count, rows_given, rows_taken_in, machine_time}
 use Rattle.plan_core.specs.PlainExpr.{PlainExpr}
 use Rattle.plan_core.specs.PlainPlan.{PlainPlan, Scan, Filter, Project, Distinct, Group, Join, Concat, Order, leaf_count}
-use Rattle.plan_core.specs.PlanMeaning.{plan_meaning, first_list}
-use Rattle.plan_core.specs.PlanTyping.{Kinds, plan_kinds, filter_kinds, project_kinds, group_kinds, join_kinds, concat_kinds, order_kinds, is_empty, column_kind, all_there}
+use Rattle.plan_core.specs.PlanMeaning.{plan_meaning}
+use Rattle.plan_core.specs.PlanTyping.{Kinds, plan_kinds, filter_kinds, project_kinds, group_kinds, join_kinds, concat_kinds, order_kinds, is_empty}
 use Rattle.plan_core.specs.Project.{column_value, project_row, project_rows}
 use Rattle.plan_core.specs.StableOrder.{insert_row, order_rows}
-use Rattle.plan_core.proofs.ValueKinds.{then_some}
 use Rattle.plan_laws.specs.ValidRows.{IsValid, IsValidRow, AreValidRows, AreValidLists}
 use Rattle.plan_laws.proofs.Answers.{both_ok, both_some, otherwise, each_of}
 use Rattle.plan_laws.proofs.TypedPlans.{and_then}

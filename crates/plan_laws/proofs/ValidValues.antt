@@ -1,6 +1,6 @@
 -- Typed expressions with valid literals have valid values at valid rows, and so do the columns and aggregates of rows.
-use Rattle.std.proofs.Common.{zero, suc, ◌≡◌, refl, sym, ap, ◌∙◌, subst, ℕ, ◌+◌, ◌-◌, ◌*◌, ◌/◌, ◌^◌, ◌<◌, ◌≤◌, ℤ, pos, negsuc, neg_ℤ, ◌+ℤ◌, ◌≤ℤ◌, Bool, true, false, ◌&&◌, not, cond, List, [], ◌∷◌, ◌++◌, map, length, Result, Ok, Err, Option, None, Some, FitsSigned, w64, arith}
-use Rattle.std.specs.List.{AllByRecursion, filter}
+use Rattle.std.proofs.Common.{zero, suc, ◌≡◌, refl, sym, subst, ℕ, ◌-◌, ◌*◌, ◌/◌, ◌^◌, ◌<◌, ◌≤◌, ℤ, pos, negsuc, neg_ℤ, ◌+ℤ◌, ◌≤ℤ◌, Bool, true, false, ◌&&◌, not, cond, List, [], ◌∷◌, map, length, Result, Ok, Err, Option, None, Some, FitsSigned, w64, arith}
+use Rattle.std.specs.List.{AllByRecursion}
 use Rattle.std.specs.Option.{option_and_then}
 use Rattle.std.specs.Ordering.{is_le, is_ge}
 use Rattle.std.proofs.lemmas.Int.{ints}
@@ -27,7 +27,7 @@ use Rattle.plan_core.specs.declared.agg.Agg.{Agg}
 use Rattle.plan_core.specs.declared.agg.Agg.TheVariants as agg
 use Rattle.plan_core.specs.Aggregate.{aggregate_value, values_of, number_of, whole_value, exact_sum, least_value, greatest_value, first_value, last_value}
 use Rattle.plan_core.specs.Columns.{Row, Rows, column_of, columns_of, no_value}
-use Rattle.plan_core.specs.ExpressionKind.{expression_kind, call_kind, both_truths, choice_kind, same_cell_kind, is_division, is_divisor}
+use Rattle.plan_core.specs.ExpressionKind.{expression_kind, call_kind, both_truths, choice_kind, is_division, is_divisor}
 use Rattle.plan_core.specs.ExpressionValue.{◌>>=◌, expression_value, cell_of_value, value_of_cell, is_true}
 use Rattle.plan_core.specs.Literals.{HasCells, HaveCells}
 use Rattle.plan_core.specs.PlainExpr.{PlainExpr, Column, Literal, Call1, Call2, And, Or, If}

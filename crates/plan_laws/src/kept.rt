@@ -20,12 +20,13 @@ pub fn rows_of_kept_forms()
     ensures { (plan : PlainPlan) (lists : List Rows) → rows_read plan lists ≡ plan_meaning plan lists }
 {}
 
-/// What is kept of a typed plan's result is a kept form of the plan's shape, within all bounds of a file, where the
-/// machine time is at most 4,294,967,295: so the file of a result is always read back. The plan has valid literals, and
-/// the lists valid rows of their streams.
+/// What is kept of a typed plan's result is a kept form of the plan's shape, within all bounds of a file,
+/// where the machine time is at most 4,294,967,295: so the file of a result is always read back. The plan has
+/// valid literals, and the lists valid rows of their streams.
 pub fn kept_forms_have_their_shape()
     ensures { (schemas : List Kinds) (plan : PlainPlan) (kinds : Kinds) (lists : List Rows) →
-        plan_kinds schemas plan ≡ Some kinds → HasValidLiterals plan → AreOfStreams schemas (leaves plan) lists →
+        plan_kinds schemas plan ≡ Some kinds → HasValidLiterals plan
+        → AreOfStreams schemas (leaves plan) lists →
         AreValidLists lists → AreShortLists lists → machine_time plan lists ≤ 4294967295 →
         IfOk (kept_form plan lists) (IsKept (plan_shape schemas plan)) }
 {

@@ -1,5 +1,5 @@
-//! What plans mean, in the words of the subject, and what is kept of their results. Each law is a function that does
-//! nothing, whose contract is the law.
+//! What plans mean, in the words of the subject, and what is kept of their results. Each law is a function
+//! that does nothing, whose contract is the law.
 #![tactic(auto)]
 
 pub mod distinct;

@@ -10,8 +10,8 @@ ghost use Rattle.plan_laws.specs.ValidRows.{AreValidRows, AreValidLists};
 
 use scalar_ops::values_are_cells;
 
-/// The rows that a typed plan with valid literals gives on valid lists are valid: their numbers are in i64, and their
-/// texts have 1,000 bytes at most. The machine time bounds what a count can be.
+/// The rows that a typed plan with valid literals gives on valid lists are valid: their numbers are in i64,
+/// and their texts have 1,000 bytes at most. The machine time bounds what a count can be.
 pub fn typed_plans_give_valid_rows()
     ensures { (schemas : List Kinds) (plan : PlainPlan) (kinds : Kinds) (lists : List Rows) →
         plan_kinds schemas plan ≡ Some kinds → HasValidLiterals plan → AreValidLists lists →

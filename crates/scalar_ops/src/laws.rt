@@ -10,8 +10,8 @@ ghost use Rattle.scalar_ops.specs.Meaning.{row_at, op_at, meaning, exact_value, 
 
 use crate::table::OPS;
 
-/// The rows are those that are stated, in this order. A row says that it may overflow exactly where it does so at some
-/// cells of its kinds, and no two rows have the same operation and kinds.
+/// The rows are those that are stated, in this order. A row says that it may overflow exactly where it does
+/// so at some cells of its kinds, and no two rows have the same operation and kinds.
 pub fn table_as_stated()
     ensures rows { OPS.rows ≡ stated_rows }
     ensures overflows { All SaysSo OPS.rows }
@@ -25,8 +25,8 @@ pub fn rows_are_found_by_kinds()
         IsTrue (is_row_for op kinds row) ↔ IsRowFor op kinds row }
 {}
 
-/// At cells that a program holds, with a divisor other than 0, a row gives the exact value or an overflow, whatever
-/// it says of overflows; and a value is again such a cell.
+/// At cells that a program holds, with a divisor other than 0, a row gives the exact value or an overflow,
+/// whatever it says of overflows; and a value is again such a cell.
 pub fn values_are_cells()
     ensures exact { (row : ℕ) (cells : List Cell) → AreCells cells → Divides (op_at row) cells
         → meaning row cells ≡ cell_of (exact_value (op_at row) cells) }
