@@ -71,6 +71,26 @@ impl Txt {
         }
     }
 
+    /// The text of these bytes, as `new` takes them. It takes no memory.
+    pub fn from_vec(bytes: Vec<u8>) -> Result<Txt, TxtRefusal>
+        ensures bytes { IfOk result (λ text. text ≡ bytes.items) }
+        ensures text { IfOk result (λ text. IsTxt text) }
+        ensures not_text { IsErrOf result TxtRefusal.NotText ↔ (IsText bytes.items → ⊥) }
+        ensures too_long { IsErrOf result TxtRefusal.TooLong
+            ↔ (IsText bytes.items × (1000 < length bytes.items)) }
+        ensures no_memory { IsErrOf result TxtRefusal.Memory → ⊥ }
+    {
+        if !is_text(&bytes) {
+            return Err(TxtRefusal::NotText);
+        }
+        if bytes.len() > MAX_TEXT_LEN {
+            return Err(TxtRefusal::TooLong);
+        }
+        Ok(Txt {
+            bytes: Seq::new(bytes),
+        })
+    }
+
     pub fn bytes(&self) -> &[u8]
         ensures bytes { result.now ≡ self.now }
         ensures text { IsTxt self.now }
