@@ -1,3 +1,5 @@
+//! The real folder.
+
 use crate::folder_store::FolderStore;
 use outside_traits::Store;
 use std::path::PathBuf;

@@ -7,7 +7,7 @@ use Rattle.rows_core.specs.Schema.{kinds_of}
 use Rattle.plan_core.specs.PlainPlan.{PlainPlan, Scan, Filter, Project, Group, Join, Concat, Order}
 use Rattle.plan_core.specs.ExpressionKind.{of_both}
 use Rattle.plan_core.specs.PlanTyping.{Kinds, all_there, is_empty, plan_kinds, filter_kinds, project_kinds, group_kinds, join_kinds, concat_kinds, order_kinds, column_kind_of, agg_kind}
-use Rattle.plan_core.specs.ValueKinds.{slice_get-map}
+use Rattle.plan_core.proofs.ValueKinds.{slice_get-map}
 use Rattle.plan_text.specs.declared.plan.NamedResult.{NamedResult}
 use Rattle.plan_text.specs.declared.plan.NamedPair.{NamedPair}
 use Rattle.plan_text.specs.declared.plan.NamedKey.{NamedKey}
