@@ -38,8 +38,8 @@ pub fn reading(alloc: Global, arguments: &str) -> Result<String> {
     }
 }
 
-/// A log is made and a body committed to it, while each call from `CALL` on fails: whether the commit is answered as done,
-/// and whether the image `PICK` has the body at most once.
+/// A log is made and a body committed to it, while each call from `CALL` on fails: whether the commit is
+/// answered as done, and whether the image `PICK` has the body at most once.
 pub fn stop(alloc: Global, arguments: &str) -> Result<String> {
     let (call, pick) = words::first(arguments);
     let mut store = MemStore::new(alloc, Vec::new(alloc));

@@ -1,6 +1,7 @@
-//! Cases of the extent files, the log, and the store, source and sink in memory: a case a line on standard input, and on
-//! standard output a line for each, what it gives. A case is the word of its subject and then its arguments, words with a
-//! space between them, bytes in hex and `-` for none. A line that is empty or begins with `#` is no case.
+//! Cases of the extent files, the log, and the store, source and sink in memory: a case a line on standard
+//! input, and on standard output a line for each, what it gives. A case is the word of its subject and then
+//! its arguments, words with a space between them, bytes in hex and `-` for none. A line that is empty or
+//! begins with `#` is no case.
 #![tactic(auto)]
 
 mod files;

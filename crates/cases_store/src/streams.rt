@@ -6,8 +6,8 @@ use mem_outside::{MemSink, MemSource};
 use outside_traits::{Failed, Sink, Source};
 use std::alloc::Global;
 
-/// What reads give of a source of these bytes, in pieces of `PIECE`, where those of the numbers `FAILS` fail: a read for
-/// each further argument, the room that it has.
+/// What reads give of a source of these bytes, in pieces of `PIECE`, where those of the numbers `FAILS` fail:
+/// a read for each further argument, the room that it has.
 pub fn source(alloc: Global, arguments: &str) -> Result<String> {
     let (bytes, arguments) = words::first(arguments);
     let (piece, arguments) = words::first(arguments);
@@ -32,8 +32,8 @@ fn given(alloc: Global, source: &mut MemSource, room: u64) -> Result<String> {
     }
 }
 
-/// How many bytes writes take, where those of the numbers `FAILS` and each from `FROM` on fail: a write for each further
-/// argument; and then all that was written.
+/// How many bytes writes take, where those of the numbers `FAILS` and each from `FROM` on fail: a write for
+/// each further argument; and then all that was written.
 pub fn sink(alloc: Global, arguments: &str) -> Result<String> {
     let (fails, arguments) = words::first(arguments);
     let (from, pieces) = words::first(arguments);
