@@ -1,4 +1,5 @@
 pub mod Token
+pub mod TextTokens
 pub mod PlainNamed
 pub mod Counts
 pub mod Grammar

@@ -1,6 +1,6 @@
 -- What is read again and again, behind a separator each time.
 use Prim.Native.Nat.{zero, suc}
-use Rattle.std.proofs.Common.{◌≡◌, refl, sym, ap, ◌∙◌, subst, ℕ, ◌<◌, ◌-◌, List, length, Some, None, Err, arith}
+use Rattle.std.proofs.Common.{◌≡◌, refl, sym, ap, ◌∙◌, subst, ℕ, ◌+◌, ◌<◌, ◌≤◌, ◌-◌, List, length, Some, None, Err, arith}
 use Rattle.plan_grammar.specs.declared.token.Token.{Token}
 use Rattle.plan_parser.specs.declared.refusal.TextRefusal.{TextRefusal}
 use Rattle.plan_parser.specs.declared.refusal.TextRefusal.TheVariants as refusal
@@ -11,6 +11,59 @@ use Rattle.plan_grammar.proofs.TokenLemmas.{both}
 pub then_some : {A B : Type 0} (read : ReadOf A) (next : A → ReaderOf B) (y : B × List Token) → and_then read next ≡ Some y → (x : A) × (ts : List Token) × (read ≡ Some (x, ts)) × (next x ts ≡ Some y)
 then_some None next y q = absurd (cc q)
 then_some (Some x) next y q = (x.0, x.1, refl, q)
+
+module _ {O S : Type 0} (separator : ReaderOf O) (step : O → S → ReaderOf S) where
+  module _ (turns : ℕ) (s : S) (rest : List Token) where
+    -- with no turn left nothing is read
+    pub no_turn : turns ≡ 0 → repeated separator step turns s rest ≡ None
+    unfolding repeated
+    no_turn e = ap (λ n. repeated separator step n s rest) e
+
+    turn : 0 < turns → repeated separator step turns s rest ≡ repeat_step step (repeated separator step (turns - 1)) s rest (separator rest)
+    unfolding repeated
+    turn some = by turns some
+      where
+        by : (n : ℕ) → 0 < n → repeated separator step n s rest ≡ repeat_step step (repeated separator step (n - 1)) s rest (separator rest)
+        by zero less = absurd (omega (arith, less))
+        by (suc k) less = let same : suc k - 1 ≡ k = omega arith in ap (λ j. repeat_step step (repeated separator step j) s rest (separator rest)) (sym same)
+
+    pub turn_end : 0 < turns → separator rest ≡ None → repeated separator step turns s rest ≡ Some (s, rest)
+    turn_end some none = turn some ∙ ap (λ o. repeat_step step (repeated separator step (turns - 1)) s rest o) none
+
+    module _ (o : O) (behind : List Token) (some : 0 < turns) (found : separator rest ≡ Some (o, behind)) where
+      at_step : repeated separator step turns s rest ≡ and_then (step o s behind) (repeated separator step (turns - 1))
+      at_step = turn some ∙ ap (λ o. repeat_step step (repeated separator step (turns - 1)) s rest o) found
+
+      pub turn_next : (next : S) (after : List Token) → step o s behind ≡ Some (next, after) → repeated separator step turns s rest ≡ repeated separator step (turns - 1) next after
+      turn_next next after read = at_step ∙ ap (λ r. and_then r (repeated separator step (turns - 1))) read
+
+      pub turn_fail : step o s behind ≡ None → repeated separator step turns s rest ≡ None
+      turn_fail read = at_step ∙ ap (λ r. and_then r (repeated separator step (turns - 1))) read
+
+-- a loop that has had some of its turns: what is read in all is what is read in the turns that are left
+module _ {O S : Type 0} (separator : ReaderOf O) (step : O → S → ReaderOf S) where
+  pub first_turn : (first : ReadOf S) (s : S) (rest : List Token) (turns : ℕ) → first ≡ Some (s, rest) → turns ≡ length rest + 1
+      → and_then first (all_repeated separator step) ≡ repeated separator step (turns - 0) s rest
+  first_turn first s rest turns read e =
+      let all : suc (length rest) ≡ turns - 0 = omega (arith, e) in
+      ap (λ r. and_then r (all_repeated separator step)) read ∙ ap (λ n. repeated separator step n s rest) all
+
+  module _ (whole : ReadOf S) (turns had : ℕ) (s : S) (rest : List Token) (l : whole ≡ repeated separator step (turns - had) s rest) where
+    pub out_of_turns : turns ≤ had → whole ≡ None
+    out_of_turns e = l ∙ no_turn separator step (turns - had) s rest (omega (arith, e))
+
+    module _ (less : had < turns) where
+      pub ends : separator rest ≡ None → whole ≡ Some (s, rest)
+      ends none = l ∙ turn_end separator step (turns - had) s rest (omega (arith, less)) none
+
+      module _ (o : O) (behind : List Token) (found : separator rest ≡ Some (o, behind)) where
+        pub goes_on : (next : S) (after : List Token) → step o s behind ≡ Some (next, after) → whole ≡ repeated separator step (turns - (had + 1)) next after
+        goes_on next after read =
+            let same : turns - had - 1 ≡ turns - (had + 1) = omega (arith, less) in
+            l ∙ turn_next separator step (turns - had) s rest o behind (omega (arith, less)) found next after read ∙ ap (λ n. repeated separator step n next after) same
+
+        pub fails : step o s behind ≡ None → whole ≡ None
+        fails read = l ∙ turn_fail separator step (turns - had) s rest o behind (omega (arith, less)) found read
 
 -- what was read up to a rest, with turns enough for what is left of it
 pub record Repeats {O S : Type 0} (separator : ReaderOf O) (step : O → S → ReaderOf S) (whole : ReadOf S) (s : S) (rest : List Token) : Type 0 where
@@ -25,35 +78,18 @@ module _ {O S : Type 0} (separator : ReaderOf O) (step : O → S → ReaderOf S)
   pub Repeats-first : (first : ReadOf S) (s : S) (rest : List Token) → first ≡ Some (s, rest) → Repeats separator step (and_then first (all_repeated separator step)) s rest
   Repeats-first first s rest e = Repeats-start (and_then first (all_repeated separator step)) s rest (ap (λ r. and_then r (all_repeated separator step)) e)
 
-  -- where the first is no reading, nothing is read
-  pub Repeats-none : (first : ReadOf S) → first ≡ None → and_then first (all_repeated separator step) ≡ None
-  Repeats-none first e = ap (λ r. and_then r (all_repeated separator step)) e
-
   module _ (whole : ReadOf S) (s : S) (rest : List Token) (l : Repeats separator step whole s rest) where
-    turn : (turns : ℕ) → length rest < turns → repeated separator step turns s rest ≡ repeat_step step (repeated separator step (turns - 1)) s rest (separator rest)
-    unfolding repeated
-    turn zero less = absurd (omega (arith, less))
-    turn (suc k) less = let same : suc k - 1 ≡ k = omega arith in ap (λ j. repeat_step step (repeated separator step j) s rest (separator rest)) (sym same)
-
-    at_separator : whole ≡ repeat_step step (repeated separator step (l.turns - 1)) s rest (separator rest)
-    at_separator = l.reads ∙ turn l.turns l.enough
-
     pub Repeats-end : separator rest ≡ None → whole ≡ Some (s, rest)
-    Repeats-end none = at_separator ∙ ap (λ o. repeat_step step (repeated separator step (l.turns - 1)) s rest o) none
+    Repeats-end none = let enough = l.enough in l.reads ∙ turn_end separator step l.turns s rest (omega (arith, enough)) none
 
-    module _ (o : O) (behind : List Token) (found : separator rest ≡ Some (o, behind)) where
-      at_step : whole ≡ and_then (step o s behind) (repeated separator step (l.turns - 1))
-      at_step = at_separator ∙ ap (λ o. repeat_step step (repeated separator step (l.turns - 1)) s rest o) found
-
-      pub Repeats-next : (next : S) (after : List Token) → step o s behind ≡ Some (next, after) → length after < length rest → Repeats separator step whole next after
-      Repeats-next next after read less = record {
-        turns = l.turns - 1;
-        enough = omega (arith, less, l.enough);
-        reads = at_step ∙ ap (λ r. and_then r (repeated separator step (l.turns - 1))) read;
-      }
-
-      pub Repeats-fail : step o s behind ≡ None → whole ≡ None
-      Repeats-fail read = at_step ∙ ap (λ r. and_then r (repeated separator step (l.turns - 1))) read
+    pub Repeats-next : (o : O) (behind : List Token) → separator rest ≡ Some (o, behind) → (next : S) (after : List Token) → step o s behind ≡ Some (next, after) → length after < length rest → Repeats separator step whole next after
+    Repeats-next o behind found next after read less =
+        let enough = l.enough in
+        record {
+          turns = l.turns - 1;
+          enough = omega (arith, less, enough);
+          reads = l.reads ∙ turn_next separator step l.turns s rest o behind (omega (arith, enough)) found next after read;
+        }
 
   -- what each turn keeps holds of what was read in all
   module _ (Kept : S → List Token → Type 0) (keeps : (s : S) (ts : List Token) (o : O) (behind : List Token) (t : S) (after : List Token) → Kept s ts → separator ts ≡ Some (o, behind) → step o s behind ≡ Some (t, after) → Kept t after) where

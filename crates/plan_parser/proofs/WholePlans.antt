@@ -1,22 +1,24 @@
 -- What a whole text spells as a plan, within the limits or beyond them.
-use Rattle.std.proofs.Common.{◌≡◌, refl, sym, subst, ℕ, ◌≤◌, ◌<◌, Bool, true, false, cond, nat_lt, nat_le, List, [], Some, ◌∙◌, Result, Ok, Err, IfOk, arith}
+use Prim.Native.Nat.{suc}
+use Rattle.std.proofs.Common.{◌≡◌, refl, sym, ap, subst, ℕ, ◌≤◌, ◌<◌, Bool, true, false, cond, nat_lt, nat_le, List, [], length, Option, None, Some, ◌∙◌, Result, Ok, Err, IfOk, arith}
 use Rattle.std.proofs.lemmas.Bool.Decides.{nat_tests}
 use Rattle.plan_grammar.specs.declared.token.Token.{Token}
-use Rattle.plan_grammar.specs.declared.plan.NamedTree as code_tree
 use Rattle.plan_parser.specs.declared.plan_draft.Counts.{Counts}
 use Rattle.plan_grammar.specs.declared.limit.PlanLimit.{PlanLimit}
 use Rattle.plan_parser.specs.declared.refusal.TextRefusal.{TextRefusal}
 use Rattle.plan_parser.specs.declared.refusal.TextRefusal.TheVariants as refusal
 use Rattle.plan_grammar.specs.declared.limit.PlanLimit.TheVariants.{Nodes, Wide, Exprs}
 use Rattle.plan_grammar.specs.Token.{AreTokens}
-use Rattle.plan_grammar.specs.PlainNamed.{PlainTree, tree_of}
+use Rattle.plan_grammar.specs.PlainNamed.{PlainTree}
 use Rattle.plan_grammar.specs.Counts.{nodes, wide_nodes, all_expr_nodes, IsFirstPassed, IsWithinLimits}
 use Rattle.plan_grammar.specs.Grammar.{SpellsPlan}
 use Rattle.plan_grammar.specs.Spelled.{SpellsText}
-use Rattle.plan_parser.specs.Answer.{MeansPlan}
+use Rattle.plan_grammar.specs.TextTokens.{tokens_in}
+use Rattle.plan_grammar.proofs.TextTokenLaws.{tokens_are, tokens_in-some}
+use Rattle.plan_parser.specs.Reader.{ReadOf}
+use Rattle.plan_parser.specs.Answer.{TextReading, AsPlan, AsTooLarge, AsNone, whole_reading, tokens_reading, text_reading, Means}
 use Rattle.plan_parser.specs.PlanDraft.{PlanDraft, WholePlan, TooLarge, limits, first_above, up_to, capped, are_within, counts_of, plan_draft_of}
 use Rattle.plan_parser.specs.PlanReading.{plan_at}
-use Rattle.plan_parser.proofs.WholeTexts.{one_list}
 use Rattle.plan_parser.proofs.PlanDraftLemmas.{is_within, within_is, up_to-few, up_to-many}
 use Rattle.plan_parser.proofs.PlanSound.{read_plan_is_spelled}
 use Rattle.plan_parser.proofs.PlanComplete.{spelled_plan_is_read}
@@ -92,31 +94,112 @@ module _ (text : List ℕ) (tokens : List Token) (are : AreTokens tokens text) w
           let is : counts ≡ capped limits (counts_of f) = cc same in
           subst (λ c. IsFirstPassed (first_above c) f) (sym is) (first_passed f many)
 
-  pub no_plan_spelled : ((d : PlanDraft) → plan_at limits 32 tokens ≡ Some (d, []) → ⊥) → (p : PlainTree) → SpellsText p text → ⊥
-  no_plan_spelled none p s =
-      let same = one_list s.tokens tokens text s.are are in
-      none (plan_draft_of limits p) (spelled_plan_is_read limits 32 p tokens [] tt (subst (λ ts. SpellsPlan 32 p ts []) same s.spells))
+-- the limit that a plan passes first is one
+one_limit : (a b : PlanLimit) (p : PlainTree) → IsFirstPassed a p → IsFirstPassed b p → a ≡ b
+one_limit Nodes Nodes p s t = refl
+one_limit Nodes Wide p s t = let le = t.0 in absurd (omega (arith, s, le))
+one_limit Nodes Exprs p s t = let le = t.0 in absurd (omega (arith, s, le))
+one_limit Wide Nodes p s t = let le = s.0 in absurd (omega (arith, t, le))
+one_limit Wide Wide p s t = refl
+one_limit Wide Exprs p s t = let less = s.1 in let le = t.1 in absurd (omega (arith, less, le))
+one_limit Exprs Nodes p s t = let le = s.0 in absurd (omega (arith, t, le))
+one_limit Exprs Wide p s t = let le = s.1 in let less = t.1 in absurd (omega (arith, less, le))
+one_limit Exprs Exprs p s t = refl
 
-pub no_tokens_no_plan : (text : List ℕ) → ((tokens : List Token) → AreTokens tokens text → ⊥) → (p : PlainTree) → SpellsText p text → ⊥
-no_tokens_no_plan text none p s = none s.tokens s.are
+-- a plan that passes a limit isn't within all of them
+passes_one : (what : PlanLimit) (p : PlainTree) → IsFirstPassed what p → IsWithinLimits p → ⊥
+passes_one Nodes p s w = let le = w.0 in omega (arith, s, le)
+passes_one Wide p s w = let less = s.1 in let le = w.1 in omega (arith, less, le)
+passes_one Exprs p s w = let less = s.2 in let le = w.2 in omega (arith, less, le)
 
--- what the answer says of the text
-module _ (text : List ℕ) (tokens : List Token) (are : AreTokens tokens text) where
-  pub plan_found : (r : Result code_tree.NamedTree TextRefusal) → MeansPlan r (plan_at limits 32 tokens) → IfOk r (λ tree. SpellsText (tree_of tree) text × IsWithinLimits (tree_of tree))
-  plan_found (Ok tree) m = whole_plan_spelled text tokens are (tree_of tree) m.0 m.1
-  plan_found (Err e) m = tt
+within_limits : (p : PlainTree) → are_within limits (capped limits (counts_of p)) ≡ true → IsWithinLimits p
+within_limits p few = let w = is_within limits (counts_of p) few in (w.nodes, w.wide, w.exprs)
 
-  pub plan_syntax : (r : Result code_tree.NamedTree TextRefusal) → MeansPlan r (plan_at limits 32 tokens) → r ≡ Err refusal.Syntax → (p : PlainTree) → SpellsText p text → ⊥
-  plan_syntax (Ok tree) m is = absurd (cc is)
-  plan_syntax (Err refusal.Syntax) m is = no_plan_spelled text tokens are m
-  plan_syntax (Err (refusal.Limit what)) m is = absurd (cc is)
-  plan_syntax (Err refusal.Memory) m is = absurd (cc is)
+-- what a plan is read as, whatever text spells it
+abbrev reading_of : PlainTree → Bool → TextReading
+reading_of p few = cond few (AsPlan p) (AsTooLarge (first_above (capped limits (counts_of p))))
 
-  pub plan_limit : (r : Result code_tree.NamedTree TextRefusal) → MeansPlan r (plan_at limits 32 tokens) → (what : PlanLimit) → r ≡ Err (refusal.Limit what) → (p : PlainTree) × SpellsText p text × IsFirstPassed what p
-  plan_limit (Ok tree) m what is = absurd (cc is)
-  plan_limit (Err refusal.Syntax) m what is = absurd (cc is)
-  plan_limit (Err (refusal.Limit other)) m what is =
-      let same : other ≡ what = cc is in
-      let large = too_large_spelled text tokens are m.0 m.1 in
-      (large.0, large.1, subst (λ w. IsFirstPassed w large.0) (sym m.2 ∙ same) large.2)
-  plan_limit (Err refusal.Memory) m what is = absurd (cc is)
+module _ (text : List ℕ) where
+  pub spelled_reading : (p : PlainTree) → SpellsText p text → text_reading text ≡ reading_of p (are_within limits (capped limits (counts_of p)))
+  spelled_reading p s =
+      ap tokens_reading (tokens_in-some text s.tokens s.are)
+      ∙ ap whole_reading (spelled_plan_is_read limits 32 p s.tokens [] tt s.spells)
+      ∙ by (are_within limits (capped limits (counts_of p)))
+    where
+      by : (b : Bool) → whole_reading (Some (cond b (WholePlan p (capped limits (counts_of p))) (TooLarge (capped limits (counts_of p))), [])) ≡ reading_of p b
+      by true = refl
+      by false = refl
+
+  pub plan_reading : (p : PlainTree) → SpellsText p text × IsWithinLimits p → text_reading text ≡ AsPlan p
+  plan_reading p s =
+      let w = s.1 in
+      spelled_reading p s.0 ∙ ap (reading_of p) (within_is limits (counts_of p) (record { nodes = w.0; wide = w.1; exprs = w.2 }))
+
+  pub large_reading : (what : PlanLimit) → ((p : PlainTree) × SpellsText p text × IsFirstPassed what p) → text_reading text ≡ AsTooLarge what
+  large_reading what s = spelled_reading s.0 s.1 ∙ by (are_within limits (capped limits (counts_of s.0))) refl
+    where
+      by : (b : Bool) → are_within limits (capped limits (counts_of s.0)) ≡ b → reading_of s.0 b ≡ AsTooLarge what
+      by true few = absurd (passes_one what s.0 s.2 (within_limits s.0 few))
+      by false many = ap AsTooLarge (one_limit (first_above (capped limits (counts_of s.0))) what s.0 (first_passed s.0 many) s.2)
+
+  -- what the tokens were read as is spelled, or nothing is
+  module _ (tokens : List Token) (are : AreTokens tokens text) where
+    plan_of : (read : ReadOf PlanDraft) → plan_at limits 32 tokens ≡ read → (p : PlainTree) → whole_reading read ≡ AsPlan p → SpellsText p text × IsWithinLimits p
+    plan_of (Some (WholePlan q counts, [])) e p r =
+        let same : q ≡ p = cc r in
+        subst (λ p. SpellsText p text × IsWithinLimits p) same (whole_plan_spelled text tokens are q counts e)
+    plan_of _ e p r = absurd (cc r)
+
+    limit_of : (read : ReadOf PlanDraft) → plan_at limits 32 tokens ≡ read → (what : PlanLimit) → whole_reading read ≡ AsTooLarge what → (p : PlainTree) × SpellsText p text × IsFirstPassed what p
+    limit_of (Some (TooLarge counts, [])) e what r =
+        let same : first_above counts ≡ what = cc r in
+        let large = too_large_spelled text tokens are counts e in
+        (large.0, large.1, subst (λ w. IsFirstPassed w large.0) same large.2)
+    limit_of _ e what r = absurd (cc r)
+
+  pub reading_plan : (p : PlainTree) → text_reading text ≡ AsPlan p → SpellsText p text × IsWithinLimits p
+  reading_plan p r = by (tokens_in text) refl r
+    where
+      by : (o : Option (List Token)) → tokens_in text ≡ o → tokens_reading o ≡ AsPlan p → SpellsText p text × IsWithinLimits p
+      by None e r = absurd (cc r)
+      by (Some tokens) e r = plan_of tokens (tokens_are (suc (length text)) text tokens e) (plan_at limits 32 tokens) refl p r
+
+  pub reading_large : (what : PlanLimit) → text_reading text ≡ AsTooLarge what → (p : PlainTree) × SpellsText p text × IsFirstPassed what p
+  reading_large what r = by (tokens_in text) refl r
+    where
+      by : (o : Option (List Token)) → tokens_in text ≡ o → tokens_reading o ≡ AsTooLarge what → (p : PlainTree) × SpellsText p text × IsFirstPassed what p
+      by None e r = absurd (cc r)
+      by (Some tokens) e r = limit_of tokens (tokens_are (suc (length text)) text tokens e) (plan_at limits 32 tokens) refl what r
+
+  pub reading_none : text_reading text ≡ AsNone → (p : PlainTree) → SpellsText p text → ⊥
+  reading_none r p s = by (are_within limits (capped limits (counts_of p))) (sym r ∙ spelled_reading p s)
+    where
+      by : (b : Bool) → AsNone ≡ reading_of p b → ⊥
+      by true e = cc e
+      by false e = cc e
+
+  pub none_reading : ((p : PlainTree) → SpellsText p text → ⊥) → text_reading text ≡ AsNone
+  none_reading none = by (text_reading text) refl
+    where
+      by : (r : TextReading) → text_reading text ≡ r → text_reading text ≡ AsNone
+      by AsNone e = e
+      by (AsPlan p) e = absurd (none p (reading_plan p e).0)
+      by (AsTooLarge what) e = let s = reading_large what e in absurd (none s.0 s.1)
+
+-- what an answer says of the text
+module _ {A : Type 0} (view : A → PlainTree) (text : List ℕ) where
+  pub answer_plan : (r : Result A TextRefusal) → Means view r (text_reading text) → IfOk r (λ plan. SpellsText (view plan) text × IsWithinLimits (view plan))
+  answer_plan (Ok plan) m = reading_plan text (view plan) m
+  answer_plan (Err e) m = tt
+
+  pub answer_none : (r : Result A TextRefusal) → Means view r (text_reading text) → r ≡ Err refusal.Syntax → (p : PlainTree) → SpellsText p text → ⊥
+  answer_none (Ok plan) m is = absurd (cc is)
+  answer_none (Err refusal.Syntax) m is = reading_none text m
+  answer_none (Err (refusal.Limit what)) m is = absurd (cc is)
+  answer_none (Err refusal.Memory) m is = absurd (cc is)
+
+  pub answer_large : (r : Result A TextRefusal) → Means view r (text_reading text) → (what : PlanLimit) → r ≡ Err (refusal.Limit what) → (p : PlainTree) × SpellsText p text × IsFirstPassed what p
+  answer_large (Ok plan) m what is = absurd (cc is)
+  answer_large (Err refusal.Syntax) m what is = absurd (cc is)
+  answer_large (Err (refusal.Limit other)) m what is = let same : other ≡ what = cc is in reading_large text what (m ∙ ap AsTooLarge same)
+  answer_large (Err refusal.Memory) m what is = absurd (cc is)

@@ -86,8 +86,7 @@ fn mul_op(mark: Mark) -> Option<Op>
 impl Parser<'_> {
     /// The operator of the rule that may stand here.
     fn operator(&mut self, binary: Binary) -> Option<Operator>
-        ensures found { ReadsSome result self.old.rest.now self.new.rest.now (operators_of binary self.old.rest.now) }
-        ensures shorter { IfSome result (λ _. length self.new.rest.now < length self.old.rest.now) }
+        ensures { ReadsSome result self.old.rest.now self.new.rest.now (operators_of binary self.old.rest.now) }
     {
         let [first, rest @ ..] = self.rest else {
             return None;
@@ -103,7 +102,7 @@ impl Parser<'_> {
 
     /// A number of i64 without a sign.
     fn number(number: u64) -> Result<Draft, TextRefusal>
-        ensures reads { (rest : List Token) → Reads seen result rest (number_atom 512 number rest) }
+        ensures { (rest : List Token) → Reads seen result rest (number_atom 512 number rest) }
     {
         match i64::try_from(number) {
             Ok(number) => Ok(one(NamedExpr::Literal(Cell::Int(number)))),
@@ -113,8 +112,7 @@ impl Parser<'_> {
 
     /// A number behind its sign.
     fn signed(&mut self) -> Result<Draft, TextRefusal>
-        ensures reads { Reads seen result self.new.rest.now (minus_atom 512 self.old.rest.now) }
-        ensures no_longer { IfOk result (λ _. length self.new.rest.now ≤ length self.old.rest.now) }
+        ensures { Reads seen result self.new.rest.now (minus_atom 512 self.old.rest.now) }
     {
         let [Token::Number(number), rest @ ..] = self.rest else {
             return Err(TextRefusal::Syntax);
@@ -129,8 +127,7 @@ impl Parser<'_> {
     /// An argument up to a comma.
     #[cycle(expression)]
     fn argument(&mut self, levels: u32) -> Result<Draft, TextRefusal>
-        ensures reads { Reads seen result self.new.rest.now (argument (inner 512 levels) self.old.rest.now) }
-        ensures no_longer { IfOk result (λ _. length self.new.rest.now ≤ length self.old.rest.now) }
+        ensures { Reads seen result self.new.rest.now (argument (inner 512 levels) self.old.rest.now) }
     {
         let draft = self.within(levels)?;
         if self.pass(Terminal::Comma) {
@@ -143,8 +140,7 @@ impl Parser<'_> {
     /// The last argument, up to the parenthesis that closes.
     #[cycle(expression)]
     fn last_argument(&mut self, levels: u32) -> Result<Draft, TextRefusal>
-        ensures reads { Reads seen result self.new.rest.now (last_argument (inner 512 levels) self.old.rest.now) }
-        ensures no_longer { IfOk result (λ _. length self.new.rest.now ≤ length self.old.rest.now) }
+        ensures { Reads seen result self.new.rest.now (last_argument (inner 512 levels) self.old.rest.now) }
     {
         let draft = self.within(levels)?;
         self.need(Terminal::Close)?;
@@ -155,8 +151,7 @@ impl Parser<'_> {
     #[cycle(expression)]
     #[tactic(auto, using(crate::proofs::ReadingLemmas::inner_expr))]
     fn within(&mut self, levels: u32) -> Result<Draft, TextRefusal>
-        ensures reads { Reads seen result self.new.rest.now ((inner 512 levels).expr self.old.rest.now) }
-        ensures no_longer { IfOk result (λ _. length self.new.rest.now ≤ length self.old.rest.now) }
+        ensures { Reads seen result self.new.rest.now ((inner 512 levels).expr self.old.rest.now) }
     {
         if levels == 0 {
             return Err(TextRefusal::Syntax);
@@ -166,8 +161,7 @@ impl Parser<'_> {
 
     #[cycle(expression)]
     fn call1_at(&mut self, levels: u32, op: Op) -> Result<Draft, TextRefusal>
-        ensures reads { Reads seen result self.new.rest.now (call1_at 512 (inner 512 levels) op self.old.rest.now) }
-        ensures no_longer { IfOk result (λ _. length self.new.rest.now ≤ length self.old.rest.now) }
+        ensures { Reads seen result self.new.rest.now (call1_at 512 (inner 512 levels) op self.old.rest.now) }
     {
         let arg = self.last_argument(levels)?;
         Ok(call1(self.alloc, op, arg)?)
@@ -175,8 +169,7 @@ impl Parser<'_> {
 
     #[cycle(expression)]
     fn call2_at(&mut self, levels: u32, op: Op) -> Result<Draft, TextRefusal>
-        ensures reads { Reads seen result self.new.rest.now (call2_at 512 (inner 512 levels) op self.old.rest.now) }
-        ensures no_longer { IfOk result (λ _. length self.new.rest.now ≤ length self.old.rest.now) }
+        ensures { Reads seen result self.new.rest.now (call2_at 512 (inner 512 levels) op self.old.rest.now) }
     {
         let left = self.argument(levels)?;
         let right = self.last_argument(levels)?;
@@ -185,8 +178,7 @@ impl Parser<'_> {
 
     #[cycle(expression)]
     fn choice_at(&mut self, levels: u32) -> Result<Draft, TextRefusal>
-        ensures reads { Reads seen result self.new.rest.now (choice_at 512 (inner 512 levels) self.old.rest.now) }
-        ensures no_longer { IfOk result (λ _. length self.new.rest.now ≤ length self.old.rest.now) }
+        ensures { Reads seen result self.new.rest.now (choice_at 512 (inner 512 levels) self.old.rest.now) }
     {
         let test = self.argument(levels)?;
         let first = self.argument(levels)?;
@@ -197,8 +189,7 @@ impl Parser<'_> {
     /// What stands in the parentheses of this word's function.
     #[cycle(expression)]
     fn function(&mut self, levels: u32, word: Word) -> Result<Draft, TextRefusal>
-        ensures reads { Reads seen result self.new.rest.now (function_at 512 (inner 512 levels) word self.old.rest.now) }
-        ensures no_longer { IfOk result (λ _. length self.new.rest.now ≤ length self.old.rest.now) }
+        ensures { Reads seen result self.new.rest.now (function_at 512 (inner 512 levels) word self.old.rest.now) }
     {
         match word {
             Word::If => self.choice_at(levels),
@@ -214,8 +205,7 @@ impl Parser<'_> {
     /// What begins with this word.
     #[cycle(expression)]
     fn word_atom(&mut self, levels: u32, word: Word) -> Result<Draft, TextRefusal>
-        ensures reads { Reads seen result self.new.rest.now (word_atom 512 (inner 512 levels) word self.old.rest.now) }
-        ensures no_longer { IfOk result (λ _. length self.new.rest.now ≤ length self.old.rest.now) }
+        ensures { Reads seen result self.new.rest.now (word_atom 512 (inner 512 levels) word self.old.rest.now) }
     {
         match word {
             Word::True => Ok(one(NamedExpr::Literal(Cell::Bool(true)))),
@@ -230,8 +220,7 @@ impl Parser<'_> {
     /// What begins with this mark.
     #[cycle(expression)]
     fn mark_atom(&mut self, levels: u32, mark: Mark) -> Result<Draft, TextRefusal>
-        ensures reads { Reads seen result self.new.rest.now (mark_atom 512 (inner 512 levels) mark self.old.rest.now) }
-        ensures no_longer { IfOk result (λ _. length self.new.rest.now ≤ length self.old.rest.now) }
+        ensures { Reads seen result self.new.rest.now (mark_atom 512 (inner 512 levels) mark self.old.rest.now) }
     {
         match mark {
             Mark::Open => self.last_argument(levels),
@@ -242,8 +231,7 @@ impl Parser<'_> {
 
     #[cycle(expression)]
     fn atom(&mut self, levels: u32) -> Result<Draft, TextRefusal>
-        ensures reads { Reads seen result self.new.rest.now (atom_at 512 (inner 512 levels) self.old.rest.now) }
-        ensures no_longer { IfOk result (λ _. length self.new.rest.now ≤ length self.old.rest.now) }
+        ensures { Reads seen result self.new.rest.now (atom_at 512 (inner 512 levels) self.old.rest.now) }
     {
         let [first, rest @ ..] = self.rest else {
             return Err(TextRefusal::Syntax);
@@ -264,8 +252,7 @@ impl Parser<'_> {
     #[cycle(expression)]
     #[tactic(auto, using(crate::proofs::ReadingLemmas::inner_un))]
     fn un_within(&mut self, levels: u32) -> Result<Draft, TextRefusal>
-        ensures reads { Reads seen result self.new.rest.now ((inner 512 levels).un self.old.rest.now) }
-        ensures no_longer { IfOk result (λ _. length self.new.rest.now ≤ length self.old.rest.now) }
+        ensures { Reads seen result self.new.rest.now ((inner 512 levels).un self.old.rest.now) }
     {
         if levels == 0 {
             return Err(TextRefusal::Syntax);
@@ -276,8 +263,7 @@ impl Parser<'_> {
     /// What stands behind `-`.
     #[cycle(expression)]
     fn negated(&mut self, levels: u32) -> Result<Draft, TextRefusal>
-        ensures reads { Reads seen result self.new.rest.now (operated 512 Op.Neg ((inner 512 levels).un self.old.rest.now)) }
-        ensures no_longer { IfOk result (λ _. length self.new.rest.now ≤ length self.old.rest.now) }
+        ensures { Reads seen result self.new.rest.now (operated 512 Op.Neg ((inner 512 levels).un self.old.rest.now)) }
     {
         let arg = self.un_within(levels)?;
         Ok(call1(self.alloc, Op::Neg, arg)?)
@@ -285,8 +271,7 @@ impl Parser<'_> {
 
     #[cycle(expression)]
     fn un(&mut self, levels: u32) -> Result<Draft, TextRefusal>
-        ensures reads { Reads seen result self.new.rest.now (un_at 512 (inner 512 levels) self.old.rest.now) }
-        ensures no_longer { IfOk result (λ _. length self.new.rest.now ≤ length self.old.rest.now) }
+        ensures { Reads seen result self.new.rest.now (un_at 512 (inner 512 levels) self.old.rest.now) }
     {
         if self.pass(Terminal::Minus) {
             self.negated(levels)
@@ -297,24 +282,21 @@ impl Parser<'_> {
 
     #[cycle(expression)]
     fn mul(&mut self, levels: u32) -> Result<Draft, TextRefusal>
-        ensures reads { Reads seen result self.new.rest.now (mul_at 512 (inner 512 levels) self.old.rest.now) }
-        ensures no_longer { IfOk result (λ _. length self.new.rest.now ≤ length self.old.rest.now) }
+        ensures { Reads seen result self.new.rest.now (mul_at 512 (inner 512 levels) self.old.rest.now) }
     {
         self.operands(Binary::Mul, levels)
     }
 
     #[cycle(expression)]
     fn sum(&mut self, levels: u32) -> Result<Draft, TextRefusal>
-        ensures reads { Reads seen result self.new.rest.now (sum_at 512 (inner 512 levels) self.old.rest.now) }
-        ensures no_longer { IfOk result (λ _. length self.new.rest.now ≤ length self.old.rest.now) }
+        ensures { Reads seen result self.new.rest.now (sum_at 512 (inner 512 levels) self.old.rest.now) }
     {
         self.operands(Binary::Sum, levels)
     }
 
     #[cycle(expression)]
     fn cmp(&mut self, levels: u32) -> Result<Draft, TextRefusal>
-        ensures reads { Reads seen result self.new.rest.now (cmp_at 512 (inner 512 levels) self.old.rest.now) }
-        ensures no_longer { IfOk result (λ _. length self.new.rest.now ≤ length self.old.rest.now) }
+        ensures { Reads seen result self.new.rest.now (cmp_at 512 (inner 512 levels) self.old.rest.now) }
     {
         let left = self.sum(levels)?;
         match self.operator(Binary::Compare) {
@@ -327,8 +309,7 @@ impl Parser<'_> {
     #[cycle(expression)]
     #[tactic(auto, using(crate::proofs::ReadingLemmas::inner_not))]
     fn not_within(&mut self, levels: u32) -> Result<Draft, TextRefusal>
-        ensures reads { Reads seen result self.new.rest.now ((inner 512 levels).not self.old.rest.now) }
-        ensures no_longer { IfOk result (λ _. length self.new.rest.now ≤ length self.old.rest.now) }
+        ensures { Reads seen result self.new.rest.now ((inner 512 levels).not self.old.rest.now) }
     {
         if levels == 0 {
             return Err(TextRefusal::Syntax);
@@ -339,8 +320,7 @@ impl Parser<'_> {
     /// What stands behind `not`.
     #[cycle(expression)]
     fn denied(&mut self, levels: u32) -> Result<Draft, TextRefusal>
-        ensures reads { Reads seen result self.new.rest.now (operated 512 Op.Not ((inner 512 levels).not self.old.rest.now)) }
-        ensures no_longer { IfOk result (λ _. length self.new.rest.now ≤ length self.old.rest.now) }
+        ensures { Reads seen result self.new.rest.now (operated 512 Op.Not ((inner 512 levels).not self.old.rest.now)) }
     {
         let arg = self.not_within(levels)?;
         Ok(call1(self.alloc, Op::Not, arg)?)
@@ -348,8 +328,7 @@ impl Parser<'_> {
 
     #[cycle(expression)]
     fn not(&mut self, levels: u32) -> Result<Draft, TextRefusal>
-        ensures reads { Reads seen result self.new.rest.now (not_at 512 (inner 512 levels) self.old.rest.now) }
-        ensures no_longer { IfOk result (λ _. length self.new.rest.now ≤ length self.old.rest.now) }
+        ensures { Reads seen result self.new.rest.now (not_at 512 (inner 512 levels) self.old.rest.now) }
     {
         if self.pass(Terminal::Not) {
             self.denied(levels)
@@ -360,16 +339,14 @@ impl Parser<'_> {
 
     #[cycle(expression)]
     fn and(&mut self, levels: u32) -> Result<Draft, TextRefusal>
-        ensures reads { Reads seen result self.new.rest.now (and_at 512 (inner 512 levels) self.old.rest.now) }
-        ensures no_longer { IfOk result (λ _. length self.new.rest.now ≤ length self.old.rest.now) }
+        ensures { Reads seen result self.new.rest.now (and_at 512 (inner 512 levels) self.old.rest.now) }
     {
         self.operands(Binary::And, levels)
     }
 
     #[cycle(expression)]
     pub(crate) fn expr(&mut self, levels: u32) -> Result<Draft, TextRefusal>
-        ensures reads { Reads seen result self.new.rest.now (expr_at 512 (inner 512 levels) self.old.rest.now) }
-        ensures no_longer { IfOk result (λ _. length self.new.rest.now ≤ length self.old.rest.now) }
+        ensures { Reads seen result self.new.rest.now (expr_at 512 (inner 512 levels) self.old.rest.now) }
     {
         self.operands(Binary::Or, levels)
     }
@@ -377,8 +354,7 @@ impl Parser<'_> {
     /// An operand of the rule.
     #[cycle(expression)]
     fn operand(&mut self, binary: Binary, levels: u32) -> Result<Draft, TextRefusal>
-        ensures reads { Reads seen result self.new.rest.now (operand_of 512 (inner 512 levels) binary self.old.rest.now) }
-        ensures no_longer { IfOk result (λ _. length self.new.rest.now ≤ length self.old.rest.now) }
+        ensures { Reads seen result self.new.rest.now (operand_of 512 (inner 512 levels) binary self.old.rest.now) }
     {
         match binary {
             Binary::Or => self.and(levels),
@@ -398,9 +374,8 @@ impl Parser<'_> {
         operator: Operator,
         left: Draft,
     ) -> Result<Draft, TextRefusal>
-        ensures reads { Reads seen result self.new.rest.now
+        ensures { Reads seen result self.new.rest.now
             (operand_onto 512 (operand_of 512 (inner 512 levels) binary) operator (seen left) self.old.rest.now) }
-        ensures no_longer { IfOk result (λ _. length self.new.rest.now ≤ length self.old.rest.now) }
     {
         let right = self.operand(binary, levels)?;
         Ok(join(self.alloc, operator, left, right)?)
@@ -409,14 +384,17 @@ impl Parser<'_> {
     /// Operands of the rule with its operators between them, to the left.
     #[cycle(expression)]
     fn operands(&mut self, binary: Binary, levels: u32) -> Result<Draft, TextRefusal>
-        ensures reads { Reads seen result self.new.rest.now
+        ensures { Reads seen result self.new.rest.now
             (left_at 512 (operators_of binary) (operand_of 512 (inner 512 levels) binary) self.old.rest.now) }
-        ensures no_longer { IfOk result (λ _. length self.new.rest.now ≤ length self.old.rest.now) }
     {
         let mut draft = self.operand(binary, levels)?;
-        while let Some(operator) = self.operator(binary) {
+        let turns = self.rest.len() + 1;
+        for _ in 0..turns {
+            let Some(operator) = self.operator(binary) else {
+                return Ok(draft);
+            };
             draft = self.operand_onto(binary, levels, operator, draft)?;
         }
-        Ok(draft)
+        Err(TextRefusal::Syntax)
     }
 }

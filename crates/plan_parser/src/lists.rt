@@ -16,8 +16,7 @@ pub trait Item: Sized + Drop {
 
     /// The item that must stand here, within which at most so many levels may be open.
     fn read(parser: &mut Parser, levels: u32) -> Result<Self, TextRefusal>
-        ensures reads { Reads (λ item. item) result parser.new.rest.now (item_at levels parser.old.rest.now) }
-        ensures no_longer { IfOk result (λ _. length parser.new.rest.now ≤ length parser.old.rest.now) };
+        ensures { Reads (λ item. item) result parser.new.rest.now (item_at levels parser.old.rest.now) };
 }
 
 impl Item for Name {
@@ -90,16 +89,28 @@ fn count_of(name: &[u8]) -> Option<NamedAgg>
 }
 
 impl Parser<'_> {
+    /// One item more.
+    fn item_onto<T: Item>(&mut self, levels: u32, items: Vec<T>) -> Result<Vec<T>, TextRefusal>
+        ensures { Reads items_of result self.new.rest.now
+            (item_onto (T.item_at levels) at_end items.items self.old.rest.now) }
+    {
+        let item = T::read(self, levels)?;
+        Ok(pushed(items, item)?)
+    }
+
     /// Items with commas between them.
     pub(crate) fn list<T: Item>(&mut self, levels: u32) -> Result<Vec<T>, TextRefusal>
-        ensures reads { Reads items_of result self.new.rest.now (list_at (T.item_at levels) at_end [] self.old.rest.now) }
-        ensures no_longer { IfOk result (λ _. length self.new.rest.now ≤ length self.old.rest.now) }
+        ensures { Reads items_of result self.new.rest.now (list_at (T.item_at levels) at_end [] self.old.rest.now) }
     {
-        let mut items = pushed(Vec::new(self.alloc), T::read(self, levels)?)?;
-        while self.pass(Terminal::Comma) {
-            items = pushed(items, T::read(self, levels)?)?;
+        let mut items = self.item_onto(levels, Vec::new(self.alloc))?;
+        let turns = self.rest.len() + 1;
+        for _ in 0..turns {
+            if !self.pass(Terminal::Comma) {
+                return Ok(items);
+            }
+            items = self.item_onto(levels, items)?;
         }
-        Ok(items)
+        Err(TextRefusal::Syntax)
     }
 
     /// One column more of a projection.
@@ -108,9 +119,8 @@ impl Parser<'_> {
         levels: u32,
         columns: ColumnsDraft,
     ) -> Result<ColumnsDraft, TextRefusal>
-        ensures reads { Reads seen_columns result self.new.rest.now
+        ensures { Reads seen_columns result self.new.rest.now
             (item_onto (column_at 512 levels) (with_column 512) (seen_columns columns) self.old.rest.now) }
-        ensures no_longer { IfOk result (λ _. length self.new.rest.now ≤ length self.old.rest.now) }
     {
         let name = self.named()?;
         let expr = self.expr(levels)?;
@@ -119,20 +129,22 @@ impl Parser<'_> {
 
     /// The columns of a projection.
     pub(crate) fn columns(&mut self, levels: u32) -> Result<ColumnsDraft, TextRefusal>
-        ensures reads { Reads seen_columns result self.new.rest.now (columns_at 512 levels self.old.rest.now) }
-        ensures no_longer { IfOk result (λ _. length self.new.rest.now ≤ length self.old.rest.now) }
+        ensures { Reads seen_columns result self.new.rest.now (columns_at 512 levels self.old.rest.now) }
     {
         let mut columns = self.column_onto(levels, ColumnsDraft::new(self.alloc))?;
-        while self.pass(Terminal::Comma) {
+        let turns = self.rest.len() + 1;
+        for _ in 0..turns {
+            if !self.pass(Terminal::Comma) {
+                return Ok(columns);
+            }
             columns = self.column_onto(levels, columns)?;
         }
-        Ok(columns)
+        Err(TextRefusal::Syntax)
     }
 
     /// Passes the `desc` that may stand behind a key's column.
     fn desc(&mut self) -> bool
-        ensures reads { (column : List ℕ) → Some (record { column = column; down = result }, self.new.rest.now) ≡ key_of column self.old.rest.now }
-        ensures no_longer { length self.new.rest.now ≤ length self.old.rest.now }
+        ensures { (column : List ℕ) → Some (record { column = column; down = result }, self.new.rest.now) ≡ key_of column self.old.rest.now }
     {
         match self.rest {
             [Token::Word(Word::Desc), rest @ ..] => {
@@ -146,8 +158,7 @@ impl Parser<'_> {
     /// An aggregate. Its parentheses are a level.
     #[tactic(auto, using(crate::proofs::StageLemmas::agg_with_levels))]
     fn agg(&mut self, levels: u32) -> Result<NamedAgg, TextRefusal>
-        ensures reads { Reads (λ agg. agg) result self.new.rest.now (agg_at levels self.old.rest.now) }
-        ensures no_longer { IfOk result (λ _. length self.new.rest.now ≤ length self.old.rest.now) }
+        ensures { Reads (λ agg. agg) result self.new.rest.now (agg_at levels self.old.rest.now) }
     {
         if levels == 0 {
             return Err(TextRefusal::Syntax);
@@ -159,8 +170,7 @@ impl Parser<'_> {
 
     /// What stands in the parentheses of the aggregate with this name, up to the one that closes.
     fn agg_argument(&mut self, name: &[u8]) -> Result<NamedAgg, TextRefusal>
-        ensures reads { Reads (λ agg. agg) result self.new.rest.now (argument_at name.now self.old.rest.now) }
-        ensures no_longer { IfOk result (λ _. length self.new.rest.now ≤ length self.old.rest.now) }
+        ensures { Reads (λ agg. agg) result self.new.rest.now (argument_at name.now self.old.rest.now) }
     {
         match self.rest {
             [Token::Name(column), rest @ ..] => {
@@ -173,8 +183,7 @@ impl Parser<'_> {
 
     /// The aggregate, if there is one, up to the parenthesis that closes.
     fn closed(&mut self, agg: Option<NamedAgg>) -> Result<NamedAgg, TextRefusal>
-        ensures reads { Reads (λ agg. agg) result self.new.rest.now (closed_at agg self.old.rest.now) }
-        ensures no_longer { IfOk result (λ _. length self.new.rest.now ≤ length self.old.rest.now) }
+        ensures { Reads (λ agg. agg) result self.new.rest.now (closed_at agg self.old.rest.now) }
     {
         let Some(agg) = agg else {
             return Err(TextRefusal::Syntax);

@@ -5,7 +5,7 @@ ghost use Rattle.plan_grammar.specs.PlainNamed.{PlainExpr, PlainTree, expr_of, t
 ghost use Rattle.plan_grammar.specs.Counts.{expr_nodes, IsFirstPassed, IsWithinLimits};
 ghost use Rattle.plan_parser.specs.Reading.{expr_at, inner};
 ghost use Rattle.plan_grammar.specs.Spelled.{SpellsExpr, SpellsText};
-ghost use Rattle.plan_parser.specs.Answer.{MeansWhole, MeansPlan};
+ghost use Rattle.plan_parser.specs.Answer.{MeansWhole, Means, whole_reading, text_reading};
 ghost use Rattle.plan_parser.specs.PlanDraft.{limits};
 ghost use Rattle.plan_parser.specs.PlanReading.{plan_at};
 
@@ -23,35 +23,27 @@ const MAX_LEVELS: u32 = 32;
 /// The plan that a text spells, with spaces before, between and behind its tokens: `Syntax` exactly where it spells none,
 /// else `Limit` exactly where the plan as written has more than 40 nodes, more than 8 wide ones or more than 512 expression
 /// nodes, with the first of these. `Memory` may come in place of any of these, where memory was asked for and refused. The
-/// grammar and the limits are this project's own. No text spells two plans, as `one_plan` says.
+/// grammar and the limits are this project's own. No text spells two plans, as `one_plan` says; `reading` says the same of
+/// the text by a function of its bytes.
 pub fn parse_plan(alloc: Global, text: &[u8]) -> Result<NamedPlan, TextRefusal>
+    ensures reading { Means (λ plan. plan) result (text_reading text.now) }
     ensures found { IfOk result (λ plan. SpellsText plan text.now × IsWithinLimits plan) }
     ensures syntax { IsErrOf result TextRefusal.Syntax → ((plan : PlainTree) → SpellsText plan text.now → ⊥) }
     ensures limit { (what : PlanLimit) → IsErrOf result (TextRefusal.Limit what) →
         ((plan : PlainTree) × SpellsText plan text.now × IsFirstPassed what plan) }
 {
-    match tree_of_text(alloc, text) {
-        Ok(tree) => match NamedPlan::new(alloc, tree) {
-            Ok(plan) => Ok(plan),
-            Err(_) => Err(TextRefusal::Memory),
-        },
-        Err(refusal) => Err(refusal),
-    }
+    let tree = tree_of_text(alloc, text)?;
+    Ok(NamedPlan::new(alloc, tree)?)
 }
 
 /// The operators of the plan that a text spells.
 fn tree_of_text(alloc: Global, text: &[u8]) -> Result<NamedTree, TextRefusal>
-    ensures found { IfOk result (λ tree. SpellsText (tree_of tree) text.now × IsWithinLimits (tree_of tree)) }
-    ensures syntax { IsErrOf result TextRefusal.Syntax → ((plan : PlainTree) → SpellsText plan text.now → ⊥) }
-    ensures limit { (what : PlanLimit) → IsErrOf result (TextRefusal.Limit what) →
-        ((plan : PlainTree) × SpellsText plan text.now × IsFirstPassed what plan) }
+    ensures { Means tree_of result (text_reading text.now) }
 {
-    let tokens = match tokens_of(alloc, text) {
-        Ok(Some(tokens)) => tokens,
-        Ok(None) => return Err(TextRefusal::Syntax),
-        Err(_) => return Err(TextRefusal::Memory),
-    };
-    whole_plan(alloc, tokens.as_slice())
+    match tokens_of(alloc, text)? {
+        Some(tokens) => whole_plan(alloc, tokens.as_slice()),
+        None => Err(TextRefusal::Syntax),
+    }
 }
 
 /// The expression that a text spells, with spaces before, between and behind its tokens: `Syntax` exactly where it spells
@@ -90,7 +82,7 @@ fn whole_expr(alloc: Global, tokens: &[Token]) -> Result<NamedExpr, TextRefusal>
 
 /// The plan that the tokens are.
 fn whole_plan(alloc: Global, tokens: &[Token]) -> Result<NamedTree, TextRefusal>
-    ensures { MeansPlan result (plan_at limits 32 tokens.now) }
+    ensures { Means tree_of result (whole_reading (plan_at limits 32 tokens.now)) }
 {
     let mut parser = Parser::new(alloc, tokens);
     let draft = parser.plan(MAX_LEVELS)?;

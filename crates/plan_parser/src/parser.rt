@@ -68,9 +68,7 @@ impl<'a> Parser<'a> {
 
     /// Passes the terminal that may stand here.
     pub(crate) fn pass(&mut self, terminal: Terminal) -> bool
-        ensures reads { Passes result self.old.rest.now self.new.rest.now (terminal_at terminal self.old.rest.now) }
-        ensures no_longer { length self.new.rest.now ≤ length self.old.rest.now }
-        ensures shorter { IsTrue result → length self.new.rest.now < length self.old.rest.now }
+        ensures { Passes result self.old.rest.now self.new.rest.now (terminal_at terminal self.old.rest.now) }
     {
         let [first, rest @ ..] = self.rest else {
             return false;
@@ -84,8 +82,7 @@ impl<'a> Parser<'a> {
 
     /// Passes the terminal that must stand here.
     pub(crate) fn need(&mut self, terminal: Terminal) -> Result<(), TextRefusal>
-        ensures reads { Reads (λ _. tt) result self.new.rest.now (terminal_at terminal self.old.rest.now) }
-        ensures no_longer { OnOk result (length self.new.rest.now ≤ length self.old.rest.now) }
+        ensures { Reads (λ _. tt) result self.new.rest.now (terminal_at terminal self.old.rest.now) }
     {
         if self.pass(terminal) {
             Ok(())
@@ -96,8 +93,7 @@ impl<'a> Parser<'a> {
 
     /// The name that must stand here.
     pub(crate) fn name(&mut self) -> Result<Name, TextRefusal>
-        ensures reads { Reads (λ name. name) result self.new.rest.now (name_at self.old.rest.now) }
-        ensures no_longer { OnOk result (length self.new.rest.now ≤ length self.old.rest.now) }
+        ensures { Reads (λ name. name) result self.new.rest.now (name_at self.old.rest.now) }
     {
         match self.rest {
             [Token::Name(name), rest @ ..] => {
@@ -110,8 +106,7 @@ impl<'a> Parser<'a> {
 
     /// The name and the `=` that must stand here.
     pub(crate) fn named(&mut self) -> Result<Name, TextRefusal>
-        ensures reads { Reads (λ name. name) result self.new.rest.now (named_at self.old.rest.now) }
-        ensures no_longer { OnOk result (length self.new.rest.now ≤ length self.old.rest.now) }
+        ensures { Reads (λ name. name) result self.new.rest.now (named_at self.old.rest.now) }
     {
         match self.rest {
             [Token::Name(name), Token::Mark(Mark::Equal), rest @ ..] => {

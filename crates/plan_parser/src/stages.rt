@@ -16,8 +16,7 @@ use plan_grammar::{Token, Word};
 impl Parser<'_> {
     /// The stream that a plan begins with.
     fn from(&mut self) -> Result<PlanDraft, TextRefusal>
-        ensures reads { Reads seen_plan result self.new.rest.now (from_at limits self.old.rest.now) }
-        ensures no_longer { IfOk result (λ _. length self.new.rest.now ≤ length self.old.rest.now) }
+        ensures { Reads seen_plan result self.new.rest.now (from_at limits self.old.rest.now) }
     {
         match self.rest {
             [Token::Word(Word::From), rest @ ..] => {
@@ -30,8 +29,7 @@ impl Parser<'_> {
 
     /// A test, behind `where`.
     fn where_stage(&mut self, levels: u32, plan: PlanDraft) -> Result<PlanDraft, TextRefusal>
-        ensures reads { Reads seen_plan result self.new.rest.now (where_at limits levels (seen_plan plan) self.old.rest.now) }
-        ensures no_longer { IfOk result (λ _. length self.new.rest.now ≤ length self.old.rest.now) }
+        ensures { Reads seen_plan result self.new.rest.now (where_at limits levels (seen_plan plan) self.old.rest.now) }
     {
         let test = self.expr(levels)?;
         Ok(filtered(self.alloc, plan, test)?)
@@ -39,8 +37,7 @@ impl Parser<'_> {
 
     /// Columns, behind `select`.
     fn select_stage(&mut self, levels: u32, plan: PlanDraft) -> Result<PlanDraft, TextRefusal>
-        ensures reads { Reads seen_plan result self.new.rest.now (select_at limits levels (seen_plan plan) self.old.rest.now) }
-        ensures no_longer { IfOk result (λ _. length self.new.rest.now ≤ length self.old.rest.now) }
+        ensures { Reads seen_plan result self.new.rest.now (select_at limits levels (seen_plan plan) self.old.rest.now) }
     {
         let columns = self.columns(levels)?;
         Ok(projected(self.alloc, plan, columns)?)
@@ -48,8 +45,7 @@ impl Parser<'_> {
 
     /// Keys and aggregates, behind `group`.
     fn group_stage(&mut self, levels: u32, plan: PlanDraft) -> Result<PlanDraft, TextRefusal>
-        ensures reads { Reads seen_plan result self.new.rest.now (group_at limits levels (seen_plan plan) self.old.rest.now) }
-        ensures no_longer { IfOk result (λ _. length self.new.rest.now ≤ length self.old.rest.now) }
+        ensures { Reads seen_plan result self.new.rest.now (group_at limits levels (seen_plan plan) self.old.rest.now) }
     {
         let keys = self.list(levels)?;
         self.need(Terminal::With)?;
@@ -59,8 +55,7 @@ impl Parser<'_> {
 
     /// Keys, behind `order`.
     fn order_stage(&mut self, levels: u32, plan: PlanDraft) -> Result<PlanDraft, TextRefusal>
-        ensures reads { Reads seen_plan result self.new.rest.now (order_at limits (seen_plan plan) self.old.rest.now) }
-        ensures no_longer { IfOk result (λ _. length self.new.rest.now ≤ length self.old.rest.now) }
+        ensures { Reads seen_plan result self.new.rest.now (order_at limits (seen_plan plan) self.old.rest.now) }
     {
         let keys = self.list(levels)?;
         Ok(ordered(self.alloc, plan, keys)?)
@@ -70,8 +65,7 @@ impl Parser<'_> {
     #[cycle(plan)]
     #[tactic(auto, using(crate::proofs::StageLemmas::inner_plan_with_levels))]
     fn plan_within(&mut self, levels: u32) -> Result<PlanDraft, TextRefusal>
-        ensures reads { Reads seen_plan result self.new.rest.now (inner_plan limits levels self.old.rest.now) }
-        ensures no_longer { IfOk result (λ _. length self.new.rest.now ≤ length self.old.rest.now) }
+        ensures { Reads seen_plan result self.new.rest.now (inner_plan limits levels self.old.rest.now) }
     {
         if levels == 0 {
             return Err(TextRefusal::Syntax);
@@ -82,8 +76,7 @@ impl Parser<'_> {
     /// A plan and its parentheses.
     #[cycle(plan)]
     fn inner_plan(&mut self, levels: u32) -> Result<PlanDraft, TextRefusal>
-        ensures reads { Reads seen_plan result self.new.rest.now (inner_plan_at (inner_plan limits levels) self.old.rest.now) }
-        ensures no_longer { IfOk result (λ _. length self.new.rest.now ≤ length self.old.rest.now) }
+        ensures { Reads seen_plan result self.new.rest.now (inner_plan_at (inner_plan limits levels) self.old.rest.now) }
     {
         self.need(Terminal::Open)?;
         let plan = self.plan_within(levels)?;
@@ -94,8 +87,7 @@ impl Parser<'_> {
     /// The other plan and the pairs, behind `join`.
     #[cycle(plan)]
     fn join_stage(&mut self, levels: u32, plan: PlanDraft) -> Result<PlanDraft, TextRefusal>
-        ensures reads { Reads seen_plan result self.new.rest.now (join_at limits (inner_plan limits levels) (seen_plan plan) self.old.rest.now) }
-        ensures no_longer { IfOk result (λ _. length self.new.rest.now ≤ length self.old.rest.now) }
+        ensures { Reads seen_plan result self.new.rest.now (join_at limits (inner_plan limits levels) (seen_plan plan) self.old.rest.now) }
     {
         let right = self.inner_plan(levels)?;
         self.need(Terminal::On)?;
@@ -106,8 +98,7 @@ impl Parser<'_> {
     /// The other plan, behind `concat`.
     #[cycle(plan)]
     fn concat_stage(&mut self, levels: u32, plan: PlanDraft) -> Result<PlanDraft, TextRefusal>
-        ensures reads { Reads seen_plan result self.new.rest.now (concat_at limits (inner_plan limits levels) (seen_plan plan) self.old.rest.now) }
-        ensures no_longer { IfOk result (λ _. length self.new.rest.now ≤ length self.old.rest.now) }
+        ensures { Reads seen_plan result self.new.rest.now (concat_at limits (inner_plan limits levels) (seen_plan plan) self.old.rest.now) }
     {
         let right = self.inner_plan(levels)?;
         Ok(concatenated(self.alloc, plan, right)?)
@@ -121,9 +112,8 @@ impl Parser<'_> {
         plan: PlanDraft,
         word: Word,
     ) -> Result<PlanDraft, TextRefusal>
-        ensures reads { Reads seen_plan result self.new.rest.now
+        ensures { Reads seen_plan result self.new.rest.now
             (stage_at limits (inner_plan limits levels) levels (seen_plan plan) (token.Word word ∷ self.old.rest.now)) }
-        ensures no_longer { IfOk result (λ _. length self.new.rest.now ≤ length self.old.rest.now) }
     {
         match word {
             Word::Where => self.where_stage(levels, plan),
@@ -140,9 +130,8 @@ impl Parser<'_> {
     /// A stage on the plan before it.
     #[cycle(plan)]
     fn stage(&mut self, levels: u32, plan: PlanDraft) -> Result<PlanDraft, TextRefusal>
-        ensures reads { Reads seen_plan result self.new.rest.now
+        ensures { Reads seen_plan result self.new.rest.now
             (stage_at limits (inner_plan limits levels) levels (seen_plan plan) self.old.rest.now) }
-        ensures no_longer { IfOk result (λ _. length self.new.rest.now ≤ length self.old.rest.now) }
     {
         match self.rest {
             [Token::Word(word), rest @ ..] => {
@@ -155,13 +144,16 @@ impl Parser<'_> {
 
     #[cycle(plan)]
     pub(crate) fn plan(&mut self, levels: u32) -> Result<PlanDraft, TextRefusal>
-        ensures reads { Reads seen_plan result self.new.rest.now (plan_at limits levels self.old.rest.now) }
-        ensures no_longer { IfOk result (λ _. length self.new.rest.now ≤ length self.old.rest.now) }
+        ensures { Reads seen_plan result self.new.rest.now (plan_at limits levels self.old.rest.now) }
     {
         let mut plan = self.from()?;
-        while self.pass(Terminal::Bar) {
+        let turns = self.rest.len() + 1;
+        for _ in 0..turns {
+            if !self.pass(Terminal::Bar) {
+                return Ok(plan);
+            }
             plan = self.stage(levels, plan)?;
         }
-        Ok(plan)
+        Err(TextRefusal::Syntax)
     }
 }

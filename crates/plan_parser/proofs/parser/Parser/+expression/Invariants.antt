@@ -1,11 +1,11 @@
--- Each call within a construct has one level less; the other calls go down the rules. The loop has read what its draft and
--- the rest say, and turns are left for the rest.
-use Rattle.std.proofs.Common.{ℕ, ◌+◌, ◌*◌, ◌≤◌, length}
+-- Each call within a construct has one level less; the other calls go down the rules. What the loop reads in the turns that
+-- are left is what it reads in all.
+use Rattle.std.proofs.Common.{◌≡◌, ℕ, ◌+◌, ◌-◌, ◌*◌}
 use Rattle.plan_parser.specs.declared.expressions.Binary.{Binary}
 use Rattle.plan_parser.specs.declared.expressions.Binary.TheVariants as binary
 use Rattle.plan_parser.specs.Draft.{seen}
 use Rattle.plan_parser.specs.Reading.{inner, operators_of, operand_of, operand_onto, left_at}
-use Rattle.plan_parser.proofs.RepeatLemmas.{Repeats}
+use Rattle.plan_parser.specs.Reader.{repeated}
 use Rattle.plan_parser.proofs.parser.Parser.+expression.Given as goal
 
 -- how far a rule is from the tightest one
@@ -88,11 +88,8 @@ decreases-denied l = 32 * l.levels + 1
 abbrev pub decreases-not_within : goal.decreases-not_within
 decreases-not_within l = 32 * l.levels
 
-abbrev pub invariant-operands-loop-operator : goal.invariant-operands-loop-operator
-invariant-operands-loop-operator l =
-    Repeats (operators_of l.binary) (operand_onto 512 (operand_of 512 (inner 512 l.levels) l.binary))
-    (left_at 512 (operators_of l.binary) (operand_of 512 (inner 512 l.levels) l.binary) l.fn.self.rest.now) (seen l.draft) l.self.rest.now
-    × (length l.self.rest.now ≤ length l.fn.self.rest.now)
-
-abbrev pub decreases-operands-loop-operator : goal.decreases-operands-loop-operator
-decreases-operands-loop-operator l = length l.self.rest.now
+abbrev pub invariant-operands-loop : goal.invariant-operands-loop
+invariant-operands-loop l =
+    let item = operand_of 512 (inner 512 l.levels) l.binary in
+    left_at 512 (operators_of l.binary) item l.fn.self.rest.now
+    ≡ repeated (operators_of l.binary) (operand_onto 512 item) (l.turns - l.counter) (seen l.draft) l.self.rest.now
