@@ -13,7 +13,8 @@ use Rattle.row_blob.specs.declared.shape.AccKind.{AccKind}
 use Rattle.row_blob.specs.declared.shape.AccKind.TheVariants as acc_kind
 use Rattle.row_blob.specs.Spelling.{signed, row_spelling, acc_spelling, group_spelling, tagged_spelling}
 use Rattle.row_blob.specs.Reading.{◌>>=◌, number_at, value_at, row_at, count_at, sum_at, acc_at, accs_at, group_at, group_after, tagged_at}
-use Rattle.row_blob.specs.Kept.{row_eq, keys_of, last_left, AreEach, IsCount, IsSum, IsAcc, IsNextGroup, IsNextTagged}
+use Rattle.rows_core.specs.Value.{row_eq}
+use Rattle.row_blob.specs.Kept.{keys_of, last_left, AreEach, IsCount, IsSum, IsAcc, IsNextGroup, IsNextTagged}
 use Rattle.row_blob.proofs.Readers.{IsBytes, bind_ok, guard_ok, ok_is, Takes, IsReader, each_reader}
 use Rattle.row_blob.proofs.Fields.{wide64, number_reader, bounded_reader, or_parts}
 use Rattle.row_blob.proofs.RowLaws.{value_reader, row_reader}

@@ -18,7 +18,8 @@ use Rattle.row_blob.specs.declared.shape.Shape.{Shape}
 use Rattle.row_blob.specs.declared.shape.Shape.TheVariants as shape
 use Rattle.row_blob.specs.Spelling.{row_spelling, acc_spelling, group_spelling, tagged_spelling, opening}
 use Rattle.row_blob.specs.Reading.{◌>>=◌, Read, Reads, literal_at, number_at, bounded_at, row_at, group_at, group_after, accs_at, tagged_at, items_at, rows_at, groups_at, tagged_rows_at, ended, kept_at}
-use Rattle.row_blob.specs.Kept.{row_eq, keys_of, last_left, AreEach, IsRow, IsAcc}
+use Rattle.rows_core.specs.Value.{row_eq}
+use Rattle.row_blob.specs.Kept.{keys_of, last_left, AreEach, IsRow, IsAcc}
 use Rattle.row_blob.specs.Place.{IsGroupTo, IsTaggedTo, GoesOn, IsPlace}
 use Rattle.row_blob.proofs.Readers.{IsBytes, bind_ok, ok_is, IsReader}
 use Rattle.row_blob.proofs.Fields.{wide64, IsBetween, number_reader, bounded_reader}

@@ -1,15 +1,14 @@
 -- Which kept forms are of a shape, within the bounds of a file.
-use Rattle.std.specs.Prelude.{◌≡◌, ℕ, ℤ, pos, negsuc, ◌-◌, ◌^◌, ◌<◌, ◌≤◌, Bool, false, List, [], ◌∷◌, ◌++◌, length, map, slice_get, Option, Some, None, bytes_eq}
+use Rattle.std.specs.Prelude.{◌≡◌, ℕ, ℤ, pos, negsuc, ◌-◌, ◌^◌, ◌<◌, ◌≤◌, false, List, [], ◌∷◌, ◌++◌, length, map, slice_get, Option, Some, None}
 use Rattle.std.specs.Int.{w64}
 use Rattle.std.specs.Int.RustNames.{FitsSigned}
 use Rattle.std.specs.List.{list_any}
-use Rattle.std.specs.Ordering.{int_eq}
-use Rattle.std.specs.Cmp.Lexicographic.{pointwise}
 use Rattle.rows_core.specs.declared.kind.Kind as kind
 use Rattle.rows_core.specs.declared.kind.Kind.TheVariants as the_kind
 use Rattle.rows_core.specs.declared.value.Value.{Value}
 use Rattle.rows_core.specs.declared.value.Value.TheVariants as value
 use Rattle.rows_core.specs.Txt.{IsTxt}
+use Rattle.rows_core.specs.Value.{row_eq}
 use Rattle.row_blob.specs.declared.kept.Acc.{Acc}
 use Rattle.row_blob.specs.declared.kept.Acc.TheVariants as acc
 use Rattle.row_blob.specs.declared.kept.GroupRow.{GroupRow}
@@ -53,15 +52,6 @@ IsAcc acc_kind.Sum (acc.Sum s) = IsSum s
 IsAcc acc_kind.Avg (acc.Avg s n) = IsSum s × IsCount n
 IsAcc (acc_kind.Pick kind) (acc.Pick v) = IsValue kind v
 IsAcc _ _ = ⊥
-
-abbrev pub value_eq : Value → Value → Bool
-value_eq (value.Int a) (value.Int b) = int_eq a b
-value_eq (value.Int a) (value.Text t) = false
-value_eq (value.Text s) (value.Int b) = false
-value_eq (value.Text s) (value.Text t) = bytes_eq s t
-
-abbrev pub row_eq : List Value → List Value → Bool
-row_eq = pointwise value_eq
 
 abbrev pub keys_of : List GroupRow → List (List Value)
 keys_of groups = map (λ group. group.key) groups

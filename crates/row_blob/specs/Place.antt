@@ -14,7 +14,8 @@ use Rattle.row_blob.specs.declared.shape.AccKind.{AccKind}
 use Rattle.row_blob.specs.declared.shape.Shape.{Shape}
 use Rattle.row_blob.specs.declared.shape.Shape.TheVariants as shape
 use Rattle.row_blob.specs.Spelling.{row_spelling, group_spelling, tagged_spelling, kept_spelling}
-use Rattle.row_blob.specs.Kept.{row_eq, keys_of, last_left, AreEach, AreInOrder, IsRow, IsAcc, IsKept}
+use Rattle.rows_core.specs.Value.{row_eq}
+use Rattle.row_blob.specs.Kept.{keys_of, last_left, AreEach, AreInOrder, IsRow, IsAcc, IsKept}
 
 -- a group behind those before it: its key is new, if it ends within the first n bytes
 abbrev pub IsGroupTo : List kind.Kind → List AccKind → ℕ → List GroupRow → GroupRow → Type 0

@@ -26,7 +26,8 @@ use Rattle.row_blob.specs.declared.refusal.Unread.{Unread}
 use Rattle.row_blob.specs.declared.refusal.Unread.TheVariants.{Left, Memory}
 use Rattle.row_blob.specs.declared.text.Followers.{Followers}
 use Rattle.row_blob.specs.Spelling.{opening}
-use Rattle.row_blob.specs.Kept.{row_eq, keys_of, last_left}
+use Rattle.rows_core.specs.Value.{row_eq}
+use Rattle.row_blob.specs.Kept.{keys_of, last_left}
 
 infixl 10 ◌>>=◌
 abbrev pub ◌>>=◌ : {A B : Type 0} → Result A ℕ → (A → Result B ℕ) → Result B ℕ

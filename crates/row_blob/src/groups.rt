@@ -2,7 +2,7 @@
 ghost use Rattle.std.specs.Prelude.{◌≡◌, [], ◌∷◌, ◌++◌, IfOk, IsTrue, not};
 ghost use Rattle.std.specs.List.{list_any};
 ghost use Rattle.row_blob.specs.Reading.{Gives, acc_at, accs_at, group_at, groups_at, group_after, items_at};
-ghost use Rattle.row_blob.specs.Kept.{row_eq};
+ghost use Rattle.rows_core.specs.Value.{row_eq};
 
 use crate::kept::{Acc, GroupRow};
 use crate::number::{count_at, sum_at, u64_at};

@@ -1,2 +1,1 @@
-pub mod Equality
 pub mod TotalOrder

@@ -1,3 +1,4 @@
+pub mod Equality
 pub mod Kind
 pub mod Name
 pub mod RowOrder

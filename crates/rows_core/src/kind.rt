@@ -3,6 +3,8 @@ ghost use Rattle.std.specs.Prelude.{◌≡◌, ◌≢◌, ◌↔◌, IfSome, IsN
 ghost use Rattle.rows_core.specs.Kind.{kind_word, kind_with_word};
 ghost use Rattle.rows_core.specs.declared.kind.Kind.{Kind};
 
+use crate::exact_eq::ExactEq;
+
 /// What a column's values are: numbers in i64, or texts.
 #[derive(Clone, Copy, Debug, PartialEq, Eq, PartialOrd, Ord, Hash)]
 pub enum Kind {
@@ -34,4 +36,10 @@ impl Kind {
             Kind::Text => b"text",
         }
     }
+}
+
+impl ExactEq for Kind {
+    ghost use Rattle.std.proofs.Common.{rules};
+
+    ghost exact = { Prim.search rules };
 }

@@ -2,6 +2,7 @@
 #![tactic(auto)]
 
 pub mod cut;
+pub mod exact_eq;
 pub mod file_ref;
 pub mod kind;
 pub mod memory;
@@ -15,6 +16,7 @@ pub mod txt;
 pub mod value;
 
 pub use cut::Cut;
+pub use exact_eq::ExactEq;
 pub use file_ref::{Digest, FileRef};
 pub use kind::Kind;
 pub use memory::Memory;
@@ -26,6 +28,3 @@ pub use schema::{Column, Schema, SchemaRefusal};
 pub use seq::{Seq, Text};
 pub use txt::{Txt, TxtRefusal, is_text};
 pub use value::Value;
-
-#[cfg(test)]
-mod tests;

@@ -1,8 +1,9 @@
 //! The names of streams, columns, programs and jobs.
-ghost use Rattle.std.specs.Prelude.{◌≡◌, ◌↔◌, IfOk, IsErrOf, bytes_eq};
+ghost use Rattle.std.specs.Prelude.{◌≡◌, ◌↔◌, IfOk, IsErrOf, IsTrue, bytes_eq};
 ghost use Rattle.std.specs.List.{list_any, list_all};
 ghost use Rattle.rows_core.specs.Name.{IsName, is_name, is_reserved, begins_with_letter, is_name_byte};
 
+use crate::exact_eq::ExactEq;
 use crate::memory::Memory;
 use crate::seq::Seq;
 use std::alloc::Global;
@@ -73,6 +74,13 @@ impl Name {
         self.bytes.items()
     }
 
+    /// Whether the two are equal, which is what `==` says.
+    pub fn is_same(&self, other: &Name) -> bool
+        ensures { IsTrue result ↔ (self.now ≡ other.now) }
+    {
+        self == other
+    }
+
     /// A second name with the same bytes.
     pub fn try_copy(&self, alloc: Global) -> Result<Name, Memory>
         ensures { IfOk result (λ name. name ≡ self.now) }
@@ -128,4 +136,10 @@ fn has_word(words: &[&str], bytes: &[u8]) -> bool
     ensures { result ≡ list_any (λ word. bytes_eq word.now bytes.now) words.now }
 {
     words.iter().any(|word| word.as_bytes() == bytes)
+}
+
+impl ExactEq for Name {
+    ghost use Rattle.std.specs.Cmp.Lexicographic.{bytes_decides};
+
+    ghost exact = { bytes_decides };
 }

@@ -4,6 +4,7 @@ ghost use Rattle.std.specs.Cmp.{IsTotalOrder};
 ghost use Rattle.rows_core.specs.declared.order.Key.{Key};
 ghost use Rattle.rows_core.specs.RowOrder.{key_cmp, row_cmp};
 
+use crate::exact_eq::ExactEq;
 use crate::row::Row;
 use std::cmp::Ordering;
 
@@ -40,4 +41,10 @@ fn cmp_at(a: &Row, b: &Row, key: &Key) -> Ordering
     let column = key.column as usize;
     let order = a.values().get(column).cmp(&b.values().get(column));
     if key.down { order.reverse() } else { order }
+}
+
+impl ExactEq for Key {
+    ghost use Rattle.std.proofs.Common.{rules};
+
+    ghost exact = { Prim.search rules };
 }

@@ -4,6 +4,7 @@ ghost use Rattle.std.specs.List.{list_any};
 ghost use Rattle.rows_core.specs.Value.{kind_of};
 ghost use Rattle.rows_core.specs.Schema.{IsSchema, kinds_of, has_repeat};
 
+use crate::exact_eq::ExactEq;
 use crate::kind::Kind;
 use crate::memory::Memory;
 use crate::name::Name;
@@ -25,6 +26,13 @@ pub struct Column {
 }
 
 impl Column {
+    /// Whether the two are equal, which is what `==` says.
+    pub fn is_same(&self, other: &Column) -> bool
+        ensures { IsTrue result ↔ (self.now ≡ other.now) }
+    {
+        self == other
+    }
+
     /// A second column of this name and kind.
     pub fn try_copy(&self, alloc: Global) -> Result<Column, Memory>
         ensures { IfOk result (λ column. column ≡ self.now) }
@@ -108,6 +116,13 @@ impl Schema {
         have_kinds_of(row.values(), self.columns())
     }
 
+    /// Whether the two are equal, which is what `==` says.
+    pub fn is_same(&self, other: &Schema) -> bool
+        ensures { IsTrue result ↔ (self.now ≡ other.now) }
+    {
+        self.columns.is_same(&other.columns)
+    }
+
     /// A second schema of the same columns.
     pub fn try_copy(&self, alloc: Global) -> Result<Schema, Memory>
         ensures { IfOk result (λ schema. schema ≡ self.now) }
@@ -158,4 +173,10 @@ fn have_kinds_of(values: &[Value], columns: &[Column]) -> bool
         }
         _ => false,
     }
+}
+
+impl ExactEq for Column {
+    ghost use Rattle.std.proofs.Common.{rules};
+
+    ghost exact = { Prim.search rules };
 }

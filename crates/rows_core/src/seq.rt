@@ -1,9 +1,10 @@
 //! A list in a field of plain data, which contracts see as the list of its items.
-ghost use Rattle.std.specs.Prelude.{◌≡◌, IfOk};
-ghost use Rattle.std.specs.Cmp.Lexicographic.{pointwise, slice_cmp, slice_partial_cmp, lists_per, lists_equiv, lists_po, lists_total, lists_agrees, lists_ties};
+ghost use Rattle.std.specs.Prelude.{◌≡◌, ◌↔◌, IfOk, IsTrue};
+ghost use Rattle.std.specs.Cmp.Lexicographic.{pointwise, pointwise_decides, slice_cmp, slice_partial_cmp, lists_per, lists_equiv, lists_po, lists_total, lists_agrees, lists_ties};
 ghost use Rattle.std.specs.Hash as fed;
 ghost use Rattle.std.specs.Hash.{items_Alike};
 
+use crate::exact_eq::ExactEq;
 use crate::memory::Memory;
 use std::alloc::Global;
 use std::cmp::Ordering;
@@ -59,6 +60,15 @@ impl<T: Copy> Seq<T> {
     }
 }
 
+impl<T: ExactEq> Seq<T> {
+    /// Whether the two are equal, which is what `==` says.
+    pub fn is_same(&self, other: &Seq<T>) -> bool
+        ensures { IsTrue result ↔ (self.now ≡ other.now) }
+    {
+        self == other
+    }
+}
+
 impl<T: PartialEq> PartialEq for Seq<T> {
     ghost eq = { pointwise T.eq };
 
@@ -67,6 +77,10 @@ impl<T: PartialEq> PartialEq for Seq<T> {
     fn eq(&self, other: &Seq<T>) -> bool {
         self.items() == other.items()
     }
+}
+
+impl<T: ExactEq> ExactEq for Seq<T> {
+    ghost exact = { pointwise_decides T.exact };
 }
 
 impl<T: Eq> Eq for Seq<T> {

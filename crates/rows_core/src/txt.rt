@@ -3,6 +3,7 @@ ghost use Rattle.std.specs.Prelude.{◌≡◌, ◌<◌, ◌↔◌, length, IfOk,
 ghost use Rattle.std.specs.List.{list_all};
 ghost use Rattle.rows_core.specs.Txt.{IsText, IsTxt, is_text_byte};
 
+use crate::exact_eq::ExactEq;
 use crate::memory::Memory;
 use crate::seq::Seq;
 use std::alloc::Global;
@@ -104,4 +105,10 @@ fn has_text_bytes(bytes: &[u8]) -> bool
     ensures { result ≡ list_all is_text_byte bytes.now }
 {
     bytes.iter().all(|byte| *byte >= MIN_TEXT_BYTE)
+}
+
+impl ExactEq for Txt {
+    ghost use Rattle.std.specs.Cmp.Lexicographic.{bytes_decides};
+
+    ghost exact = { bytes_decides };
 }
