@@ -1,9 +1,10 @@
 -- What the scalar operations give: exact whole numbers and truth values, and which of them are outside of i64.
-use Rattle.std.specs.Prelude.{◌≢◌, ◌^◌, ℕ, Bool, false, not, List, [], ◌∷◌, length, nat_eq, nat_lt, bytes_eq, ℤ, pos, negsuc, neg_ℤ, ◌+ℤ◌, ◌-ℤ◌, ◌*ℤ◌, Result, Ok, Err, if◌then◌else◌, slice_get, Option, None, Some, unwrap_or}
+use Rattle.std.specs.Prelude.{◌≡◌, ◌≢◌, ◌↔◌, ◌^◌, ℕ, Bool, false, not, List, [], ◌∷◌, length, nat_eq, nat_lt, bytes_eq, ℤ, pos, negsuc, neg_ℤ, ◌+ℤ◌, ◌-ℤ◌, ◌*ℤ◌, Result, Ok, Err, if◌then◌else◌, map, IsTrue, slice_get, Option, None, Some, unwrap_or}
 use Rattle.std.specs.Option.{option_map}
 use Rattle.scalar_ops.specs.declared.table.TheConstants.{OPS}
 use Rattle.scalar_ops.specs.declared.cell.CellKind.{CellKind}
 use Rattle.scalar_ops.specs.declared.cell.CellKind.TheVariants as kind
+use Rattle.scalar_ops.specs.Cells.{kind_of_cell, AreCells}
 use Rattle.scalar_ops.specs.Table.{kinds_of_args}
 use Rattle.std.specs.Int.{int_min, int_max}
 use Rattle.std.specs.Int.RustNames.{unsigned_abs}
@@ -71,6 +72,11 @@ abbrev pub cell_of : Exact → Result Cell Overflow
 cell_of (Whole z) = if fits_i64 z then Ok (cell.Int z) else Err overflow
 cell_of (Truth b) = Ok (cell.Bool b)
 
+-- the cell of an exact value
+abbrev pub exact_cell : Exact → Cell
+exact_cell (Whole z) = cell.Int z
+exact_cell (Truth b) = cell.Bool b
+
 -- the cell of a checked number
 abbrev pub checked_cell : Option ℤ → Result Cell Overflow
 checked_cell None = Err overflow
@@ -94,12 +100,26 @@ result_at row = unwrap_or (option_map (λ r. r.result) (row_at row)) kind.Bool
 abbrev pub overflows_at : ℕ → Bool
 overflows_at row = unwrap_or (option_map (λ r. r.overflows) (row_at row)) false
 
--- what a row of the table gives
+-- What a row of the table gives: the exact value, or an overflow where that is outside of i64. A row that doesn't say that
+-- it may overflow never does; at cells that a program holds its exact value is in i64.
 abbrev pub meaning : ℕ → List Cell → Result Cell Overflow
-meaning row cells = cell_of (exact_value (op_at row) cells)
+meaning row cells =
+    if overflows_at row then cell_of (exact_value (op_at row) cells) else Ok (exact_cell (exact_value (op_at row) cells))
 
 -- a divisor isn't 0
 abbrev pub Divides : Op → List Cell → Type 0
 Divides op.Div (a ∷ cell.Int b ∷ []) = b ≢ pos 0
 Divides op.Mod (a ∷ cell.Int b ∷ []) = b ≢ pos 0
 Divides _ _ = Unit {0}
+
+-- there are cells of the row's kinds, with a divisor other than 0, at which the exact value is outside of i64
+pub record MayOverflow (row : OpRow) : Type 0 where
+  pub cells : List Cell
+  pub each : AreCells cells
+  pub kinds : map kind_of_cell cells ≡ kinds_of_args row.args
+  pub divides : Divides row.op cells
+  pub outside : cell_of (exact_value row.op cells) ≡ Err overflow
+
+-- a row says that it may overflow exactly where it may
+abbrev pub SaysSo : OpRow → Type 0
+SaysSo row = IsTrue row.overflows ↔ MayOverflow row

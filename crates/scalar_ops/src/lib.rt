@@ -3,12 +3,10 @@
 
 pub mod cell;
 pub mod division;
+pub mod laws;
 pub mod operations;
 pub mod table;
 
 pub use cell::{Cell, CellKind};
 pub use operations::apply;
 pub use table::{Args, OPS, Op, OpRow, OpTable};
-
-#[cfg(test)]
-mod tests;

@@ -1,10 +1,11 @@
 //! What each operation gives.
-ghost use Rattle.std.specs.Prelude.{◌≡◌, ◌<◌, map, IsTrue, IsErr, IfOk};
+ghost use Rattle.std.specs.Prelude.{◌≡◌, ◌<◌, length, map, IsTrue, IsErr, IfOk};
 ghost use Rattle.scalar_ops.specs.Cells.{kind_of_cell};
 ghost use Rattle.scalar_ops.specs.Meaning.{meaning, checked_cell, op_at, kinds_at, result_at, overflows_at, Divides};
 
 use crate::cell::Cell;
 use crate::division::{floor_div, floor_mod};
+use crate::table::OPS;
 use rows_core::Overflow;
 
 /// The arms of the rows: for each its number, the cells of its kinds and its value.
@@ -20,7 +21,7 @@ macro_rules! arms {
 /// The value of a row of `OPS` at cells of its kinds: `Overflow` exactly where the exact value is outside of i64,
 /// and only where the row says so. It takes no memory.
 pub fn apply(row: usize, cells: &[Cell]) -> Result<Cell, Overflow>
-    requires row { row < 24 }
+    requires row { row < length OPS.rows }
     requires kinds { map kind_of_cell cells.now ≡ kinds_at row }
     requires divisor { Divides (op_at row) cells.now }
     ensures meaning { result ≡ meaning row cells.now }

@@ -1,6 +1,9 @@
 //! The table of the scalar operations.
-ghost use Rattle.std.specs.Prelude.{◌≡◌, ◌↔◌, All, IfSome, IsNone, IsSomeAnd, slice_get, IsTrue};
-ghost use Rattle.scalar_ops.specs.Table.{kinds_of_args, IsRowFor};
+ghost use Rattle.std.specs.Prelude.{◌≡◌};
+ghost use Rattle.std.specs.List.{position};
+ghost use Rattle.std.specs.Cmp.Lexicographic.{pointwise};
+ghost use Rattle.scalar_ops.specs.Cells.{same_cell_kind};
+ghost use Rattle.scalar_ops.specs.Table.{kinds_of_args, same_op, is_row_for};
 
 use crate::cell::CellKind;
 
@@ -110,31 +113,34 @@ pub static OPS: OpTable<24> = OpTable {
 };
 
 impl<const N: usize> OpTable<N> {
-    /// The first row with this operation and these kinds; `None` exactly where no row has them. It takes no memory.
+    /// The place of the first row with this operation and these kinds; `None` exactly where no row has them. It takes no
+    /// memory.
     pub fn find(&self, op: Op, kinds: &[CellKind]) -> Option<usize>
-        ensures found { IfSome result (λ row. IsSomeAnd (slice_get self.now.rows row) (IsRowFor op kinds.now)) }
-        ensures none { IsNone result ↔ All (λ row. IsRowFor op kinds.now row → ⊥) self.now.rows }
+        ensures { result ≡ position (is_row_for op kinds.now) self.now.rows }
     {
-        for (number, row) in self.rows.iter().enumerate() {
-            if row.is_for(op, kinds) {
-                return Some(number);
-            }
-        }
-        None
+        self.rows.iter().position(|row| row.is_for(op, kinds))
     }
 }
 
 impl OpRow {
     fn is_for(&self, op: Op, kinds: &[CellKind]) -> bool
-        ensures { IsTrue result ↔ IsRowFor op kinds.now self.now }
+        ensures { result ≡ is_row_for op kinds.now self.now }
     {
-        self.op == op && self.args.are(kinds)
+        self.op.is_same(op) && self.args.are(kinds)
+    }
+}
+
+impl Op {
+    fn is_same(self, other: Op) -> bool
+        ensures { result ≡ same_op self other }
+    {
+        self == other
     }
 }
 
 impl Args {
     fn are(&self, kinds: &[CellKind]) -> bool
-        ensures { IsTrue result ↔ (kinds_of_args self.now ≡ kinds.now) }
+        ensures { result ≡ pointwise same_cell_kind (kinds_of_args self.now) kinds.now }
     {
         match (self, kinds) {
             (Args::One(first), [kind]) => first == kind,
