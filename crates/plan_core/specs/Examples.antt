@@ -158,6 +158,10 @@ pub joined :
     ∷ (int 2 ∷ text (codes "b") ∷ int 2 ∷ int 20 ∷ []) ∷ [])
 joined = refl
 
+-- 1, two left rows and three right ones
+pub join_time : machine_time (Join (Scan 0) (Scan 1) ((0, 0) ∷ [])) (lefts ∷ rights ∷ []) ≡ 6
+join_time = refl
+
 abbrev self_join : PlainPlan
 self_join = Join (Scan 0) (Project (Scan 0) (times (Column 0) (number 10) ∷ [])) ((0, 0) ∷ [])
 
@@ -203,6 +207,18 @@ different_and_ordered_time = refl
 pub doubled :
     plan_meaning (Concat (Scan 0) (Scan 0)) (column (1 ∷ 2 ∷ []) ∷ column (1 ∷ 2 ∷ []) ∷ []) ≡ Ok (column (1 ∷ 2 ∷ 1 ∷ 2 ∷ []))
 doubled = refl
+
+-- 1, two left rows, and two right ones, which a filter took in before
+pub concat_time :
+    machine_time (Concat (Scan 0) (Filter (Scan 0) (above (Column 0) (number 0)))) (column (1 ∷ 2 ∷ []) ∷ column (1 ∷ 2 ∷ []) ∷ []) ≡ 7
+concat_time = refl
+
+-- the inner projection takes in two rows and is an overflow: the outer one takes in none
+pub overflow_time :
+    machine_time (Project (Project (Scan 0) (add (Column 0) (number 1) ∷ Column 0 ∷ [])) (Column 1 ∷ []))
+    (column (9223372036854775807 ∷ 1 ∷ []) ∷ [])
+    ≡ 3
+overflow_time = refl
 
 -- ---- the ends of i64
 
@@ -270,3 +286,6 @@ division_by_a_column = refl
 
 pub concat_of_other_kinds : plan_typing streams (Concat (Scan 0) (Scan 1)) ≡ Err IllTyped
 concat_of_other_kinds = refl
+
+pub group_without_aggregates : plan_typing streams (Group (Scan 0) (1 ∷ []) []) ≡ Err IllTyped
+group_without_aggregates = refl

@@ -10,6 +10,7 @@ use Rattle.scalar_ops.specs.declared.cell.CellKind.TheVariants as kind
 use Rattle.scalar_ops.specs.declared.table.Op.{Op}
 use Rattle.scalar_ops.specs.declared.table.Op.TheVariants as op
 use Rattle.scalar_ops.specs.Cells.{kind_of_cell}
+pub use Rattle.scalar_ops.specs.Cells.{same_cell_kind}
 use Rattle.scalar_ops.specs.Table.{kinds_of_args}
 use Rattle.scalar_ops.specs.Meaning.{row_at, op_at}
 use Rattle.plan_core.specs.PlainExpr.{PlainExpr, Column, Literal, Call1, Call2, And, Or, If}
@@ -17,12 +18,6 @@ use Rattle.plan_core.specs.PlainExpr.{PlainExpr, Column, Literal, Call1, Call2, 
 abbrev pub cell_kind_of : column.Kind → CellKind
 cell_kind_of column_kind.Int = kind.Int
 cell_kind_of column_kind.Text = kind.Text
-
-abbrev pub same_cell_kind : CellKind → CellKind → Bool
-same_cell_kind kind.Int kind.Int = true
-same_cell_kind kind.Text kind.Text = true
-same_cell_kind kind.Bool kind.Bool = true
-same_cell_kind _ _ = false
 
 -- what f gives of two that are both there
 abbrev pub of_both : {A B C : Type 0} → (A → B → Option C) → Option A → Option B → Option C

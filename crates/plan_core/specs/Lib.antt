@@ -1,6 +1,7 @@
 pub mod PlainExpr
 pub mod PlainPlan
-pub mod Heights
+pub mod OperatorCount
+pub mod Nesting
 pub mod Columns
 pub mod ExpressionValue
 pub mod ExpressionKind
@@ -18,6 +19,7 @@ pub mod PlanMeaning
 pub mod MachineTime
 pub mod Answer
 pub mod Typing
+pub mod Literals
 pub mod TypedPlan
 pub mod PlanCode
 pub mod KindLaw

@@ -71,10 +71,10 @@ agg_kind kinds (agg.First column) = slice_get kinds column
 agg_kind kinds (agg.Last column) = slice_get kinds column
 agg_kind kinds (agg.Avg column) = number_kind (slice_get kinds column)
 
--- one key or more; the keys and then the aggregates
+-- one key or more and one aggregate or more; the keys and then the aggregates
 abbrev pub group_kinds : List ℕ → List Agg → Kinds → Option Kinds
 group_kinds keys aggs kinds =
-    if is_empty keys then None
+    if is_empty keys || is_empty aggs then None
     else of_both (λ key_kinds agg_kinds. Some (key_kinds ++ agg_kinds)) (all_there (map (slice_get kinds) keys)) (all_there (map (agg_kind kinds) aggs))
 
 -- both are there, and are one kind

@@ -20,7 +20,8 @@ use Rattle.scalar_ops.specs.declared.table.OpRow.{OpRow}
 use Rattle.scalar_ops.specs.declared.table.TheConstants.{OPS}
 use Rattle.scalar_ops.specs.Cells.{kind_of_cell}
 use Rattle.scalar_ops.specs.Table.{kinds_of_args}
-use Rattle.scalar_ops.specs.Meaning.{Exact, Whole, Truth, exact_value, fits_i64, overflow, cell_of, row_at, op_at, meaning}
+use Rattle.scalar_ops.specs.Meaning.{Exact, Whole, Truth, exact_value, fits_i64, overflow, cell_of, exact_cell, row_at, op_at, overflows_at, meaning}
+use Rattle.scalar_ops.specs.RowLaws.{same_cell_kind-Decides, list_all-get}
 use Rattle.plan_core.specs.PlainExpr.{Column, Literal, Call1, Call2, And, Or, If}
 use Rattle.plan_core.specs.Columns.{no_value}
 use Rattle.plan_core.specs.ExpressionValue.{◌>>=◌, expression_value, cell_of_value, is_true}
@@ -85,21 +86,6 @@ agrees r = same_cell_kind (exact_kind (exact_value r.op (map sample (kinds_of_ar
 all_agree : list_all agrees OPS.rows ≡ true
 all_agree = refl
 
-and_parts : (a b : Bool) → (a && b) ≡ true → (a ≡ true) × (b ≡ true)
-and_parts true b e = (refl, e)
-and_parts false b e = absurd (false≢true e)
-
-list_all-get : {A : Type 0} (p : A → Bool) (xs : List A) (i : ℕ) (x : A) → list_all p xs ≡ true → slice_get xs i ≡ Some x → p x ≡ true
-list_all-get p [] i x all e = absurd cc
-list_all-get p (y ∷ ys) zero x all e = let same : y ≡ x = cc in subst (λ z. p z ≡ true) same (and_parts (p y) (list_all p ys) all).0
-list_all-get p (y ∷ ys) (suc i) x all e = list_all-get p ys i x (and_parts (p y) (list_all p ys) all).1 e
-
-same_cell_kind-Decides : (a b : CellKind) → Decides (same_cell_kind a b) (a ≡ b)
-same_cell_kind-Decides kind.Int kind.Int = (λ e. refl, λ e. refl)
-same_cell_kind-Decides kind.Text kind.Text = (λ e. refl, λ e. refl)
-same_cell_kind-Decides kind.Bool kind.Bool = (λ e. refl, λ e. refl)
-same_cell_kind-Decides _ _ = (λ e. absurd (false≢true e), λ e. cc)
-
 -- the row of a call that has a kind
 record IsCall (row : ℕ) (kinds : List CellKind) (k : CellKind) : Type 0 where
   op_row : OpRow
@@ -129,6 +115,14 @@ cell_of-kind (Whole z) c e = go (fits_i64 z) e
     go false h = absurd cc
 cell_of-kind (Truth b) c e = let same : cell.Bool b ≡ c = cc in sym (ap kind_of_cell same)
 
+exact_cell-kind : (value : Exact) (c : Cell) → ◌≡◌ {A = Result Cell Overflow} (Ok (exact_cell value)) (Ok c) → kind_of_cell c ≡ exact_kind value
+exact_cell-kind (Whole z) c e = let same : Int z ≡ c = cc in sym (ap kind_of_cell same)
+exact_cell-kind (Truth b) c e = let same : cell.Bool b ≡ c = cc in sym (ap kind_of_cell same)
+
+given-kind : (may : Bool) (value : Exact) (c : Cell) → cond may (cell_of value) (Ok (exact_cell value)) ≡ Ok c → kind_of_cell c ≡ exact_kind value
+given-kind true value c e = cell_of-kind value c e
+given-kind false value c e = exact_cell-kind value c e
+
 call_value : (row : ℕ) (cells : List Cell) (k : CellKind) (c : Cell)
     → exact_kind (exact_value (op_at row) cells) ≡ exact_kind (exact_value (op_at row) (map sample (map kind_of_cell cells)))
     → call_kind row (map kind_of_cell cells) ≡ Some k → meaning row cells ≡ Ok c → kind_of_cell c ≡ k
@@ -136,37 +130,45 @@ call_value row cells k c by_kind typed is =
     let call = call_of row (map kind_of_cell cells) k typed in
     let its_op : op_at row ≡ call.op_row.op = rw call.there refl in
     let agreed = (same_cell_kind-Decides _ _).0 (list_all-get agrees OPS.rows row call.op_row all_agree call.there) in
-    cell_of-kind (exact_value (op_at row) cells) c is ∙ by_kind
+    given-kind (overflows_at row) (exact_value (op_at row) cells) c is ∙ by_kind
     ∙ ap (λ o. exact_kind (exact_value o (map sample (map kind_of_cell cells)))) its_op
     ∙ ap (λ ks. exact_kind (exact_value call.op_row.op (map sample ks))) call.args
     ∙ agreed ∙ call.result
 
 -- ---- expressions
 
-bind_ok : {A B : Type 0} (v : Result A Overflow) (f : A → Result B Overflow) (c : B) → (v >>= f) ≡ Ok c → (x : A) × ((v ≡ Ok x) × (f x ≡ Ok c))
+pub bind_ok : {A B : Type 0} (v : Result A Overflow) (f : A → Result B Overflow) (c : B) → (v >>= f) ≡ Ok c → (x : A) × ((v ≡ Ok x) × (f x ≡ Ok c))
 bind_ok (Ok x) f c e = (x, (refl, e))
 bind_ok (Err o) f c e = absurd cc
 
-then_some : {A B : Type 0} (f : A → Option B) (o : Option A) (k : B) → option_and_then f o ≡ Some k → (j : A) × ((o ≡ Some j) × (f j ≡ Some k))
+pub then_some : {A B : Type 0} (f : A → Option B) (o : Option A) (k : B) → option_and_then f o ≡ Some k → (j : A) × ((o ≡ Some j) × (f j ≡ Some k))
 then_some f (Some j) k e = (j, (refl, e))
 then_some f None k e = absurd cc
 
--- two that are both there
-record AreBoth {A B C : Type 0} (f : A → B → Option C) (o : Option A) (p : Option B) (k : C) : Type 0 where
-  left : A
-  right : B
-  left_there : o ≡ Some left
-  right_there : p ≡ Some right
-  gives : f left right ≡ Some k
+pub map_some : {A B : Type 0} (f : A → B) (o : Option A) (y : B) → option_map f o ≡ Some y → (x : A) × ((o ≡ Some x) × (f x ≡ y))
+map_some f (Some x) y e = (x, (refl, cc))
+map_some f None y e = absurd cc
 
-both_some : {A B C : Type 0} (f : A → B → Option C) (o : Option A) (p : Option B) (k : C) → of_both f o p ≡ Some k → AreBoth f o p k
+-- two that are both there
+pub record AreBoth {A B C : Type 0} (f : A → B → Option C) (o : Option A) (p : Option B) (k : C) : Type 0 where
+  pub left : A
+  pub right : B
+  pub left_there : o ≡ Some left
+  pub right_there : p ≡ Some right
+  pub gives : f left right ≡ Some k
+
+pub both_some : {A B C : Type 0} (f : A → B → Option C) (o : Option A) (p : Option B) (k : C) → of_both f o p ≡ Some k → AreBoth f o p k
 both_some f (Some j) (Some l) k e = record { left = j; right = l; left_there = refl; right_there = refl; gives = e }
 both_some f (Some j) None k e = absurd cc
 both_some f None p k e = absurd cc
 
-unless_some : {A : Type 0} (refused : Bool) (o : Option A) (k : A) → cond refused None o ≡ Some k → o ≡ Some k
+pub unless_some : {A : Type 0} (refused : Bool) (o : Option A) (k : A) → cond refused None o ≡ Some k → o ≡ Some k
 unless_some true o k e = absurd cc
 unless_some false o k e = e
+
+pub where_some : {A : Type 0} (kept : Bool) (x y : A) → cond kept (Some x) None ≡ Some y → x ≡ y
+where_some true x y e = cc
+where_some false x y e = absurd cc
 
 both_truths-some : (o p : Option CellKind) (k : CellKind) → both_truths o p ≡ Some k → (p ≡ Some k) × (kind.Bool ≡ k)
 both_truths-some (Some kind.Bool) (Some kind.Bool) k e = (e, cc)

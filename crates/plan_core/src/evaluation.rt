@@ -7,7 +7,7 @@ ghost use Rattle.plan_core.specs.PlainExpr.{expr_of};
 ghost use Rattle.plan_core.specs.Columns.{column_of};
 ghost use Rattle.plan_core.specs.ExpressionValue.{expression_value, cell_of_value, is_true};
 ghost use Rattle.plan_core.specs.ExpressionKind.{IsTyped, expression_kind, call_kind};
-ghost use Rattle.plan_core.specs.Answer.{MeansValue};
+ghost use Rattle.plan_core.specs.Answer.{Means};
 
 use crate::expr::Expr;
 use crate::refusal::EvRefusal;
@@ -19,7 +19,7 @@ use std::alloc::Global;
 /// the part that is needed is evaluated.
 pub fn ev(alloc: Global, e: &Expr, row: &Row) -> Result<Cell, EvRefusal>
     requires { IsTyped (map kind_of row.now) (expr_of e.now) }
-    ensures meaning { MeansValue result (expression_value (expr_of e.now) row.now) }
+    ensures meaning { Means result (expression_value (expr_of e.now) row.now) }
     ensures kind { IfOk result
         (λ cell. expression_kind (map kind_of row.now) (expr_of e.now) ≡ Some (kind_of_cell cell)) }
 {

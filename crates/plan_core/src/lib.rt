@@ -5,6 +5,7 @@ pub mod agg;
 pub mod evaluation;
 pub mod expr;
 pub mod laws;
+mod literals;
 pub mod plan;
 mod plan_types;
 pub mod refusal;
@@ -20,6 +21,3 @@ pub use refusal::{EvRefusal, PlanRefusal};
 pub use schemas::Schemas;
 pub use typed::{Typed, type_plan};
 pub use typing::expression_kind;
-
-#[cfg(test)]
-mod tests;

@@ -50,21 +50,15 @@ pub fn typing_of(
             None => Ok(None),
         },
         Plan::Join { left, right, on } => {
-            let Some(left) = typing_of(alloc, schemas, left)? else {
-                return Ok(None);
-            };
-            match typing_of(alloc, schemas, right)? {
-                Some(right) => join_typing(left, &right, on.items()),
-                None => Ok(None),
+            match (typing_of(alloc, schemas, left)?, typing_of(alloc, schemas, right)?) {
+                (Some(left), Some(right)) => join_typing(left, &right, on.items()),
+                _ => Ok(None),
             }
         }
         Plan::Concat { left, right } => {
-            let Some(left) = typing_of(alloc, schemas, left)? else {
-                return Ok(None);
-            };
-            match typing_of(alloc, schemas, right)? {
-                Some(right) => Ok(concat_typing(left, &right)),
-                None => Ok(None),
+            match (typing_of(alloc, schemas, left)?, typing_of(alloc, schemas, right)?) {
+                (Some(left), Some(right)) => Ok(concat_typing(left, &right)),
+                _ => Ok(None),
             }
         }
         Plan::Order { child, keys } => match typing_of(alloc, schemas, child)? {
@@ -123,7 +117,7 @@ fn group_typing(
         ≡ option_map (typing_with (is_above_limit (length keys.now + length aggs.now) || child.now.too_many))
         (group_kinds keys.now aggs.now child.now.kinds)) }
 {
-    if keys.is_empty() {
+    if keys.is_empty() || aggs.is_empty() {
         return Ok(None);
     }
     let Some(mut kinds) = key_kinds(alloc, child.kinds.items(), keys)? else {

@@ -5,6 +5,7 @@ ghost use Rattle.plan_core.specs.PlainPlan.{plan_of, leaves};
 ghost use Rattle.plan_core.specs.PlanTyping.{plan_typing};
 ghost use Rattle.plan_core.specs.TypedPlan.{IsTypedOver, IsTypedPlan, MeansTyping};
 
+use crate::literals::read_literals;
 use crate::plan::Plan;
 use crate::plan_types::typing_of;
 use crate::refusal::PlanRefusal;
@@ -44,6 +45,7 @@ pub fn type_plan(alloc: Global, plan: Plan, schemas: &Schemas) -> Result<Typed, 
     ensures leaves { IfOk result (λ typed. typed.leaves ≡ leaves (plan_of plan)) }
 {
     let (kinds, leaves) = checked_typing(alloc, &plan, schemas.kinds.items())?;
+    read_literals(&plan);
     Ok(Typed {
         plan,
         kinds,
@@ -53,14 +55,16 @@ pub fn type_plan(alloc: Global, plan: Plan, schemas: &Schemas) -> Result<Typed, 
 
 impl Typed {
     pub fn plan(&self) -> &Plan
-        ensures { plan_of result.now ≡ self.now.plan }
+        ensures plan { plan_of result.now ≡ self.now.plan }
+        ensures typed { IsTypedPlan self.now }
     {
         &self.plan
     }
 
     /// The kinds of the plan's columns.
     pub fn kinds(&self) -> &[Kind]
-        ensures { result.now ≡ self.now.kinds }
+        ensures kinds { result.now ≡ self.now.kinds }
+        ensures typed { IsTypedPlan self.now }
     {
         self.kinds.items()
     }
@@ -71,6 +75,15 @@ impl Typed {
         ensures typed { IsTypedPlan self.now }
     {
         self.leaves.items()
+    }
+
+    /// The plan alone. It takes no memory.
+    pub fn into_plan(self) -> Plan
+        ensures plan { plan_of result ≡ self.plan }
+        ensures typed { IsTypedPlan self }
+    {
+        let Typed { plan, .. } = self;
+        plan
     }
 }
 
