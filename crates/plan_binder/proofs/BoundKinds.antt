@@ -1,13 +1,12 @@
 -- The kinds that binding keeps are those of the typing, where the bound plan has one.
-use Rattle.std.proofs.Common.{◌≡◌, ◌∙◌, refl, sym, ap, subst, ℕ, Bool, true, false, cond, List, [], ◌∷◌, ◌++◌, map, slice_get, Option, None, Some}
+use Rattle.std.proofs.Common.{◌≡◌, ◌∙◌, refl, sym, ap, subst, ℕ, Bool, true, false, ◌||◌, cond, List, [], ◌∷◌, ◌++◌, map, slice_get, Option, None, Some}
 use Rattle.std.specs.Option.{option_map, option_and_then}
 use Rattle.rows_core.specs.declared.kind.Kind as a_kind
 use Rattle.rows_core.specs.declared.schema.Column as schema
 use Rattle.rows_core.specs.Schema.{kinds_of}
 use Rattle.plan_core.specs.PlainPlan.{PlainPlan, Scan, Filter, Project, Group, Join, Concat, Order}
-use Rattle.plan_core.specs.ExpressionKind.{of_both}
 use Rattle.plan_core.specs.PlanTyping.{Kinds, all_there, is_empty, plan_kinds, filter_kinds, project_kinds, group_kinds, join_kinds, concat_kinds, order_kinds, column_kind_of, agg_kind}
-use Rattle.plan_core.specs.ValueKinds.{slice_get-map}
+use Rattle.plan_core.specs.ValueKinds.{slice_get-map, then_some, map_some, both_some, unless_some, where_some}
 use Rattle.plan_grammar.specs.declared.plan.NamedResult.{NamedResult}
 use Rattle.plan_grammar.specs.declared.plan.NamedPair.{NamedPair}
 use Rattle.plan_grammar.specs.declared.plan.NamedKey.{NamedKey}
@@ -17,38 +16,9 @@ use Rattle.plan_binder.specs.Binding.{Names, Bound, kind_or_int, with_columns, h
 
 -- ---- what is there
 
-pub then_some : {A B : Type 0} (f : A → Option B) (o : Option A) (y : B) → option_and_then f o ≡ Some y → (x : A) × ((o ≡ Some x) × (f x ≡ Some y))
-then_some f (Some x) y e = (x, (refl, e))
-then_some f None y e = absurd cc
-
-pub map_some : {A B : Type 0} (f : A → B) (o : Option A) (y : B) → option_map f o ≡ Some y → (x : A) × ((o ≡ Some x) × (f x ≡ y))
-map_some f (Some x) y e = (x, (refl, cc))
-map_some f None y e = absurd cc
-
--- two that are both there
-pub record AreBoth {A B C : Type 0} (f : A → B → Option C) (o : Option A) (p : Option B) (y : C) : Type 0 where
-  pub left : A
-  pub right : B
-  pub left_there : o ≡ Some left
-  pub right_there : p ≡ Some right
-  pub gives : f left right ≡ Some y
-
-pub both_some : {A B C : Type 0} (f : A → B → Option C) (o : Option A) (p : Option B) (y : C) → of_both f o p ≡ Some y → AreBoth f o p y
-both_some f (Some a) (Some b) y e = record { left = a; right = b; left_there = refl; right_there = refl; gives = e }
-both_some f (Some a) None y e = absurd cc
-both_some f None p y e = absurd cc
-
-pub if_some : {A : Type 0} (refused : Bool) (o : Option A) (y : A) → cond refused None o ≡ Some y → o ≡ Some y
-if_some true o y e = absurd cc
-if_some false o y e = e
-
-pub where_some : {A : Type 0} (kept : Bool) (x y : A) → cond kept (Some x) None ≡ Some y → x ≡ y
-where_some true x y e = cc
-where_some false x y e = absurd cc
-
 pub columns_some : (plan : PlainPlan) (names : Names) (kinds : Kinds) (b : Bound) → with_columns plan names kinds ≡ Some b
     → record { plan = plan; names = names; kinds = kinds } ≡ b
-columns_some plan names kinds b e = some_same _ b (if_some (has_repeat names) (Some (record { plan = plan; names = names; kinds = kinds })) b e)
+columns_some plan names kinds b e = some_same _ b (unless_some (has_repeat names) (Some (record { plan = plan; names = names; kinds = kinds })) b e)
   where
     some_same : (x y : Bound) → ◌≡◌ {A = Option Bound} (Some x) (Some y) → x ≡ y
     some_same x y e = cc
@@ -104,7 +74,7 @@ module _ (schemas : List Kinds) (input : Bound) (typed_input : HasTypedKinds sch
       (λ kinds typed.
       let child = then_some (project_kinds exprs.0) (plan_kinds schemas input.plan) kinds typed in
       ap (λ (ks : Kinds). map (λ e. kind_or_int (column_kind_of ks e)) exprs.0) (typed_input child.0 child.1.0)
-      ∙ kinds_there (column_kind_of child.0) exprs.0 kinds (if_some (is_empty exprs.0) (all_there (map (column_kind_of child.0) exprs.0)) kinds child.1.1))
+      ∙ kinds_there (column_kind_of child.0) exprs.0 kinds (unless_some (is_empty exprs.0) (all_there (map (column_kind_of child.0) exprs.0)) kinds child.1.1))
 
   group_kinds_typed : (keys : Names) (results : List NamedResult) (b : Bound) → bound_group keys results input ≡ Some b → HasTypedKinds schemas b
   group_kinds_typed keys results b is =
@@ -118,7 +88,7 @@ module _ (schemas : List Kinds) (input : Bound) (typed_input : HasTypedKinds sch
       (λ kinds typed.
       let child = then_some (group_kinds places aggs) (plan_kinds schemas input.plan) kinds typed in
       let parts = both_some (λ (ks js : Kinds). Some (ks ++ js)) (all_there (map (slice_get child.0) places)) (all_there (map (agg_kind child.0) aggs)) kinds
-      (if_some (is_empty places) _ kinds child.1.1) in
+      (unless_some (is_empty places || is_empty aggs) _ kinds child.1.1) in
       let key_part = kinds_there (slice_get child.0) places parts.left parts.left_there in
       let agg_part = kinds_there (agg_kind child.0) aggs parts.right parts.right_there in
       let all : parts.left ++ parts.right ≡ kinds = where_some true (parts.left ++ parts.right) kinds parts.gives in
@@ -134,7 +104,7 @@ module _ (schemas : List Kinds) (input : Bound) (typed_input : HasTypedKinds sch
       subst (λ (x : Bound). HasTypedKinds schemas x) places.1.1
       (λ kinds typed.
       let child = then_some (order_kinds places.0) (plan_kinds schemas input.plan) kinds typed in
-      typed_input child.0 child.1.0 ∙ where_some _ child.0 kinds (if_some (is_empty places.0) _ kinds child.1.1))
+      typed_input child.0 child.1.0 ∙ where_some _ child.0 kinds (unless_some (is_empty places.0) _ kinds child.1.1))
 
 module _ (schemas : List Kinds) (left right : Bound) (typed_left : HasTypedKinds schemas left) (typed_right : HasTypedKinds schemas right) where
   join_kinds_typed : (on : List NamedPair) (b : Bound) → bound_join on left right ≡ Some b → HasTypedKinds schemas b
@@ -146,7 +116,7 @@ module _ (schemas : List Kinds) (left right : Bound) (typed_left : HasTypedKinds
       let both = both_some (join_kinds pairs.0) (plan_kinds schemas left.plan) (plan_kinds schemas right.plan) kinds typed in
       let lefts = typed_left both.left both.left_there in
       let rights = typed_right both.right both.right_there in
-      (λ i. lefts i ++ rights i) ∙ where_some _ (both.left ++ both.right) kinds (if_some (is_empty pairs.0) _ kinds both.gives))
+      (λ i. lefts i ++ rights i) ∙ where_some _ (both.left ++ both.right) kinds (unless_some (is_empty pairs.0) _ kinds both.gives))
 
   concat_kinds_typed : (b : Bound) → bound_concat left right ≡ Some b → HasTypedKinds schemas b
   concat_kinds_typed b is =

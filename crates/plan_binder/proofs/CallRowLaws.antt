@@ -21,7 +21,8 @@ use Rattle.plan_binder.specs.OpRows.{row_for}
 use Rattle.plan_binder.specs.Binding.{Names, Bound, kind_or_int, call1, call2, of_two, of_three, bound_expr, bound_agg, bound_pair, bound_key, place_of, projected, grouped, joined, bound_where, bound_select, bound_distinct, bound_group, bound_join, bound_concat, bound_order, bound_tree, absent_stream, present_or, plan_or_ill_typed, binding}
 use Rattle.plan_binder.specs.CallRows.{has_no_row, bound_kind, lacks_row, test_lacks_row, columns_lack_row, plan_lacks_row}
 use Rattle.plan_binder.proofs.OpRowLaws.{chosen_found}
-use Rattle.plan_binder.proofs.BoundKinds.{then_some, map_some, both_some, if_some, where_some, columns_some, bound_kinds}
+use Rattle.plan_core.specs.ValueKinds.{then_some, map_some, both_some, unless_some, where_some}
+use Rattle.plan_binder.proofs.BoundKinds.{columns_some, bound_kinds}
 
 -- what is refused wherever it is found isn't there
 pub not_there : {A : Type 0} (o : Option A) (lacks : Bool) → ((x : A) → o ≡ Some x → lacks ≡ false) → lacks ≡ true → o ≡ None
@@ -59,7 +60,7 @@ call1_row kinds op a k typed = go (expression_kind kinds a) typed
 
 call2_row : (kinds : Kinds) (op : Op) (a b : bound.PlainExpr) (k : CellKind)
     → expression_kind kinds (call2 kinds op a b) ≡ Some k → has_no_row op (expression_kind kinds a ∷ expression_kind kinds b ∷ []) ≡ false
-call2_row kinds op a b k typed = go (expression_kind kinds a) (expression_kind kinds b) (if_some _ _ k typed)
+call2_row kinds op a b k typed = go (expression_kind kinds a) (expression_kind kinds b) (unless_some _ _ k typed)
   where
     go : (o p : Option CellKind) → of_both (λ j l. call_kind (row_for op (o ∷ p ∷ [])) (j ∷ l ∷ [])) o p ≡ Some k → has_no_row op (o ∷ p ∷ []) ≡ false
     go (Some j) (Some l) e = call_row op (j ∷ l ∷ []) k e
@@ -148,7 +149,7 @@ module _ (names : Names) (kinds : Kinds) where
   typed_rows (named.Call2 op a b) x k is typed =
       let args = two_some (call2 kinds op) (bound_expr names kinds a) (bound_expr names kinds b) x is in
       let call : expression_kind kinds (call2 kinds op args.left args.right) ≡ Some k = ap (expression_kind kinds) args.gives ∙ typed in
-      let its = both_some _ (expression_kind kinds args.left) (expression_kind kinds args.right) k (if_some _ _ k call) in
+      let its = both_some _ (expression_kind kinds args.left) (expression_kind kinds args.right) k (unless_some _ _ k call) in
       or_from _ _
       (or_from _ _
       ((λ i. has_no_row op (sym (kind_there a args.left args.left_there) i ∷ sym (kind_there b args.right args.right_there) i ∷ []))
@@ -226,7 +227,7 @@ module _ (streams : Names) (schemas : List (List schema.Column)) where
       or_from _ _
       (ap (columns_lack_row columns) input.1.0
       ∙ columns_rows input.0.names input.0.kinds columns exprs.0 kinds exprs.1.0
-      (ap (λ (ks : Kinds). all_there (map (column_kind_of ks) exprs.0)) same ∙ if_some (is_empty exprs.0) (all_there (map (column_kind_of its.0) exprs.0)) kinds its.1.1))
+      (ap (λ (ks : Kinds). all_there (map (column_kind_of ks) exprs.0)) same ∙ unless_some (is_empty exprs.0) (all_there (map (column_kind_of its.0) exprs.0)) kinds its.1.1))
       (below input.0 its.0 input.1.0 its.1.0)
 
   distinct_rows : (child : PlainTree) → PlanHasRows child → PlanHasRows (named.Distinct child)

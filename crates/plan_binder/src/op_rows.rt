@@ -1,7 +1,8 @@
 //! Rows of the table of operations.
 ghost use Rattle.std.specs.Prelude.{◌≡◌, ◌<◌, [], ◌∷◌, IfSome};
 ghost use Rattle.std.specs.List.{position};
-ghost use Rattle.plan_binder.specs.OpRows.{same_op, row_with, first_row, row_for};
+ghost use Rattle.scalar_ops.specs.Table.{same_op};
+ghost use Rattle.plan_binder.specs.OpRows.{row_with, first_row, row_for};
 
 use scalar_ops::{CellKind, OPS, Op, OpTable};
 
@@ -28,7 +29,7 @@ pub fn row_for_two(op: Op, left: Option<CellKind>, right: Option<CellKind>) -> u
 }
 
 /// The row with this operation and these kinds.
-#[tactic(auto, using(crate::proofs::OpRowLaws::found_row, crate::proofs::OpRowLaws::found_below, crate::proofs::OpRowLaws::no_row))]
+#[tactic(auto, using(crate::proofs::OpRowLaws::row_below), unfolding(crate::specs::OpRows::row_with))]
 fn row_with(op: Op, kinds: &[CellKind]) -> Option<u32>
     ensures { result ≡ row_with op kinds.now }
 {

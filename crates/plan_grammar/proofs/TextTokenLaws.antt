@@ -85,8 +85,8 @@ mark_no_longer c rest m q = by (c == 33) (c == 60) (c == 62) (c == 45) q
   where
     by : (a b d e : Bool)
         → cond a (with_equal (Some mark.NotEqual) None rest) (cond b (with_equal (Some mark.LessEqual) (Some mark.Less) rest)
-          (cond d (with_equal (Some mark.GreaterEqual) (Some mark.Greater) rest)
-          (cond e (Some (cond (begins_with_digit rest) mark.Sign mark.Minus, rest)) (option_map (λ m. (m, rest)) (single_mark c))))) ≡ Some m
+        (cond d (with_equal (Some mark.GreaterEqual) (Some mark.Greater) rest)
+        (cond e (Some (cond (begins_with_digit rest) mark.Sign mark.Minus, rest)) (option_map (λ m. (m, rest)) (single_mark c))))) ≡ Some m
         → length m.1 ≤ length rest
     by true b d e q = equal_no_longer (Some mark.NotEqual) None rest m q
     by false true d e q = equal_no_longer (Some mark.LessEqual) (Some mark.Less) rest m q

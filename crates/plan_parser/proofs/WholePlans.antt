@@ -1,6 +1,6 @@
 -- What a whole text spells as a plan, within the limits or beyond them.
 use Prim.Native.Nat.{suc}
-use Rattle.std.proofs.Common.{◌≡◌, refl, sym, ap, subst, ℕ, ◌≤◌, ◌<◌, Bool, true, false, cond, nat_lt, nat_le, List, [], length, Option, None, Some, ◌∙◌, Result, Ok, Err, IfOk, arith}
+use Rattle.std.proofs.Common.{◌≡◌, refl, sym, ap, subst, ℕ, ◌≤◌, ◌<◌, Bool, true, false, cond, nat_lt, nat_le, List, [], ◌∷◌, length, Option, None, Some, ◌∙◌, Result, Ok, Err, IfOk, arith}
 use Rattle.std.proofs.lemmas.Bool.Decides.{nat_tests}
 use Rattle.plan_grammar.specs.declared.token.Token.{Token}
 use Rattle.plan_parser.specs.declared.plan_draft.Counts.{Counts}
@@ -115,6 +115,21 @@ passes_one Exprs p s w = let less = s.2 in let le = w.2 in omega (arith, less, l
 within_limits : (p : PlainTree) → are_within limits (capped limits (counts_of p)) ≡ true → IsWithinLimits p
 within_limits p few = let w = is_within limits (counts_of p) few in (w.nodes, w.wide, w.exprs)
 
+-- what was read where a plan was, or one that is too large
+read_as_plan : (read : ReadOf PlanDraft) (p : PlainTree) → whole_reading read ≡ AsPlan p → (counts : Counts) × (read ≡ Some (WholePlan p counts, []))
+read_as_plan None p r = absurd (cc r)
+read_as_plan (Some (WholePlan q counts, [])) p r = let same : q ≡ p = cc r in (counts, ap (λ p. Some (WholePlan p counts, [])) same)
+read_as_plan (Some (WholePlan q counts, t ∷ ts)) p r = absurd (cc r)
+read_as_plan (Some (TooLarge counts, [])) p r = absurd (cc r)
+read_as_plan (Some (TooLarge counts, t ∷ ts)) p r = absurd (cc r)
+
+read_as_large : (read : ReadOf PlanDraft) (what : PlanLimit) → whole_reading read ≡ AsTooLarge what → (counts : Counts) × (read ≡ Some (TooLarge counts, [])) × (first_above counts ≡ what)
+read_as_large None what r = absurd (cc r)
+read_as_large (Some (WholePlan q counts, [])) what r = absurd (cc r)
+read_as_large (Some (WholePlan q counts, t ∷ ts)) what r = absurd (cc r)
+read_as_large (Some (TooLarge counts, [])) what r = (counts, refl, cc r)
+read_as_large (Some (TooLarge counts, t ∷ ts)) what r = absurd (cc r)
+
 -- what a plan is read as, whatever text spells it
 abbrev reading_of : PlainTree → Bool → TextReading
 reading_of p few = cond few (AsPlan p) (AsTooLarge (first_above (capped limits (counts_of p))))
@@ -142,34 +157,30 @@ module _ (text : List ℕ) where
       by true few = absurd (passes_one what s.0 s.2 (within_limits s.0 few))
       by false many = ap AsTooLarge (one_limit (first_above (capped limits (counts_of s.0))) what s.0 (first_passed s.0 many) s.2)
 
-  -- what the tokens were read as is spelled, or nothing is
+  -- what the tokens were read as is spelled
   module _ (tokens : List Token) (are : AreTokens tokens text) where
-    plan_of : (read : ReadOf PlanDraft) → plan_at limits 32 tokens ≡ read → (p : PlainTree) → whole_reading read ≡ AsPlan p → SpellsText p text × IsWithinLimits p
-    plan_of (Some (WholePlan q counts, [])) e p r =
-        let same : q ≡ p = cc r in
-        subst (λ p. SpellsText p text × IsWithinLimits p) same (whole_plan_spelled text tokens are q counts e)
-    plan_of _ e p r = absurd (cc r)
+    plan_of : (p : PlainTree) → whole_reading (plan_at limits 32 tokens) ≡ AsPlan p → SpellsText p text × IsWithinLimits p
+    plan_of p r = let read = read_as_plan (plan_at limits 32 tokens) p r in whole_plan_spelled text tokens are p read.0 read.1
 
-    limit_of : (read : ReadOf PlanDraft) → plan_at limits 32 tokens ≡ read → (what : PlanLimit) → whole_reading read ≡ AsTooLarge what → (p : PlainTree) × SpellsText p text × IsFirstPassed what p
-    limit_of (Some (TooLarge counts, [])) e what r =
-        let same : first_above counts ≡ what = cc r in
-        let large = too_large_spelled text tokens are counts e in
-        (large.0, large.1, subst (λ w. IsFirstPassed w large.0) same large.2)
-    limit_of _ e what r = absurd (cc r)
+    limit_of : (what : PlanLimit) → whole_reading (plan_at limits 32 tokens) ≡ AsTooLarge what → (p : PlainTree) × SpellsText p text × IsFirstPassed what p
+    limit_of what r =
+        let read = read_as_large (plan_at limits 32 tokens) what r in
+        let large = too_large_spelled text tokens are read.0 read.1 in
+        (large.0, large.1, subst (λ w. IsFirstPassed w large.0) read.2 large.2)
 
   pub reading_plan : (p : PlainTree) → text_reading text ≡ AsPlan p → SpellsText p text × IsWithinLimits p
   reading_plan p r = by (tokens_in text) refl r
     where
       by : (o : Option (List Token)) → tokens_in text ≡ o → tokens_reading o ≡ AsPlan p → SpellsText p text × IsWithinLimits p
       by None e r = absurd (cc r)
-      by (Some tokens) e r = plan_of tokens (tokens_are (suc (length text)) text tokens e) (plan_at limits 32 tokens) refl p r
+      by (Some tokens) e r = plan_of tokens (tokens_are (suc (length text)) text tokens e) p r
 
   pub reading_large : (what : PlanLimit) → text_reading text ≡ AsTooLarge what → (p : PlainTree) × SpellsText p text × IsFirstPassed what p
   reading_large what r = by (tokens_in text) refl r
     where
       by : (o : Option (List Token)) → tokens_in text ≡ o → tokens_reading o ≡ AsTooLarge what → (p : PlainTree) × SpellsText p text × IsFirstPassed what p
       by None e r = absurd (cc r)
-      by (Some tokens) e r = limit_of tokens (tokens_are (suc (length text)) text tokens e) (plan_at limits 32 tokens) refl what r
+      by (Some tokens) e r = limit_of tokens (tokens_are (suc (length text)) text tokens e) what r
 
   pub reading_none : text_reading text ≡ AsNone → (p : PlainTree) → SpellsText p text → ⊥
   reading_none r p s = by (are_within limits (capped limits (counts_of p))) (sym r ∙ spelled_reading p s)

@@ -32,6 +32,13 @@ pub fn parse_plan(alloc: Global, text: &[u8]) -> Result<NamedPlan, TextRefusal>
     ensures limit { (what : PlanLimit) → IsErrOf result (TextRefusal.Limit what) →
         ((plan : PlainTree) × SpellsText plan text.now × IsFirstPassed what plan) }
 {
+    plan_of_text(alloc, text)
+}
+
+/// The plan that a text is read as.
+fn plan_of_text(alloc: Global, text: &[u8]) -> Result<NamedPlan, TextRefusal>
+    ensures { Means (λ plan. plan) result (text_reading text.now) }
+{
     let tree = tree_of_text(alloc, text)?;
     Ok(NamedPlan::new(alloc, tree)?)
 }
