@@ -3,7 +3,7 @@
 use crate::texts::refused;
 use anyhow::Result;
 use plan_core::{Plan, PlanRefusal, Schemas, type_plan};
-use plan_text::{BindRefusal, NamedPlan, bind as bind_plan, parse_plan};
+use plan_text::{BindRefusal, NamedPlan, Stream, bind as bind_plan, parse_plan};
 use rows_core::{Column, Kind, Name, Schema, Seq};
 use std::alloc::Global;
 
@@ -35,15 +35,36 @@ pub fn typing(alloc: Global, text: &[u8]) -> Result<String> {
     Ok(String::from_str(alloc, answer)?)
 }
 
-fn bound(alloc: Global, plan: &NamedPlan) -> Result<Result<Plan, BindRefusal>> {
-    let names = vec![in alloc; Name::new(alloc, b"l")?, Name::new(alloc, b"r")?]?;
-    let left = schema(alloc, b"t", b"id")?;
-    let right = schema(alloc, b"k", b"v")?;
-    let schemas = vec![in alloc; left, right]?;
-    Ok(bind_plan(alloc, plan, names.as_slice(), schemas.as_slice()))
+/// A stream, kept as the cases need it.
+#[derive(Drop)]
+struct KeptStream {
+    name: Name,
+    schema: Schema,
 }
 
-fn schema(alloc: Global, text: &[u8], number: &[u8]) -> Result<Schema> {
+impl Stream for KeptStream {
+    ghost name_of = { λ stream. stream.name };
+
+    ghost columns_of = { λ stream. stream.schema };
+
+    fn name(&self) -> &Name {
+        &self.name
+    }
+
+    fn schema(&self) -> &Schema {
+        &self.schema
+    }
+}
+
+fn bound(alloc: Global, plan: &NamedPlan) -> Result<Result<Plan, BindRefusal>> {
+    let left = kept(alloc, b"l", b"t", b"id")?;
+    let right = kept(alloc, b"r", b"k", b"v")?;
+    let streams = vec![in alloc; left, right]?;
+    Ok(bind_plan(alloc, plan, streams.as_slice()))
+}
+
+/// The stream of this name with a column of texts and one of numbers.
+fn kept(alloc: Global, name: &[u8], text: &[u8], number: &[u8]) -> Result<KeptStream> {
     let first = Column {
         name: Name::new(alloc, text)?,
         kind: Kind::Text,
@@ -52,7 +73,10 @@ fn schema(alloc: Global, text: &[u8], number: &[u8]) -> Result<Schema> {
         name: Name::new(alloc, number)?,
         kind: Kind::Int,
     };
-    Ok(Schema::new(vec![in alloc; first, second]?)?)
+    Ok(KeptStream {
+        name: Name::new(alloc, name)?,
+        schema: Schema::new(vec![in alloc; first, second]?)?,
+    })
 }
 
 fn kinds(alloc: Global) -> Result<Schemas> {

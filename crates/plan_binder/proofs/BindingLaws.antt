@@ -1,8 +1,5 @@
 -- What the binding of operators rests on.
-use Rattle.std.proofs.Common.{◌≡◌, ◌∙◌, refl, sym, ap, ℕ, Bool, List, [], ◌∷◌, ◌++◌, map, Option, None, Some}
-use Rattle.std.specs.Option.{option_or}
-use Rattle.std.specs.List.{find}
-use Rattle.std.proofs.lemmas.List.Folds.{find-append}
+use Rattle.std.proofs.Common.{◌≡◌, refl, ap, List, [], ◌∷◌, map, Option, None, Some, Err}
 use Rattle.rows_core.specs.declared.kind.Kind as kind
 use Rattle.rows_core.specs.declared.kind.Kind.TheVariants.{Int, Text}
 use Rattle.plan_core.specs.declared.expr.Expr.{Expr}
@@ -10,7 +7,10 @@ use Rattle.plan_core.specs.PlainExpr as bound
 use Rattle.plan_core.specs.PlanTyping.{Kinds, number_kind, column_kind_of}
 use Rattle.plan_grammar.specs.declared.plan.NamedColumn.{NamedColumn}
 use Rattle.plan_grammar.specs.PlainNamed.{expr_of, column_of}
+use Rattle.plan_binder.specs.declared.refusal.BindRefusal.{BindRefusal}
+use Rattle.plan_binder.specs.declared.refusal.BindRefusal.TheVariants as refusal
 use Rattle.plan_binder.specs.Binding.{Names, bound_expr, kind_or_int}
+use Rattle.plan_binder.specs.Resolves.{Resolves}
 
 pub number_or_int : (k : Option kind.Kind) → kind_or_int (number_kind k) ≡ Int
 number_or_int None = refl
@@ -31,9 +31,9 @@ pub kinds_of_exprs : (kinds : Kinds) (exprs : List Expr)
 kinds_of_exprs kinds [] = refl
 kinds_of_exprs kinds (e ∷ exprs) = ap (λ ks. kind_or_int (column_kind_of kinds (bound.expr_of e)) ∷ ks) (kinds_of_exprs kinds exprs)
 
--- the first of two lists' items is the first list's, where it has one
-pub find_left : (p : List ℕ → Bool) (xs ys : List (List ℕ)) (x : List ℕ) → Some x ≡ find p xs → Some x ≡ find p (xs ++ ys)
-find_left p xs ys x e = sym (find-append p xs ys ∙ ap (λ o. option_or o (find p ys)) (sym e))
-
-pub find_right : (p : List ℕ → Bool) (xs ys : List (List ℕ)) (o : Option (List ℕ)) → None ≡ find p xs → o ≡ find p ys → o ≡ find p (xs ++ ys)
-find_right p xs ys o none e = e ∙ sym (find-append p xs ys ∙ ap (λ o. option_or o (find p ys)) (sym none))
+-- where one thing isn't there, another isn't
+pub Resolves-fail : {A B C D : Type 0} (e : BindRefusal) (view : A → B) (other_view : C → D) (one : Option B) (other : Option D)
+    → (one ≡ None → other ≡ None) → Resolves view (Err e) one → Resolves other_view (Err e) other
+Resolves-fail refusal.IllTyped view other_view one other fails r = fails r
+Resolves-fail (refusal.Unknown stream) view other_view one other fails r = r
+Resolves-fail refusal.Memory view other_view one other fails r = tt

@@ -85,11 +85,7 @@ pub fn bind_pairs(
     Ok(found)
 }
 
-fn bind_pair(
-    lefts: &[Name],
-    rights: &[Name],
-    pair: &NamedPair,
-) -> Result<(u32, u32), BindRefusal>
+fn bind_pair(lefts: &[Name], rights: &[Name], pair: &NamedPair) -> Result<(u32, u32), BindRefusal>
     ensures { Resolves (λ places. places) result (bound_pair lefts.now rights.now pair.now) }
 {
     let left = place_of(lefts, pair.left.bytes())?;
@@ -99,11 +95,7 @@ fn bind_pair(
 
 /// The keys with numbers.
 #[tactic(auto, using(plan_core::specs::AllThere::found_start, plan_core::specs::AllThere::found_more, plan_core::specs::AllThere::found_none, plan_core::specs::AllThere::found_end))]
-pub fn bind_keys(
-    alloc: Global,
-    names: &[Name],
-    keys: &[NamedKey],
-) -> Result<Vec<Key>, BindRefusal>
+pub fn bind_keys(alloc: Global, names: &[Name], keys: &[NamedKey]) -> Result<Vec<Key>, BindRefusal>
     ensures { Resolves items_of result (all_there (map (bound_key names.now) keys.now)) }
 {
     let mut found = Vec::with_capacity(alloc, keys.len())?;

@@ -26,11 +26,7 @@ use std::alloc::Global;
 /// operation's first row, and the plan has no typing (`plans_without_a_row_have_no_typing`). The rules are this project's
 /// own. `Memory` where memory was asked for and refused, or a place is above 4,294,967,295: no list is that long. Names may
 /// repeat: the first one counts.
-pub fn bind<S: Stream>(
-    alloc: Global,
-    plan: &NamedPlan,
-    streams: &[S],
-) -> Result<Plan, BindRefusal>
+pub fn bind<S: Stream>(alloc: Global, plan: &NamedPlan, streams: &[S]) -> Result<Plan, BindRefusal>
     ensures { Binds result (binding (map S.name_of streams.now) (map S.columns_of streams.now) plan.now) }
 {
     match first_absent(streams, plan.streams()) {
@@ -49,11 +45,7 @@ fn first_absent<'a, S: Stream>(streams: &[S], names: &'a [Name]) -> Option<&'a N
 }
 
 /// The plan of these operators, whose streams are all there.
-fn bind_tree<S: Stream>(
-    alloc: Global,
-    tree: &NamedTree,
-    streams: &[S],
-) -> Result<Plan, BindRefusal>
+fn bind_tree<S: Stream>(alloc: Global, tree: &NamedTree, streams: &[S]) -> Result<Plan, BindRefusal>
     ensures { Resolves plan_of result (option_map (λ b. b.plan)
         (bound_tree (map S.name_of streams.now) (map S.columns_of streams.now) (tree_of tree.now))) }
 {

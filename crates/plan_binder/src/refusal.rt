@@ -3,7 +3,7 @@ ghost use Rattle.std.specs.Prelude.{◌≡◌};
 ghost use Rattle.plan_binder.specs.declared.refusal.BindRefusal.TheVariants as bound;
 
 use rows_core::{Memory, Name};
-use std::alloc::AllocError;
+use std::alloc::{AllocError, AllocFailed};
 use thiserror::Error;
 
 /// Why a plan's names were not bound.
@@ -31,6 +31,14 @@ impl From<AllocError> for BindRefusal {
     ghost from_gives = { λ _ e. e ≡ bound.Memory };
 
     fn from(_error: AllocError) -> BindRefusal {
+        BindRefusal::Memory
+    }
+}
+
+impl<T: Drop> From<AllocFailed<T>> for BindRefusal {
+    ghost from_gives = { λ _ e. e ≡ bound.Memory };
+
+    fn from(_error: AllocFailed<T>) -> BindRefusal {
         BindRefusal::Memory
     }
 }

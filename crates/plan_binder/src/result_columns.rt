@@ -6,8 +6,8 @@ ghost use Rattle.plan_core.specs.PlanTyping.{column_kind_of, agg_kind};
 ghost use Rattle.plan_grammar.specs.PlainNamed.{column_of};
 ghost use Rattle.plan_binder.specs.Binding.{kind_or_int};
 
-use plan_grammar::{NamedColumn, NamedResult};
 use plan_core::{Agg, Expr, expression_kind};
+use plan_grammar::{NamedColumn, NamedResult};
 use rows_core::{Column, Kind, Memory, Name};
 use scalar_ops::CellKind;
 use std::alloc::Global;
@@ -42,7 +42,12 @@ pub fn column_names(alloc: Global, columns: &[NamedColumn]) -> Result<Vec<Name>,
 pub fn expr_kinds(alloc: Global, kinds: &[Kind], exprs: &[Expr]) -> Result<Vec<Kind>, Memory>
     ensures { IfOk result (λ found. found.items ≡ map (λ e. kind_or_int (column_kind_of kinds.now e)) (map bound.expr_of exprs.now)) }
 {
-    Ok(exprs.iter().map(|expr| expr_kind(kinds, expr)).collect(alloc)?)
+    Ok(
+        exprs
+            .iter()
+            .map(|expr| expr_kind(kinds, expr))
+            .collect(alloc)?,
+    )
 }
 
 fn expr_kind(kinds: &[Kind], expr: &Expr) -> Kind
@@ -100,10 +105,12 @@ pub fn group_kinds(
 fn place_kinds(alloc: Global, kinds: &[Kind], places: &[u32]) -> Result<Vec<Kind>, Memory>
     ensures { IfOk result (λ found. found.items ≡ map (λ place. kind_or_int (slice_get kinds.now place)) places.now) }
 {
-    Ok(places
-        .iter()
-        .map(|place| place_kind(kinds, *place))
-        .collect(alloc)?)
+    Ok(
+        places
+            .iter()
+            .map(|place| place_kind(kinds, *place))
+            .collect(alloc)?,
+    )
 }
 
 fn place_kind(kinds: &[Kind], place: u32) -> Kind

@@ -8,6 +8,7 @@ use rows_core::{Name, Schema};
 /// A stream, with its name and its columns. Who keeps streams lends them as they are, without a copy.
 pub trait Stream {
     ghost name_of: { Self → List ℕ };
+
     ghost columns_of: { Self → List Column };
 
     fn name(&self) -> &Name
@@ -21,7 +22,9 @@ pub trait Stream {
 pub fn stream_place<S: Stream>(streams: &[S], name: &[u8]) -> Option<usize>
     ensures { result ≡ place_of (map S.name_of streams.now) name.now }
 {
-    streams.iter().position(|stream| stream.name().bytes() == name)
+    streams
+        .iter()
+        .position(|stream| stream.name().bytes() == name)
 }
 
 pub fn stream_is_there<S: Stream>(streams: &[S], name: &[u8]) -> bool

@@ -1,5 +1,5 @@
 -- What a whole text spells.
-use Rattle.std.proofs.Common.{◌≡◌, refl, sym, ap, ◌∙◌, subst, ℕ, ◌≤◌, ◌<◌, Bool, true, false, cond, nat_le, List, [], ◌∷◌, Some, Result, Ok, Err, IfOk, arith}
+use Rattle.std.proofs.Common.{◌≡◌, refl, sym, ap, ◌∙◌, subst, ℕ, ◌≤◌, ◌<◌, Bool, true, false, cond, nat_le, List, [], Option, Some, Result, Ok, Err, IfOk, arith}
 use Rattle.std.proofs.lemmas.Bool.Decides.{nat_tests}
 use Rattle.plan_grammar.specs.declared.token.Token.{Token}
 use Rattle.plan_grammar.specs.declared.expr.NamedExpr as code
@@ -7,7 +7,7 @@ use Rattle.plan_grammar.specs.declared.limit.PlanLimit as the_limit
 use Rattle.plan_grammar.specs.declared.limit.PlanLimit.TheVariants as limit
 use Rattle.plan_parser.specs.declared.refusal.TextRefusal.{TextRefusal}
 use Rattle.plan_parser.specs.declared.refusal.TextRefusal.TheVariants as refusal
-use Rattle.plan_grammar.specs.Token.{AreTokens, token_at}
+use Rattle.plan_grammar.specs.Token.{AreTokens}
 use Rattle.plan_grammar.specs.PlainNamed.{PlainExpr, expr_of}
 use Rattle.plan_grammar.specs.Counts.{expr_nodes}
 use Rattle.plan_grammar.specs.Grammar.{E, Spells}
@@ -15,24 +15,16 @@ use Rattle.plan_parser.specs.Draft.{PlainDraft, Whole, TooMany, draft_of}
 use Rattle.plan_parser.specs.Reading.{expr_at, inner}
 use Rattle.plan_grammar.specs.Spelled.{SpellsExpr}
 use Rattle.plan_parser.specs.Answer.{MeansWhole}
-use Rattle.plan_grammar.proofs.TokenLemmas.{both}
+use Rattle.plan_grammar.proofs.TextTokenLaws.{tokens_in-some}
 use Rattle.plan_parser.proofs.Sound.{read_is_spelled}
 use Rattle.plan_parser.proofs.OneReading.{spelled_is_read}
 
--- nothing but spaces is no token
-no_token : (t : Token) (rest : List ℕ) → token_at [] ≡ Some (t, rest) → ⊥
-unfolding token_at
-no_token t rest e = cc e
-
 -- a text has one list of tokens
 pub one_list : (ts us : List Token) (text : List ℕ) → AreTokens ts text → AreTokens us text → ts ≡ us
-one_list [] [] text a b = refl
-one_list [] (t ∷ us) text a b = absurd (no_token t b.0 (sym (ap token_at a) ∙ b.1))
-one_list (t ∷ ts) [] text a b = absurd (no_token t a.0 (sym (ap token_at b) ∙ a.1))
-one_list (t ∷ ts) (u ∷ us) text a b =
-    let p = both t u a.0 b.0 (sym a.1 ∙ b.1) in
-    let others = one_list ts us b.0 (subst (AreTokens ts) p.1 a.3) b.3 in
-    λ i. p.0 i ∷ others i
+one_list ts us text a b = same (sym (tokens_in-some text ts a) ∙ tokens_in-some text us b)
+  where
+    same : ◌≡◌ {A = Option (List Token)} (Some ts) (Some us) → ts ≡ us
+    same e = cc e
 
 module _ (text : List ℕ) (tokens : List Token) (are : AreTokens tokens text) where
   -- what was read up to the end is spelled

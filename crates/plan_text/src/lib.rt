@@ -3,10 +3,10 @@
 
 pub mod laws;
 
-pub use plan_binder::{BindRefusal, bind, bind_laws};
+pub use plan_binder::{BindRefusal, Stream, bind, bind_laws};
 pub use plan_grammar::{
     Mark, NamedAgg, NamedColumn, NamedExpr, NamedKey, NamedPair, NamedPlan, NamedResult, NamedTree,
     PlanLimit, Token, Word,
 };
 pub use plan_parser::{TextRefusal, parse_expr, parse_plan, plan_laws};
-pub use plan_printer::{print_expr, print_plan, print_laws};
+pub use plan_printer::{print_expr, print_laws, print_plan};
