@@ -3,7 +3,7 @@ ghost use Rattle.std.specs.Prelude.{◌≡◌, map, IfOk};
 ghost use Rattle.std.specs.Option.{option_map};
 ghost use Rattle.plan_core.specs.PlainExpr as bound;
 ghost use Rattle.plan_core.specs.PlanTyping.{all_there};
-ghost use Rattle.plan_grammar.specs.PlainNamed.{expr_of, column_of};
+ghost use Rattle.plan_grammar.specs.PlainNamed.{expr_of};
 ghost use Rattle.plan_binder.specs.Binding.{bound_expr, place_of, call1, of_two, of_three};
 ghost use Rattle.plan_binder.specs.BoundPlan.{operated};
 ghost use Rattle.plan_binder.specs.Resolves.{Resolves};
@@ -41,7 +41,7 @@ pub fn bind_expr(
             bind_operands(alloc, names, kinds, Operator::And, left, right)
         }
         NamedExpr::Or(left, right) => bind_operands(alloc, names, kinds, Operator::Or, left, right),
-        NamedExpr::If(test, then, other) => bind_choice(alloc, names, kinds, test, then, other),
+        NamedExpr::If(test, first, last) => bind_choice(alloc, names, kinds, test, first, last),
     }
 }
 
@@ -111,25 +111,25 @@ fn bind_choice(
     names: &[Name],
     kinds: &[Kind],
     test: &NamedExpr,
-    then: &NamedExpr,
-    other: &NamedExpr,
+    first: &NamedExpr,
+    last: &NamedExpr,
 ) -> Result<Expr, BindRefusal>
     ensures { Resolves bound.expr_of result (of_three bound.If (bound_expr names.now kinds.now (expr_of test.now))
-        (bound_expr names.now kinds.now (expr_of then.now)) (bound_expr names.now kinds.now (expr_of other.now))) }
+        (bound_expr names.now kinds.now (expr_of first.now)) (bound_expr names.now kinds.now (expr_of last.now))) }
 {
     let test = bind_expr(alloc, names, kinds, test)?;
-    let then = bind_expr(alloc, names, kinds, then)?;
-    let other = bind_expr(alloc, names, kinds, other)?;
-    Ok(choose(alloc, test, then, other)?)
+    let first = bind_expr(alloc, names, kinds, first)?;
+    let last = bind_expr(alloc, names, kinds, last)?;
+    Ok(choose(alloc, test, first, last)?)
 }
 
-fn choose(alloc: Global, test: Expr, then: Expr, other: Expr) -> Result<Expr, Memory>
-    ensures { IfOk result (λ e. bound.expr_of e ≡ bound.If (bound.expr_of test) (bound.expr_of then) (bound.expr_of other)) }
+fn choose(alloc: Global, test: Expr, first: Expr, last: Expr) -> Result<Expr, Memory>
+    ensures { IfOk result (λ e. bound.expr_of e ≡ bound.If (bound.expr_of test) (bound.expr_of first) (bound.expr_of last)) }
 {
     let test = Box::new(alloc, test)?;
-    let then = Box::new(alloc, then)?;
-    let other = Box::new(alloc, other)?;
-    Ok(Expr::If(test, then, other))
+    let first = Box::new(alloc, first)?;
+    let last = Box::new(alloc, last)?;
+    Ok(Expr::If(test, first, last))
 }
 
 /// The expressions of the columns.
@@ -141,7 +141,7 @@ pub fn bind_exprs(
     columns: &[NamedColumn],
 ) -> Result<Vec<Expr>, BindRefusal>
     ensures { Resolves (λ v. map bound.expr_of v.items) result
-        (all_there (map (λ column. bound_expr names.now kinds.now column.expr) (map column_of columns.now))) }
+        (all_there (map (λ column. bound_expr names.now kinds.now (expr_of column.expr)) columns.now)) }
 {
     let mut found = Vec::with_capacity(alloc, columns.len())?;
     for column in columns {

@@ -1,10 +1,12 @@
 //! Operators with numbers in place of names. Of each the names are resolved first, and then it is put onto its inputs.
 ghost use Rattle.std.specs.Prelude.{◌≡◌, Some, map, IfOk};
+ghost use Rattle.std.specs.Option.{option_and_then};
 ghost use Rattle.rows_core.specs.Schema.{kinds_of};
+ghost use Rattle.plan_core.specs.PlanTyping.{all_there};
 ghost use Rattle.plan_core.specs.PlainExpr as bound;
 ghost use Rattle.plan_core.specs.PlainPlan.{plan_of, Scan, Filter, Order};
 ghost use Rattle.plan_grammar.specs.PlainNamed.{expr_of, column_of};
-ghost use Rattle.plan_binder.specs.Binding.{with_columns, projected, grouped, joined, bound_from, bound_where, bound_select, bound_distinct, bound_group, bound_join, bound_concat, bound_order};
+ghost use Rattle.plan_binder.specs.Binding.{bound_expr, with_columns, projected, grouped, joined, bound_from, bound_where, bound_select, bound_distinct, bound_group, bound_join, bound_concat, bound_order};
 ghost use Rattle.plan_binder.specs.BoundPlan.{bound_of};
 ghost use Rattle.plan_binder.specs.Resolves.{Resolves};
 
@@ -100,6 +102,13 @@ pub fn bind_select(
     columns: &[NamedColumn],
 ) -> Result<Bound, BindRefusal>
     ensures { Resolves bound_of result (bound_select (map column_of columns.now) (bound_of input)) }
+{
+    select(alloc, input, columns)
+}
+
+fn select(alloc: Global, input: Bound, columns: &[NamedColumn]) -> Result<Bound, BindRefusal>
+    ensures { Resolves bound_of result (option_and_then (projected (bound_of input) (map (λ column. column.name) columns.now))
+        (all_there (map (λ column. bound_expr input.names input.kinds (expr_of column.expr)) columns.now))) }
 {
     let exprs = bind_exprs(alloc, input.names.items(), input.kinds.items(), columns)?;
     let names = column_names(alloc, columns)?;

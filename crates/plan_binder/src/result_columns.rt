@@ -3,7 +3,6 @@ ghost use Rattle.std.specs.Prelude.{◌≡◌, ◌++◌, map, slice_get, IfOk};
 ghost use Rattle.rows_core.specs.Schema.{kinds_of};
 ghost use Rattle.plan_core.specs.PlainExpr as bound;
 ghost use Rattle.plan_core.specs.PlanTyping.{column_kind_of, agg_kind};
-ghost use Rattle.plan_grammar.specs.PlainNamed.{column_of};
 ghost use Rattle.plan_binder.specs.Binding.{kind_or_int};
 
 use plan_core::{Agg, Expr, expression_kind};
@@ -29,7 +28,7 @@ pub fn schema_kinds(alloc: Global, columns: &[Column]) -> Result<Vec<Kind>, Memo
 }
 
 pub fn column_names(alloc: Global, columns: &[NamedColumn]) -> Result<Vec<Name>, Memory>
-    ensures { IfOk result (λ names. names.items ≡ map (λ column. column.name) (map column_of columns.now)) }
+    ensures { IfOk result (λ names. names.items ≡ map (λ column. column.name) columns.now) }
 {
     let mut names = Vec::with_capacity(alloc, columns.len())?;
     for column in columns {
@@ -40,7 +39,7 @@ pub fn column_names(alloc: Global, columns: &[NamedColumn]) -> Result<Vec<Name>,
 
 /// The kinds of these expressions as columns. One that has none counts as a number: typing refuses its plan.
 pub fn expr_kinds(alloc: Global, kinds: &[Kind], exprs: &[Expr]) -> Result<Vec<Kind>, Memory>
-    ensures { IfOk result (λ found. found.items ≡ map (λ e. kind_or_int (column_kind_of kinds.now e)) (map bound.expr_of exprs.now)) }
+    ensures { IfOk result (λ found. found.items ≡ map (λ e. kind_or_int (column_kind_of kinds.now (bound.expr_of e))) exprs.now) }
 {
     Ok(
         exprs

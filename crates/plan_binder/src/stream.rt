@@ -1,5 +1,6 @@
 //! Streams as a plan names them.
-ghost use Rattle.std.specs.Prelude.{◌≡◌, ℕ, List, map};
+ghost use Rattle.std.specs.Prelude.{◌≡◌, ℕ, List, map, bytes_eq};
+ghost use Rattle.std.specs.List.{list_any, position};
 ghost use Rattle.rows_core.specs.declared.schema.Column.{Column};
 ghost use Rattle.plan_binder.specs.Binding.{place_of, is_there};
 
@@ -22,6 +23,12 @@ pub trait Stream {
 pub fn stream_place<S: Stream>(streams: &[S], name: &[u8]) -> Option<usize>
     ensures { result ≡ place_of (map S.name_of streams.now) name.now }
 {
+    place_in(streams, name)
+}
+
+fn place_in<S: Stream>(streams: &[S], name: &[u8]) -> Option<usize>
+    ensures { result ≡ position (λ stream. bytes_eq (S.name_of stream) name.now) streams.now }
+{
     streams
         .iter()
         .position(|stream| stream.name().bytes() == name)
@@ -29,6 +36,12 @@ pub fn stream_place<S: Stream>(streams: &[S], name: &[u8]) -> Option<usize>
 
 pub fn stream_is_there<S: Stream>(streams: &[S], name: &[u8]) -> bool
     ensures { result ≡ is_there (map S.name_of streams.now) name.now }
+{
+    is_in(streams, name)
+}
+
+fn is_in<S: Stream>(streams: &[S], name: &[u8]) -> bool
+    ensures { result ≡ list_any (λ stream. bytes_eq (S.name_of stream) name.now) streams.now }
 {
     streams.iter().any(|stream| stream.name().bytes() == name)
 }
