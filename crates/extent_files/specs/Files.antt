@@ -4,7 +4,9 @@ use Rattle.sha2.specs.Sha256.{sha256}
 use Rattle.rows_core.specs.declared.file_ref.Digest.{Digest}
 use Rattle.outside_traits.specs.Counts.{Rose}
 use Rattle.outside_traits.specs.View.{Counts}
-use Rattle.outside_traits.specs.Calls.{Takes}
+use Rattle.outside_traits.specs.Calls.{CountsTaken}
+use Rattle.outside_traits.specs.declared.front.Unread.{Unread}
+use Rattle.outside_traits.specs.declared.front.Unread.TheVariants as unread
 use Rattle.extent_files.specs.declared.refusal.FileRefusal.{FileRefusal}
 use Rattle.extent_files.specs.declared.refusal.FileRefusal.TheVariants.{Fault, Damaged, Memory}
 
@@ -12,15 +14,20 @@ use Rattle.extent_files.specs.declared.refusal.FileRefusal.TheVariants.{Fault, D
 abbrev pub digest_of : List ℕ → Digest
 digest_of bytes = record { bytes = sha256 bytes }
 
--- on every store: a fault comes only where the count of failed looks rose, damage only where the digests differ, and
--- the kept digest is that of the reference
+-- why the first bytes weren't read, as a reason why the file isn't given
+abbrev pub unread_as : Unread → FileRefusal
+unread_as unread.Fault = Fault
+unread_as unread.Memory = Memory
+
+-- On every store: a fault comes only where the count of failed looks rose, and nothing else raises it; damage comes only
+-- where the digests differ, and the kept one is that of the reference; after a fault or want of memory nothing was taken.
 abbrev pub HasCause : Digest → Counts → Counts → FileRefusal → Type 0
-HasCause digest old new Fault = Rose old.reads new.reads
-HasCause digest old new (Damaged kept found) = (kept ≡ digest) × (found ≢ digest)
-HasCause digest old new Memory = ⊤
+HasCause digest old new Fault = Rose old.reads new.reads × (new.taken ≡ old.taken)
+HasCause digest old new (Damaged kept found) = (kept ≡ digest) × (found ≢ digest) × (new.reads ≡ old.reads)
+HasCause digest old new Memory = (new.reads ≡ old.reads) × (new.taken ≡ old.taken)
 
 -- where the store tells its files: the bytes found are the first ones of the file, as many as count, and these were taken
 abbrev pub FoundIn : List ℕ → Counts → Counts → FileRefusal → Type 0
 FoundIn bytes old new Fault = ⊤
-FoundIn bytes old new (Damaged kept found) = (found ≡ digest_of bytes) × Takes (length bytes) old new
+FoundIn bytes old new (Damaged kept found) = (found ≡ digest_of bytes) × CountsTaken (length bytes) old new
 FoundIn bytes old new Memory = ⊤

@@ -1,10 +1,10 @@
 //! Why a file's bytes aren't given.
 ghost use Rattle.std.specs.Prelude.{◌≡◌};
-ghost use Rattle.extent_files.specs.declared.refusal.FileRefusal.TheVariants.{Fault, Memory};
+ghost use Rattle.extent_files.specs.declared.refusal.FileRefusal.TheVariants.{Fault};
+ghost use Rattle.extent_files.specs.Files.{unread_as};
 
-use outside_traits::Failed;
+use outside_traits::{Failed, Unread};
 use rows_core::Digest;
-use std::alloc::AllocError;
 use thiserror::Error;
 
 /// Why a file wasn't read.
@@ -29,10 +29,13 @@ impl From<Failed> for FileRefusal {
     }
 }
 
-impl From<AllocError> for FileRefusal {
-    ghost from_gives = { λ _ e. e ≡ Memory };
+impl From<Unread> for FileRefusal {
+    ghost from_gives = { λ unread e. e ≡ unread_as unread };
 
-    fn from(_error: AllocError) -> FileRefusal {
-        FileRefusal::Memory
+    fn from(unread: Unread) -> FileRefusal {
+        match unread {
+            Unread::Fault => FileRefusal::Fault,
+            Unread::Memory => FileRefusal::Memory,
+        }
     }
 }

@@ -1,7 +1,7 @@
 -- What a crash leaves while a body is committed.
-use Rattle.std.proofs.Common.{◌≡◌, ◌≢◌, inl, inr, ℕ, ◌+◌, ◌≤◌, min, List, [], ◌∷◌, ◌++◌, length, take, drop, refl, sym, ap, ◌∙◌, subst, arith, length-append, append_assoc}
+use Rattle.std.proofs.Common.{◌≡◌, inl, inr, ℕ, ◌+◌, ◌≤◌, min, List, [], ◌∷◌, ◌++◌, length, take, drop, refl, sym, ap, ◌∙◌, subst, arith, length-append, append_assoc}
 use Rattle.std.specs.List.{All}
-use Rattle.std.proofs.lemmas.List.{append-nil, take_at, take-take, take-append-drop}
+use Rattle.std.proofs.lemmas.List.{append-nil, take_at, drop_at, take-take, drop-drop, take-append-drop}
 use Rattle.std.proofs.lemmas.List.Elements.{All-nil, All-push}
 use Rattle.std.proofs.lemmas.Bool.{cases_eq}
 use Rattle.outside_traits.specs.View.{View}
@@ -9,7 +9,7 @@ use Rattle.outside_traits.specs.Calls.{Acts, Torn, Shortened, overlaid}
 use Rattle.outside_traits.specs.Runs.{Touches}
 use Rattle.outside_traits.proofs.RunLemmas.{called}
 use Rattle.outside_traits.proofs.ByteLemmas.{overlaid_over, overlaid_within, torn_within}
-use Rattle.gated_log.specs.Logs.{header, length_bytes, spelled, IsBody, blocks, front, Reads}
+use Rattle.gated_log.specs.Logs.{header, length_bytes, spelled, IsBody, blocks, front, sealed, Reads}
 use Rattle.gated_log.specs.Stands.{IsBeforeOrAfter, IsStaged}
 use Rattle.gated_log.proofs.Blocks.{length-length_bytes}
 
@@ -45,9 +45,18 @@ wrote_behind file ps end at n u v w end_is low run acts =
     called file (Reads ps) (Torn at n) u v w run acts
     (λ d x now torn. behind ps end at n d x end_is low (run.each v.moment d run.time.later (omega arith) now) torn)
 
+-- what stands behind the three writes is what stood there
+same_rest : (kept rest f0 : List ℕ) (end len size : ℕ) → length kept ≡ end → len ≡ 4 → f0 ≡ kept ++ rest → drop 1 (drop size (drop len rest)) ≡ drop (end + size + 5) f0
+same_rest kept rest f0 end len size place four is =
+    ap (λ (l : List ℕ). drop 1 l) (drop-drop size len rest) ∙ drop-drop 1 (len + size) rest
+    ∙ ap (λ (m : ℕ). drop m rest) (let e : len + size + 1 ≡ size + 5 = omega (arith, four) in e)
+    ∙ ap (λ (l : List ℕ). drop (size + 5) l) (sym (drop_at kept rest end place)) ∙ drop-drop (size + 5) end (kept ++ rest)
+    ∙ ap (λ (m : ℕ). drop m (kept ++ rest)) (let e : end + (size + 5) ≡ end + size + 5 = omega arith in e)
+    ∙ ap (λ (l : List ℕ). drop (end + size + 5) l) (sym is)
+
 -- the three writes, all done, stage the body
 pub staged_by : (ps : List (List ℕ)) (end : ℕ) (body f0 f1 f2 f3 : List ℕ) → end ≡ length (front ps) + 1 → IsBody body → Reads ps f0
-    → f1 ≡ overlaid f0 end (length_bytes (length body)) → f2 ≡ overlaid f1 (end + 4) body → f3 ≡ overlaid f2 (end + 4 + length body) (0 ∷ []) → IsStaged ps body f3
+    → f1 ≡ overlaid f0 end (length_bytes (length body)) → f2 ≡ overlaid f1 (end + 4) body → f3 ≡ overlaid f2 (end + 4 + length body) (0 ∷ []) → IsStaged ps body (drop (end + length body + 5) f0) f3
 staged_by ps end body f0 f1 f2 f3 end_is is_body reads is_1 is_2 is_3 =
     let kept : List ℕ = front ps ++ reads.gate ∷ [] in
     let size : length kept ≡ end = omega (arith, length-append (front ps) (reads.gate ∷ []), end_is) in
@@ -65,21 +74,20 @@ staged_by ps end body f0 f1 f2 f3 end_is is_body reads is_1 is_2 is_3 =
     let size_2 : length ((kept ++ len) ++ body) ≡ end + 4 + length body = omega (arith, length-append (kept ++ len) body, size_1) in
     let at_3 : f3 ≡ ((kept ++ len) ++ body) ++ (0 ∷ rest_3) =
     is_3 ∙ ap (λ (l : List ℕ). overlaid l (end + 4 + length body) (0 ∷ [])) at_2 ∙ overlaid_over ((kept ++ len) ++ body) rest_2 (0 ∷ []) (end + 4 + length body) size_2 in
+    let behind : rest_3 ≡ drop (end + length body + 5) f0 = same_rest kept reads.rest f0 end (length len) (length body) size len_size at_0 in
     record {
       gate = reads.gate;
-      next = 0;
-      rest = rest_3;
-      is = at_3 ∙ ap (λ (l : List ℕ). l ++ (0 ∷ rest_3)) (append_assoc kept len body) ∙ append_assoc kept (len ++ body) (0 ∷ rest_3) ∙ append_assoc (front ps) (reads.gate ∷ []) ((len ++ body) ++ (0 ∷ rest_3));
+      is = at_3 ∙ ap (λ (l : List ℕ). l ++ (0 ∷ rest_3)) (append_assoc kept len body) ∙ append_assoc kept (len ++ body) (0 ∷ rest_3) ∙ append_assoc (front ps) (reads.gate ∷ []) ((len ++ body) ++ (0 ∷ rest_3))
+          ∙ ap (λ (l : List ℕ). front ps ++ reads.gate ∷ (spelled body ++ 0 ∷ l)) behind;
       closed = reads.closed;
-      next_closed = λ is. cc;
       sizes = reads.sizes;
       size = is_body;
     }
 
 -- while the gate is closed, the staged body isn't read
-pub staged_reads : (ps : List (List ℕ)) (body x : List ℕ) → IsStaged ps body x → Reads ps x
-staged_reads ps body x staged =
-    record { gate = staged.gate; rest = spelled body ++ staged.next ∷ staged.rest; is = staged.is; closed = staged.closed; sizes = staged.sizes }
+pub staged_reads : (ps : List (List ℕ)) (body rest x : List ℕ) → IsStaged ps body rest x → Reads ps x
+staged_reads ps body rest x staged =
+    record { gate = staged.gate; rest = spelled body ++ 0 ∷ rest; is = staged.is; closed = staged.closed; sizes = staged.sizes }
 
 blocks_push : (ps : List (List ℕ)) (body : List ℕ) → blocks (ps ++ body ∷ []) ≡ blocks ps ++ (1 ∷ spelled body)
 blocks_push [] body = append-nil (1 ∷ spelled body)
@@ -93,45 +101,44 @@ pub length-front_push : (ps : List (List ℕ)) (body : List ℕ) → length (fro
 length-front_push ps body =
     omega (arith, ap length (front_push ps body), length-append (front ps) (1 ∷ spelled body), length-append (length_bytes (length body)) body, length-length_bytes (length body))
 
--- with the gate open it is read behind the others
-pub opened : (ps : List (List ℕ)) (body rest : List ℕ) (next : ℕ) (x : List ℕ) → next ≢ 1 → All IsBody ps → IsBody body
-    → x ≡ front ps ++ (1 ∷ (spelled body ++ next ∷ rest)) → Reads (ps ++ body ∷ []) x
-opened ps body rest next x closed sizes size is = record {
-  gate = next;
-  rest = rest;
-  is = is ∙ sym (append_assoc (front ps) (1 ∷ spelled body) (next ∷ rest)) ∙ ap (λ (l : List ℕ). l ++ next ∷ rest) (sym (front_push ps body));
-  closed = closed;
-  sizes = All-push IsBody ps body sizes size;
-}
+-- with the gate open it is the last body
+sealed_push : (ps : List (List ℕ)) (body rest : List ℕ) → front ps ++ (1 ∷ (spelled body ++ 0 ∷ rest)) ≡ sealed (ps ++ body ∷ []) rest
+sealed_push ps body rest = sym (append_assoc (front ps) (1 ∷ spelled body) (0 ∷ rest)) ∙ ap (λ (l : List ℕ). l ++ 0 ∷ rest) (sym (front_push ps body))
+
+pub sealed_reads : (ps : List (List ℕ)) (rest x : List ℕ) → All IsBody ps → x ≡ sealed ps rest → Reads ps x
+sealed_reads ps rest x sizes is = record { gate = 0; rest = rest; is = is; closed = λ is. cc; sizes = sizes }
 
 -- the write of the gate, however it is torn, leaves the bodies without the new one or with it
-pub gate_torn : (ps : List (List ℕ)) (body : List ℕ) (at : ℕ) (d x : List ℕ) → length (front ps) ≡ at → IsStaged ps body d → Torn at 1 d x → IsBeforeOrAfter ps body x
-gate_torn ps body at d x place staged torn =
-    let behind_gate : List ℕ = spelled body ++ staged.next ∷ staged.rest in
+pub gate_torn : (ps : List (List ℕ)) (body rest : List ℕ) (at : ℕ) (d x : List ℕ) → length (front ps) ≡ at → IsStaged ps body rest d → Torn at 1 d x → IsBeforeOrAfter ps body x
+gate_torn ps body rest at d x place staged torn =
+    let behind_gate : List ℕ = spelled body ++ 0 ∷ rest in
     let torn_here : Torn at 1 (front ps ++ ((staged.gate ∷ []) ++ behind_gate)) x = subst (λ (l : List ℕ). Torn at 1 l x) staged.is torn in
     let parts = torn_within (front ps) (staged.gate ∷ []) behind_gate x at 1 place refl torn_here in
     by_gate parts.0 parts.1 parts.2
   where
-    by_gate : (mid : List ℕ) → length mid ≡ 1 → x ≡ front ps ++ (mid ++ (spelled body ++ staged.next ∷ staged.rest)) → IsBeforeOrAfter ps body x
+    by_gate : (mid : List ℕ) → length mid ≡ 1 → x ≡ front ps ++ (mid ++ (spelled body ++ 0 ∷ rest)) → IsBeforeOrAfter ps body x
     by_gate [] one is = absurd (omega (arith, one))
     by_gate (gate ∷ []) one is = elim (cases_eq gate 1) [
-      | inl open_ ↦ inr (opened ps body staged.rest staged.next x staged.next_closed staged.sizes staged.size
-          (is ∙ ap (λ (b : ℕ). front ps ++ (b ∷ (spelled body ++ staged.next ∷ staged.rest))) open_))
-      | inr closed ↦ inl (record { gate = gate; rest = spelled body ++ staged.next ∷ staged.rest; is = is; closed = closed; sizes = staged.sizes })
+      | inl open_ ↦ inr (sealed_reads (ps ++ body ∷ []) rest x (All-push IsBody ps body staged.sizes staged.size)
+          (is ∙ ap (λ (b : ℕ). front ps ++ (b ∷ (spelled body ++ 0 ∷ rest))) open_ ∙ sealed_push ps body rest))
+      | inr closed ↦ inl (record { gate = gate; rest = spelled body ++ 0 ∷ rest; is = is; closed = closed; sizes = staged.sizes })
     ]
     by_gate (a ∷ b ∷ mid) one is = absurd (omega (arith, one))
 
 -- and once it is done, with it
-pub gate_opened : (ps : List (List ℕ)) (body : List ℕ) (at : ℕ) (d x : List ℕ) → length (front ps) ≡ at → IsStaged ps body d → x ≡ overlaid d at (1 ∷ []) → Reads (ps ++ body ∷ []) x
-gate_opened ps body at d x place staged is =
-    opened ps body staged.rest staged.next x staged.next_closed staged.sizes staged.size
-    (is ∙ ap (λ (l : List ℕ). overlaid l at (1 ∷ [])) staged.is
-    ∙ overlaid_within (front ps) (staged.gate ∷ []) (spelled body ++ staged.next ∷ staged.rest) (1 ∷ []) at place refl)
+pub gate_opened : (ps : List (List ℕ)) (body rest : List ℕ) (at : ℕ) (d x : List ℕ) → length (front ps) ≡ at → IsStaged ps body rest d → x ≡ overlaid d at (1 ∷ [])
+    → x ≡ sealed (ps ++ body ∷ []) rest
+gate_opened ps body rest at d x place staged is =
+    is ∙ ap (λ (l : List ℕ). overlaid l at (1 ∷ [])) staged.is
+    ∙ overlaid_within (front ps) (staged.gate ∷ []) (spelled body ++ 0 ∷ rest) (1 ∷ []) at place refl ∙ sealed_push ps body rest
 
 -- an empty log
-pub empty_log : Reads [] (78 ∷ 88 ∷ 76 ∷ 49 ∷ 0 ∷ 0 ∷ 0 ∷ 0 ∷ 0 ∷ [])
+pub empty_log : (x : List ℕ) → x ≡ sealed [] [] → Reads [] x
+empty_log x is = sealed_reads [] [] x (All-nil IsBody) is
+
+pub sealed_empty : sealed [] [] ≡ 78 ∷ 88 ∷ 76 ∷ 49 ∷ 0 ∷ 0 ∷ 0 ∷ 0 ∷ 0 ∷ []
 unfolding front
-empty_log = record { gate = 0; rest = []; is = refl; closed = λ is. cc; sizes = All-nil IsBody }
+sealed_empty = refl
 
 pub length-front_empty : length (front []) ≡ 8
 unfolding front

@@ -29,6 +29,10 @@ blocks (body ∷ bodies) = 1 ∷ spelled body ++ blocks bodies
 unfoldable pub front : List (List ℕ) → List ℕ
 front bodies = header ++ blocks bodies
 
+-- a log with these bodies as it is written: a closed gate 0 behind them, and then these bytes
+abbrev pub sealed : List (List ℕ) → List ℕ → List ℕ
+sealed bodies rest = front bodies ++ 0 ∷ rest
+
 -- The file is a log with these bodies: behind them stands a closed gate, and then anything.
 pub record Reads (bodies : List (List ℕ)) (file : List ℕ) : Type 0 where
   pub gate : ℕ

@@ -22,13 +22,10 @@ pub record Stands (v : View) (log : Log) (bodies : List (List ℕ)) : Type 0 whe
 abbrev pub IsBeforeOrAfter : List (List ℕ) → List ℕ → List ℕ → Type 0
 IsBeforeOrAfter bodies body x = Reads bodies x ⊎ Reads (bodies ++ body ∷ []) x
 
--- the new body stands whole behind the closed gate, and a closed gate behind it
-pub record IsStaged (bodies : List (List ℕ)) (body x : List ℕ) : Type 0 where
+-- the new body stands whole behind the closed gate, behind it a closed gate 0, and then these bytes
+pub record IsStaged (bodies : List (List ℕ)) (body rest x : List ℕ) : Type 0 where
   pub gate : ℕ
-  pub next : ℕ
-  pub rest : List ℕ
-  pub is : x ≡ front bodies ++ gate ∷ (spelled body ++ next ∷ rest)
+  pub is : x ≡ front bodies ++ gate ∷ (spelled body ++ 0 ∷ rest)
   pub closed : gate ≢ 1
-  pub next_closed : next ≢ 1
   pub sizes : All IsBody bodies
   pub size : IsBody body

@@ -24,6 +24,7 @@ pub(crate) fn parse(alloc: Global, bytes: &[u8]) -> Result<Parsed, LogRefusal>
     ensures bodies { IfOk result (λ parsed. Reads (contents parsed.bodies.items) bytes.now) }
     ensures sizes { IfOk result (λ parsed. All IsBody (contents parsed.bodies.items)) }
     ensures end { IfOk result (λ parsed. parsed.end ≡ length (front (contents parsed.bodies.items)) + 1) }
+    ensures bound { IfOk result (λ parsed. parsed.end ≤ length bytes.now) }
     ensures not_log { (at : ℕ) → IsErrOf result (LogRefusal.NotLog at) → StopsAt at bytes.now }
     ensures no_fault { IsErrOf result LogRefusal.Fault → ⊥ }
 {
@@ -54,6 +55,7 @@ fn parse_blocks(alloc: Global, bytes: &[u8]) -> Result<Parsed, LogRefusal>
     ensures bodies { IfOk result (λ parsed. Reads (contents parsed.bodies.items) bytes.now) }
     ensures sizes { IfOk result (λ parsed. All IsBody (contents parsed.bodies.items)) }
     ensures end { IfOk result (λ parsed. parsed.end ≡ length (front (contents parsed.bodies.items)) + 1) }
+    ensures bound { IfOk result (λ parsed. parsed.end ≤ length bytes.now) }
     ensures not_log { (at : ℕ) → IsErrOf result (LogRefusal.NotLog at) → StopsAt at bytes.now }
     ensures no_fault { IsErrOf result LogRefusal.Fault → ⊥ }
 {

@@ -1,8 +1,9 @@
 //! Why a log isn't read.
 ghost use Rattle.std.specs.Prelude.{◌≡◌};
 ghost use Rattle.gated_log.specs.declared.refusal.LogRefusal.TheVariants.{Fault, Memory};
+ghost use Rattle.gated_log.specs.Refusals.{unread_as};
 
-use outside_traits::Failed;
+use outside_traits::{Failed, Unread};
 use std::alloc::{AllocError, AllocFailed};
 use thiserror::Error;
 
@@ -25,6 +26,17 @@ impl From<Failed> for LogRefusal {
 
     fn from(_failed: Failed) -> LogRefusal {
         LogRefusal::Fault
+    }
+}
+
+impl From<Unread> for LogRefusal {
+    ghost from_gives = { λ unread e. e ≡ unread_as unread };
+
+    fn from(unread: Unread) -> LogRefusal {
+        match unread {
+            Unread::Fault => LogRefusal::Fault,
+            Unread::Memory => LogRefusal::Memory,
+        }
     }
 }
 

@@ -1,17 +1,18 @@
 //! One file of a store in memory, with what a crash may leave of it.
-ghost use Rattle.std.specs.Prelude.{◌≡◌, ℕ, ◌+◌, ◌^◌, ◌<◌, Bool, length, max, take, map, List, Option, Some, IfOk, OnOk};
+ghost use Rattle.std.specs.Prelude.{◌≡◌, ℕ, ◌+◌, ◌^◌, ◌<◌, Bool, [], ◌∷◌, length, max, take, map, List, Option, Some, IfOk, OnOk};
 ghost use Rattle.outside_traits.specs.Calls.{overlaid};
 ghost use Rattle.mem_outside.specs.Outcomes.{freed, freed_byte, settled, absent, written, shortened, synced, removed, kept, filled, first_or, left_of, stable_file};
 
 use rows_core::Memory;
 use std::alloc::Global;
 use std::marker::Model;
+use std::rc::Rc;
 
 /// What a crash may leave of a file. Of the first bytes some are fixed and the others may be anything; all of these
 /// are there, and any bytes may follow up to the greatest length.
 #[derive(Drop)]
 pub struct Loosened {
-    fixed: Vec<Option<u8>>,
+    fixed: Rc<Vec<Option<u8>>>,
     longest: u64,
 }
 
@@ -20,17 +21,18 @@ impl Model for Loosened {
 
     ghost Value = { Loose };
 
-    ghost view = { λ l. record { fixed = l.fixed.items; longest = l.longest } };
+    ghost view = { λ l. record { fixed = l.fixed.value.items; longest = l.longest } };
 }
 
-/// A file as it reads, with what a crash may leave of it, and of removed files of its number.
+/// A file as it reads, with what a crash may leave of it, and of removed files of its number. Copies share their bytes, so
+/// that a file which a call leaves alone is kept at each moment for the cost of a few pointers.
 #[derive(Drop)]
 pub struct FileState {
     number: u64,
     there: bool,
-    bytes: Vec<u8>,
+    bytes: Rc<Vec<u8>>,
     loose: Loosened,
-    gone: Vec<Loosened>,
+    gone: Rc<Vec<Loosened>>,
 }
 
 impl Model for FileState {
@@ -38,15 +40,34 @@ impl Model for FileState {
 
     ghost Value = { Shown };
 
-    ghost view = { λ s. record { number = s.number; there = s.there; bytes = s.bytes.items; loose = s.loose; gone = s.gone.items } };
+    ghost view = { λ s. record { number = s.number; there = s.there; bytes = s.bytes.value.items; loose = s.loose; gone = s.gone.value.items } };
 }
 
 impl Loosened {
-    pub fn try_copy(&self, alloc: Global) -> Result<Loosened, Memory>
+    fn none(alloc: Global) -> Result<Loosened, Memory>
+        ensures { IfOk result (λ loose. loose ≡ record { fixed = []; longest = 0 }) }
+    {
+        Ok(Loosened {
+            fixed: Rc::new(alloc, Vec::new(alloc))?,
+            longest: 0,
+        })
+    }
+
+    // Nothing is loose.
+    fn settled(alloc: Global, bytes: &[u8]) -> Result<Loosened, Memory>
+        ensures { IfOk result (λ loose. loose ≡ settled bytes.now) }
+    {
+        Ok(Loosened {
+            fixed: Rc::new(alloc, all_fixed(alloc, bytes)?)?,
+            longest: bytes.len() as u64,
+        })
+    }
+
+    pub fn try_copy(&self) -> Result<Loosened, Memory>
         ensures { IfOk result (λ copy. copy ≡ self.now) }
     {
         Ok(Loosened {
-            fixed: Vec::from_slice(alloc, &self.fixed)?,
+            fixed: self.fixed.clone()?,
             longest: self.longest,
         })
     }
@@ -74,26 +95,23 @@ impl Loosened {
         ensures { IfOk result (λ loose. loose ≡ record { fixed = freed at len self.now.fixed; longest = max self.now.longest (at + len) }) }
     {
         Ok(Loosened {
-            fixed: freed(alloc, &self.fixed, at, len as u64)?,
+            fixed: Rc::new(alloc, freed(alloc, &self.fixed, at, len as u64)?)?,
             longest: self.longest.max(at + len as u64),
         })
     }
 }
 
 impl FileState {
-    pub fn absent(alloc: Global, number: u64) -> FileState
-        ensures { result ≡ absent number }
+    pub fn absent(alloc: Global, number: u64) -> Result<FileState, Memory>
+        ensures { IfOk result (λ state. state ≡ absent number) }
     {
-        FileState {
+        Ok(FileState {
             number,
             there: false,
-            bytes: Vec::new(alloc),
-            loose: Loosened {
-                fixed: Vec::new(alloc),
-                longest: 0,
-            },
-            gone: Vec::new(alloc),
-        }
+            bytes: Rc::new(alloc, Vec::new(alloc))?,
+            loose: Loosened::none(alloc)?,
+            gone: Rc::new(alloc, Vec::new(alloc))?,
+        })
     }
 
     pub fn number(&self) -> u64
@@ -119,15 +137,15 @@ impl FileState {
         ensures { IfOk result (λ copy. copy ≡ kept all self.now) }
     {
         let gone = if all {
-            copy_all(alloc, &self.gone)?
+            self.gone.clone()?
         } else {
-            Vec::new(alloc)
+            Rc::new(alloc, Vec::new(alloc))?
         };
         Ok(FileState {
             number: self.number,
             there: self.there,
-            bytes: Vec::from_slice(alloc, &self.bytes)?,
-            loose: self.loose.try_copy(alloc)?,
+            bytes: self.bytes.clone()?,
+            loose: self.loose.try_copy()?,
             gone,
         })
     }
@@ -139,12 +157,9 @@ impl FileState {
         Ok(FileState {
             number,
             there: true,
-            bytes: Vec::from_slice(alloc, bytes)?,
-            loose: Loosened {
-                fixed: all_fixed(alloc, bytes)?,
-                longest: bytes.len() as u64,
-            },
-            gone: Vec::new(alloc),
+            bytes: Rc::new(alloc, Vec::from_slice(alloc, bytes)?)?,
+            loose: Loosened::settled(alloc, bytes)?,
+            gone: Rc::new(alloc, Vec::new(alloc))?,
         })
     }
 
@@ -164,14 +179,12 @@ impl FileState {
         } else {
             self.loose.filled(alloc, greatest, filler)?
         };
-        let fixed = all_fixed(alloc, &bytes)?;
-        let longest = bytes.len() as u64;
         Ok(FileState {
             number: self.number,
             there: self.there || comes_back,
-            bytes,
-            loose: Loosened { fixed, longest },
-            gone: Vec::new(alloc),
+            loose: Loosened::settled(alloc, &bytes)?,
+            bytes: Rc::new(alloc, bytes)?,
+            gone: Rc::new(alloc, Vec::new(alloc))?,
         })
     }
 
@@ -195,7 +208,7 @@ impl FileState {
         } = self;
         let loose = loose.freed(alloc, at, bytes.len())?;
         let bytes = if done {
-            overlaid(alloc, &old, at as usize, bytes)?
+            Rc::new(alloc, overlaid(alloc, &old, at as usize, bytes)?)?
         } else {
             old
         };
@@ -209,42 +222,45 @@ impl FileState {
     }
 
     /// After a cut, or after one that failed.
-    pub fn shortened(self, len: u64, done: bool) -> FileState
-        ensures { result ≡ shortened len done self }
+    pub fn shortened(self, alloc: Global, len: u64, done: bool) -> Result<FileState, Memory>
+        ensures { IfOk result (λ state. state ≡ shortened len done self) }
     {
         let FileState {
             number,
             there,
-            mut bytes,
+            bytes: old,
             loose,
             gone,
         } = self;
-        let Loosened { mut fixed, longest } = loose;
-        fixed.truncate(len as usize);
-        if done {
-            bytes.truncate(len as usize);
-        }
-        FileState {
+        let fixed = front(alloc, &loose.fixed, len)?;
+        let bytes = if done {
+            Rc::new(alloc, front(alloc, &old, len)?)?
+        } else {
+            old
+        };
+        Ok(FileState {
             number,
             there,
             bytes,
-            loose: Loosened { fixed, longest },
+            loose: Loosened {
+                fixed: Rc::new(alloc, fixed)?,
+                longest: loose.longest,
+            },
             gone,
-        }
+        })
     }
 
     /// After a sync.
     pub fn synced(self, alloc: Global) -> Result<FileState, Memory>
         ensures { IfOk result (λ state. state ≡ synced self) }
     {
-        let fixed = all_fixed(alloc, &self.bytes)?;
-        let longest = self.bytes.len() as u64;
+        let loose = Loosened::settled(alloc, &self.bytes)?;
         Ok(FileState {
             number: self.number,
             there: self.there,
             bytes: self.bytes,
-            loose: Loosened { fixed, longest },
-            gone: Vec::new(alloc),
+            loose,
+            gone: Rc::new(alloc, Vec::new(alloc))?,
         })
     }
 
@@ -257,30 +273,36 @@ impl FileState {
             there: _,
             bytes: _,
             loose,
-            mut gone,
+            gone: before,
         } = self;
-        gone.insert(0, loose)?;
+        let gone = pushed_in_front(alloc, loose, &before)?;
         Ok(FileState {
             number,
             there: false,
-            bytes: Vec::new(alloc),
-            loose: Loosened {
-                fixed: Vec::new(alloc),
-                longest: 0,
-            },
-            gone,
+            bytes: Rc::new(alloc, Vec::new(alloc))?,
+            loose: Loosened::none(alloc)?,
+            gone: Rc::new(alloc, gone)?,
         })
     }
 }
 
-fn copy_all(alloc: Global, gone: &[Loosened]) -> Result<Vec<Loosened>, Memory>
-    ensures { IfOk result (λ copy. copy.items ≡ gone.now) }
+fn pushed_in_front(alloc: Global, loose: Loosened, gone: &[Loosened]) -> Result<Vec<Loosened>, Memory>
+    ensures { IfOk result (λ all. all.items ≡ loose ∷ gone.now) }
 {
-    let mut copy = Vec::new(alloc);
-    for loose in gone {
-        copy.push(loose.try_copy(alloc)?)?;
+    let mut all = Vec::new(alloc);
+    all.push(loose)?;
+    for before in gone {
+        all.push(before.try_copy()?)?;
     }
-    Ok(copy)
+    Ok(all)
+}
+
+// The first items, or all where there are fewer.
+fn front<T: Copy>(alloc: Global, items: &[T], len: u64) -> Result<Vec<T>, Memory>
+    ensures { IfOk result (λ front. front.items ≡ take len items.now) }
+{
+    let len = items.len().min(len as usize);
+    Ok(Vec::from_slice(alloc, &items[..len])?)
 }
 
 fn freed(alloc: Global, fixed: &[Option<u8>], at: u64, len: u64) -> Result<Vec<Option<u8>>, Memory>

@@ -2,7 +2,7 @@
 ghost use Rattle.std.specs.Prelude.{◌≡◌, ◌↔◌, ℕ, ◌+◌, ◌^◌, ◌<◌, ◌≤◌, ◌≢◌, map, Bool, true, false, ◌++◌, [], ◌∷◌, length, take, IsTrue, IfOk, OnOk, OnErr, MatchOption, IfSome, IsSomeAnd};
 ghost use Rattle.std.specs.List.{list_all};
 ghost use Rattle.outside_traits.specs.Calls.{Passes, Acts, Torn, Shortened, Same, Gone, NextIs};
-ghost use Rattle.mem_outside.specs.Outcomes.{absent, is_sound, state_in, with_file, written, shortened, synced, removed, left_of, stable_file};
+ghost use Rattle.mem_outside.specs.Outcomes.{absent, is_sound, state_in, with_file, written, shortened, synced, removed, kept, left_of, stable_file};
 ghost use Rattle.mem_outside.specs.Moments.{view_of};
 
 use crate::file_state::FileState;
@@ -28,7 +28,7 @@ pub(crate) fn state_in(alloc: Global, files: &[FileState], file: u64) -> Result<
 {
     match entry_of(files, file) {
         Some(state) => state.try_copy(alloc, true),
-        None => Ok(FileState::absent(alloc, file)),
+        None => FileState::absent(alloc, file),
     }
 }
 
@@ -108,6 +108,8 @@ pub(crate) fn write(
     requires room { at + length bytes.now < 2 ^ 64 }
     ensures sound { IsTrue (list_all is_sound current.new.items) }
     ensures state { OnOk result (state_in current.new.items file ≡ written at bytes.now done (state_in current.old.items file)) }
+    ensures others { OnOk result ((g : ℕ) → g ≢ file → state_in current.new.items g ≡ state_in current.old.items g) }
+    ensures stays { OnErr result (current.new.items ≡ current.old.items) }
     ensures acts { Acts file (Torn at (length bytes.now)) (view_of past.old.items current.old.items) (view_of past.new.items current.new.items) }
 {
     let state = state_in(alloc, current, file)?;
@@ -128,11 +130,12 @@ pub(crate) fn cut(
     requires sound { IsTrue (list_all is_sound current.old.items) }
     ensures sound { IsTrue (list_all is_sound current.new.items) }
     ensures state { OnOk result (state_in current.new.items file ≡ shortened len done (state_in current.old.items file)) }
-    ensures state_stays { OnErr result (state_in current.new.items file ≡ state_in current.old.items file) }
+    ensures others { OnOk result ((g : ℕ) → g ≢ file → state_in current.new.items g ≡ state_in current.old.items g) }
+    ensures stays { OnErr result (current.new.items ≡ current.old.items) }
     ensures acts { Acts file (Shortened len) (view_of past.old.items current.old.items) (view_of past.new.items current.new.items) }
 {
     let state = state_in(alloc, current, file)?;
-    let next = state.shortened(len, done);
+    let next = state.shortened(alloc, len, done)?;
     change(alloc, current, past, next, true)?;
     Ok(())
 }
@@ -147,6 +150,8 @@ pub(crate) fn sync(
     requires sound { IsTrue (list_all is_sound current.old.items) }
     ensures sound { IsTrue (list_all is_sound current.new.items) }
     ensures state { OnOk result (state_in current.new.items file ≡ synced (state_in current.old.items file)) }
+    ensures others { OnOk result ((g : ℕ) → g ≢ file → state_in current.new.items g ≡ kept false (state_in current.old.items g)) }
+    ensures stays { OnErr result (current.new.items ≡ current.old.items) }
     ensures all_gone { OnOk result ((g : ℕ) → (state_in current.new.items g).gone ≡ []) }
     ensures there { (state_in current.new.items file).there ≡ (state_in current.old.items file).there }
     ensures acts { Acts file Same (view_of past.old.items current.old.items) (view_of past.new.items current.new.items) }
@@ -167,6 +172,8 @@ pub(crate) fn remove(
     requires sound { IsTrue (list_all is_sound current.old.items) }
     ensures sound { IsTrue (list_all is_sound current.new.items) }
     ensures state { OnOk result (state_in current.new.items file ≡ removed (state_in current.old.items file)) }
+    ensures others { OnOk result ((g : ℕ) → g ≢ file → state_in current.new.items g ≡ state_in current.old.items g) }
+    ensures stays { OnErr result (current.new.items ≡ current.old.items) }
     ensures acts { Acts file Gone (view_of past.old.items current.old.items) (view_of past.new.items current.new.items) }
 {
     let state = state_in(alloc, current, file)?;
@@ -193,12 +200,10 @@ fn nearer(files: &[FileState], from: u64, number: u64, next: Option<u64>) -> Opt
     ensures least { from ≤ number → (state_in files.now number).there ≡ true → IsSomeAnd result (λ n. n ≤ number) }
     ensures lower { IfSome next (λ m. IsSomeAnd result (λ n. n ≤ m)) }
 {
-    if number < from || !is_there(files, number) {
-        return next;
-    }
     match next {
         Some(other) if other <= number => Some(other),
-        _ => Some(number),
+        _ if number >= from && is_there(files, number) => Some(number),
+        _ => next,
     }
 }
 
@@ -232,6 +237,7 @@ pub(crate) fn put(
     requires sound { IsTrue (list_all is_sound current.old.items) }
     ensures sound { IsTrue (list_all is_sound current.new.items) }
     ensures state { OnOk result (state_in current.new.items file ≡ stable_file file bytes.now) }
+    ensures stays { OnErr result ((current.new.items ≡ current.old.items) × (past.new.items ≡ past.old.items)) }
     ensures others { (g : ℕ) → g ≢ file → state_in current.new.items g ≡ state_in current.old.items g }
     ensures time { Passes (view_of past.old.items current.old.items) (view_of past.new.items current.new.items) }
 {

@@ -83,6 +83,7 @@ impl Sink for MemSink {
         ensures bytes { IfOk result (λ n. Appends (⟦<MemSink as Sink>⟧.written self.old) (⟦<MemSink as Sink>⟧.written self.new) (take n bytes.now)) }
         ensures failed { OnErr result (Keeps (⟦<MemSink as Sink>⟧.written self.old) (⟦<MemSink as Sink>⟧.written self.new)) }
         ensures cause { OnErr result (Rose (⟦<MemSink as Sink>⟧.faults self.old) (⟦<MemSink as Sink>⟧.faults self.new)) }
+        ensures no_fault { OnOk result (⟦<MemSink as Sink>⟧.faults self.new ≡ ⟦<MemSink as Sink>⟧.faults self.old) }
         ensures counts { ⟦<MemSink as Sink>⟧.faults self.old ≤ ⟦<MemSink as Sink>⟧.faults self.new }
         ensures fails { IsTrue (next_fails self.old.schedule) → OnOk result ⊥ }
         ensures all { IfOk result (λ n. n ≡ length bytes.now) }

@@ -73,6 +73,7 @@ impl Source for MemSource {
         ensures end { IfOk result (λ n. n ≡ 0 → IsAtEnd (⟦<MemSource as Source>⟧.left self.new)) }
         ensures failed { OnErr result (KeepsOrForgets (⟦<MemSource as Source>⟧.left self.old) (⟦<MemSource as Source>⟧.left self.new)) }
         ensures cause { OnErr result (Rose (⟦<MemSource as Source>⟧.faults self.old) (⟦<MemSource as Source>⟧.faults self.new)) }
+        ensures no_fault { OnOk result (⟦<MemSource as Source>⟧.faults self.new ≡ ⟦<MemSource as Source>⟧.faults self.old) }
         ensures counts { ⟦<MemSource as Source>⟧.faults self.old ≤ ⟦<MemSource as Source>⟧.faults self.new }
         ensures fails { IsErr result ↔ IsTrue (next_fails self.old.schedule) }
         ensures piece { IfOk result (λ n. n ≡ next_piece self.old (length buf.old)) }

@@ -22,7 +22,7 @@ ghost use Rattle.outside_traits.specs.Calls.{
   MayRaiseReads,
   MayRaiseWrites,
   MayRaiseRemoves,
-  Takes,
+  CountsTaken,
 };
 
 use crate::file_state::FileState;
@@ -160,6 +160,7 @@ impl Store for MemStore {
     fn attach(&mut self, _folder: &str) -> Result<(), Failed>
         ensures idles { Idles (⟦<MemStore as Store>⟧.view self.old) (⟦<MemStore as Store>⟧.view self.new) }
         ensures cause { OnErr result (Rose (⟦<MemStore as Store>⟧.counts self.old).reads (⟦<MemStore as Store>⟧.counts self.new).reads) }
+        ensures no_fault { OnOk result ((⟦<MemStore as Store>⟧.counts self.new).reads ≡ (⟦<MemStore as Store>⟧.counts self.old).reads) }
         ensures counts { MayRaiseReads (⟦<MemStore as Store>⟧.counts self.old) (⟦<MemStore as Store>⟧.counts self.new) }
         ensures taken { (⟦<MemStore as Store>⟧.counts self.new).taken ≡ (⟦<MemStore as Store>⟧.counts self.old).taken }
         ensures fails { IsTrue (next_fails (⟦<MemStore as InMemory>⟧.schedule self.old)) → OnOk result ⊥ }
@@ -178,6 +179,7 @@ impl Store for MemStore {
         ensures size { IfOk result (λ size. size ≡ length ((⟦<MemStore as Store>⟧.view self.old).files file)) }
         ensures idles { Idles (⟦<MemStore as Store>⟧.view self.old) (⟦<MemStore as Store>⟧.view self.new) }
         ensures cause { OnErr result (Rose (⟦<MemStore as Store>⟧.counts self.old).reads (⟦<MemStore as Store>⟧.counts self.new).reads) }
+        ensures no_fault { OnOk result ((⟦<MemStore as Store>⟧.counts self.new).reads ≡ (⟦<MemStore as Store>⟧.counts self.old).reads) }
         ensures counts { MayRaiseReads (⟦<MemStore as Store>⟧.counts self.old) (⟦<MemStore as Store>⟧.counts self.new) }
         ensures taken { (⟦<MemStore as Store>⟧.counts self.new).taken ≡ (⟦<MemStore as Store>⟧.counts self.old).taken }
         ensures fails { IsTrue (next_fails (⟦<MemStore as InMemory>⟧.schedule self.old)) → OnOk result ⊥ }
@@ -197,8 +199,9 @@ impl Store for MemStore {
         ensures bytes { IfOk result (λ n. IsRead ((⟦<MemStore as Store>⟧.view self.old).files file) at (length buf.old) n buf.new) }
         ensures idles { Idles (⟦<MemStore as Store>⟧.view self.old) (⟦<MemStore as Store>⟧.view self.new) }
         ensures cause { OnErr result (Rose (⟦<MemStore as Store>⟧.counts self.old).reads (⟦<MemStore as Store>⟧.counts self.new).reads) }
+        ensures no_fault { OnOk result ((⟦<MemStore as Store>⟧.counts self.new).reads ≡ (⟦<MemStore as Store>⟧.counts self.old).reads) }
         ensures counts { MayRaiseReads (⟦<MemStore as Store>⟧.counts self.old) (⟦<MemStore as Store>⟧.counts self.new) }
-        ensures taken { IfOk result (λ n. Takes n (⟦<MemStore as Store>⟧.counts self.old) (⟦<MemStore as Store>⟧.counts self.new)) }
+        ensures taken { IfOk result (λ n. CountsTaken n (⟦<MemStore as Store>⟧.counts self.old) (⟦<MemStore as Store>⟧.counts self.new)) }
         ensures none_taken { OnErr result ((⟦<MemStore as Store>⟧.counts self.new).taken ≡ (⟦<MemStore as Store>⟧.counts self.old).taken) }
         ensures fails { IsTrue (next_fails (⟦<MemStore as InMemory>⟧.schedule self.old)) → OnOk result ⊥ }
         ensures no_other { OnErr result (IsTrue (next_fails (⟦<MemStore as InMemory>⟧.schedule self.old))) }
@@ -220,6 +223,7 @@ impl Store for MemStore {
         ensures there { OnOk result ((⟦<MemStore as Store>⟧.view self.new).there file ≡ true) }
         ensures acts { Acts file (Torn at (length bytes.now)) (⟦<MemStore as Store>⟧.view self.old) (⟦<MemStore as Store>⟧.view self.new) }
         ensures cause { OnErr result (Rose (⟦<MemStore as Store>⟧.counts self.old).writes (⟦<MemStore as Store>⟧.counts self.new).writes) }
+        ensures no_fault { OnOk result ((⟦<MemStore as Store>⟧.counts self.new).writes ≡ (⟦<MemStore as Store>⟧.counts self.old).writes) }
         ensures counts { MayRaiseWrites (⟦<MemStore as Store>⟧.counts self.old) (⟦<MemStore as Store>⟧.counts self.new) }
         ensures fails { IsTrue (next_fails (⟦<MemStore as InMemory>⟧.schedule self.old)) → OnOk result ⊥ }
         ensures shown { OnOk result (state_in (⟦<MemStore as InMemory>⟧.shown self.new) file ≡ written at bytes.now true (state_in (⟦<MemStore as InMemory>⟧.shown self.old) file)) }
@@ -249,6 +253,7 @@ impl Store for MemStore {
         ensures there { (⟦<MemStore as Store>⟧.view self.new).there file ≡ (⟦<MemStore as Store>⟧.view self.old).there file }
         ensures acts { Acts file (Shortened len) (⟦<MemStore as Store>⟧.view self.old) (⟦<MemStore as Store>⟧.view self.new) }
         ensures cause { OnErr result (Rose (⟦<MemStore as Store>⟧.counts self.old).writes (⟦<MemStore as Store>⟧.counts self.new).writes) }
+        ensures no_fault { OnOk result ((⟦<MemStore as Store>⟧.counts self.new).writes ≡ (⟦<MemStore as Store>⟧.counts self.old).writes) }
         ensures counts { MayRaiseWrites (⟦<MemStore as Store>⟧.counts self.old) (⟦<MemStore as Store>⟧.counts self.new) }
         ensures fails { IsTrue (next_fails (⟦<MemStore as InMemory>⟧.schedule self.old)) → OnOk result ⊥ }
         ensures shown { OnOk result (state_in (⟦<MemStore as InMemory>⟧.shown self.new) file ≡ shortened len true (state_in (⟦<MemStore as InMemory>⟧.shown self.old) file)) }
@@ -277,6 +282,7 @@ impl Store for MemStore {
         ensures there { (⟦<MemStore as Store>⟧.view self.new).there file ≡ (⟦<MemStore as Store>⟧.view self.old).there file }
         ensures acts { Acts file Same (⟦<MemStore as Store>⟧.view self.old) (⟦<MemStore as Store>⟧.view self.new) }
         ensures cause { OnErr result (Rose (⟦<MemStore as Store>⟧.counts self.old).writes (⟦<MemStore as Store>⟧.counts self.new).writes) }
+        ensures no_fault { OnOk result ((⟦<MemStore as Store>⟧.counts self.new).writes ≡ (⟦<MemStore as Store>⟧.counts self.old).writes) }
         ensures counts { MayRaiseWrites (⟦<MemStore as Store>⟧.counts self.old) (⟦<MemStore as Store>⟧.counts self.new) }
         ensures fails { IsTrue (next_fails (⟦<MemStore as InMemory>⟧.schedule self.old)) → OnOk result ⊥ }
         ensures shown { OnOk result (state_in (⟦<MemStore as InMemory>⟧.shown self.new) file ≡ synced (state_in (⟦<MemStore as InMemory>⟧.shown self.old) file)) }
@@ -300,6 +306,7 @@ impl Store for MemStore {
         ensures removed { OnOk result ((⟦<MemStore as Store>⟧.view self.new).there file ≡ false) }
         ensures acts { Acts file Gone (⟦<MemStore as Store>⟧.view self.old) (⟦<MemStore as Store>⟧.view self.new) }
         ensures cause { OnErr result (Rose (⟦<MemStore as Store>⟧.counts self.old).removes (⟦<MemStore as Store>⟧.counts self.new).removes) }
+        ensures no_fault { OnOk result ((⟦<MemStore as Store>⟧.counts self.new).removes ≡ (⟦<MemStore as Store>⟧.counts self.old).removes) }
         ensures counts { MayRaiseRemoves (⟦<MemStore as Store>⟧.counts self.old) (⟦<MemStore as Store>⟧.counts self.new) }
         ensures fails { IsTrue (next_fails (⟦<MemStore as InMemory>⟧.schedule self.old)) → OnOk result ⊥ }
         ensures shown { OnOk result (state_in (⟦<MemStore as InMemory>⟧.shown self.new) file ≡ removed (state_in (⟦<MemStore as InMemory>⟧.shown self.old) file)) }
@@ -324,6 +331,7 @@ impl Store for MemStore {
         ensures next { IfOk result (NextIs (⟦<MemStore as Store>⟧.view self.old).there from) }
         ensures idles { Idles (⟦<MemStore as Store>⟧.view self.old) (⟦<MemStore as Store>⟧.view self.new) }
         ensures cause { OnErr result (Rose (⟦<MemStore as Store>⟧.counts self.old).reads (⟦<MemStore as Store>⟧.counts self.new).reads) }
+        ensures no_fault { OnOk result ((⟦<MemStore as Store>⟧.counts self.new).reads ≡ (⟦<MemStore as Store>⟧.counts self.old).reads) }
         ensures counts { MayRaiseReads (⟦<MemStore as Store>⟧.counts self.old) (⟦<MemStore as Store>⟧.counts self.new) }
         ensures taken { (⟦<MemStore as Store>⟧.counts self.new).taken ≡ (⟦<MemStore as Store>⟧.counts self.old).taken }
         ensures fails { IsTrue (next_fails (⟦<MemStore as InMemory>⟧.schedule self.old)) → OnOk result ⊥ }

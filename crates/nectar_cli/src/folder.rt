@@ -1,21 +1,25 @@
 //! A real folder, some files of which are kept open.
-ghost use Rattle.std.specs.Prelude.{◌<◌, ◌≤◌, length, IfOk, IfSome, vec_len};
+ghost use Rattle.std.specs.Prelude.{◌≡◌, ◌<◌, ◌≤◌, length, IfOk, IfSome, vec_len};
 
-use std::fs::{File, OpenOptions};
+use std::fs::{DirEntry, File, OpenOptions};
 use std::io::ErrorKind;
 use std::os::unix::fs::FileExt;
+use std::path::Path;
 use std::rt::Files;
 use std::{fs, io};
 
 /// The most files that are kept open.
 const MAX_OPEN: usize = 16;
 
-/// A folder: file n is `n.nxt`, n in decimal without leading zeros, and other names aren't looked at.
+/// A folder: file n is `n.nxt`, n in decimal without leading zeros, and other names aren't looked at. A folder in it with
+/// such a name is no file: it isn't listed, and calls on its number are errors.
 #[derive(Drop)]
 pub struct Folder<'a, R> {
     runtime: &'a R,
     attached: Option<Attached>,
     open: Vec<OpenFile>,
+    /// The numbers of the files that are there, ascending. None until they are asked for.
+    numbers: Option<Vec<u64>>,
 }
 
 // The folder in use, with the handle by which its names are made stable.
@@ -38,16 +42,18 @@ impl<'a, R: AllocGlobal + Files<File = File>> Folder<'a, R> {
             runtime,
             attached: None,
             open: Vec::new(runtime.alloc()),
+            numbers: None,
         }
     }
 
-    /// Makes the folder and its missing parents, and uses it.
+    /// Makes the folder and its missing parents, each of which is stable then, and uses it.
     pub fn attach(&mut self, folder: &str) -> io::Result<()> {
         let path = String::from_str(self.runtime.alloc(), folder)?;
-        fs::create_dir_all(self.runtime, folder)?;
+        make_folders(self.runtime, folder)?;
         let handle = File::open(self.runtime, folder)?;
         self.attached = Some(Attached { path, handle });
         self.open.clear();
+        self.numbers = None;
         Ok(())
     }
 
@@ -69,9 +75,10 @@ impl<'a, R: AllocGlobal + Files<File = File>> Folder<'a, R> {
         }
     }
 
-    /// Writes the bytes at `at`, and makes the file where it isn't there.
+    /// Writes the bytes at `at`, and makes the file where it isn't there. No bytes make a shorter file that long too.
     pub fn write(&mut self, number: u64, at: u64, bytes: &[u8]) -> io::Result<()> {
         match self.place(number, true)? {
+            Some(place) if bytes.is_empty() => lengthen_shorter(&self.open[place].file, at),
             Some(place) => self.open[place].file.write_all_at(bytes, at),
             None => Err(io::Error::from(ErrorKind::NotFound)),
         }
@@ -101,8 +108,14 @@ impl<'a, R: AllocGlobal + Files<File = File>> Folder<'a, R> {
         self.open.retain(|open| open.number != number);
         let path = self.path_of(number)?;
         match fs::remove_file(self.runtime, path.as_str()) {
-            Err(error) if error.kind() == ErrorKind::NotFound => Ok(()),
-            done => done,
+            Err(error) if error.kind() != ErrorKind::NotFound => {
+                self.numbers = None;
+                Err(error)
+            }
+            _ => {
+                self.unlist(number);
+                Ok(())
+            }
         }
     }
 
@@ -126,6 +139,9 @@ impl<'a, R: AllocGlobal + Files<File = File>> Folder<'a, R> {
         let Some(file) = self.open_file(number, make)? else {
             return Ok(None);
         };
+        if make {
+            self.list(number);
+        }
         if self.open.len() >= MAX_OPEN {
             self.open.remove(0);
         }
@@ -145,19 +161,115 @@ impl<'a, R: AllocGlobal + Files<File = File>> Folder<'a, R> {
     }
 }
 
+impl<R> Folder<'_, R> {
+    // The file is there: its number is kept, or all are forgotten where memory is refused.
+    fn list(&mut self, number: u64)
+        ensures { self.new.open ≡ self.old.open }
+    {
+        if let Some(numbers) = &mut self.numbers {
+            let kept = match numbers.binary_search(&number) {
+                Ok(_) => true,
+                Err(place) => numbers.insert(place, number).is_ok(),
+            };
+            if !kept {
+                self.numbers = None;
+            }
+        }
+    }
+
+    // The file isn't there.
+    fn unlist(&mut self, number: u64) {
+        if let Some(numbers) = &mut self.numbers {
+            if let Ok(place) = numbers.binary_search(&number) {
+                numbers.remove(place);
+            }
+        }
+    }
+}
+
 impl<R: AllocGlobal + Files<File = File> + Clone + Drop> Folder<'_, R> {
-    /// The least number of a file that is there, at or above `from`.
-    pub fn next_file(&self, from: u64) -> io::Result<Option<u64>>
+    /// The least number of a file that is there, at or above `from`. The folder is listed at the first call alone.
+    pub fn next_file(&mut self, from: u64) -> io::Result<Option<u64>>
         ensures { IfOk result (λ next. IfSome next (λ number. from ≤ number)) }
     {
+        if let Some(numbers) = &self.numbers {
+            return Ok(at_or_above(numbers, from));
+        }
         let Some(attached) = &self.attached else {
             return Err(no_folder());
         };
-        let mut least = None;
-        for entry in fs::read_dir(self.runtime, attached.path.as_str())? {
-            least = lesser(from, least, number_of(entry?.file_name()));
+        let numbers = numbers_in(self.runtime, attached.path.as_str())?;
+        let next = at_or_above(&numbers, from);
+        self.numbers = Some(numbers);
+        Ok(next)
+    }
+}
+
+// The numbers of the files in a folder, ascending.
+fn numbers_in<R: AllocGlobal + Files<File = File> + Clone + Drop>(
+    runtime: &R,
+    folder: &str,
+) -> io::Result<Vec<u64>> {
+    let mut numbers = Vec::new(runtime.alloc());
+    for entry in fs::read_dir(runtime, folder)? {
+        if let Some(number) = number_of_entry(entry)? {
+            numbers.push(number)?;
         }
-        Ok(least)
+    }
+    numbers.sort_unstable();
+    Ok(numbers)
+}
+
+// The number of the file of an entry. None for a name that isn't UTF-8, another name and a folder.
+fn number_of_entry<R: Files + Drop>(entry: io::Result<DirEntry<R>>) -> io::Result<Option<u64>> {
+    let entry = match entry {
+        Ok(entry) => entry,
+        Err(error) if error.kind() == ErrorKind::InvalidFilename => return Ok(None),
+        Err(error) => return Err(error),
+    };
+    match number_of(entry.file_name()) {
+        Some(number) if !entry.file_type()?.is_dir() => Ok(Some(number)),
+        _ => Ok(None),
+    }
+}
+
+// The least of these ascending numbers at or above `from`.
+fn at_or_above(numbers: &[u64], from: u64) -> Option<u64>
+    ensures { IfSome result (λ number. from ≤ number) }
+{
+    let place = numbers.partition_point(|number| *number < from);
+    match numbers.get(place) {
+        Some(number) if from <= *number => Some(*number),
+        _ => None,
+    }
+}
+
+// Makes each missing folder of a path.
+fn make_folders<R: Files<File = File>>(runtime: &R, path: &str) -> io::Result<()> {
+    for (end, byte) in path.as_bytes().iter().enumerate() {
+        if *byte == b'/' && end > 0 {
+            if let Some(parent) = path.get(..end) {
+                make_folder(runtime, parent)?;
+            }
+        }
+    }
+    make_folder(runtime, path)
+}
+
+// Makes a folder, if it is missing, and its name in its parent stable.
+fn make_folder<R: Files<File = File>>(runtime: &R, path: &str) -> io::Result<()> {
+    match fs::create_dir(runtime, path) {
+        Ok(()) => File::open(runtime, parent_of(path))?.sync_all(),
+        Err(_) if Path::new(path).is_dir(runtime) => Ok(()),
+        Err(error) => Err(error),
+    }
+}
+
+// The folder that a folder lies in.
+fn parent_of(path: &str) -> &str {
+    match Path::new(path).parent() {
+        Some(parent) if !parent.as_str().is_empty() => parent.as_str(),
+        _ => ".",
     }
 }
 
@@ -190,23 +302,19 @@ fn read_full_at(file: &File, at: u64, buf: &mut [u8]) -> io::Result<usize>
     Ok(count)
 }
 
-fn cut_longer(file: &File, len: u64) -> io::Result<()> {
-    if file.metadata()?.len() > len {
+// The system's write of no bytes leaves a file's length.
+fn lengthen_shorter(file: &File, len: u64) -> io::Result<()> {
+    if file.metadata()?.len() < len {
         file.set_len(len)?;
     }
     Ok(())
 }
 
-// The lesser of the least number so far and another one, where that is at or above `from`.
-fn lesser(from: u64, least: Option<u64>, other: Option<u64>) -> Option<u64>
-    requires { IfSome least (λ number. from ≤ number) }
-    ensures { IfSome result (λ number. from ≤ number) }
-{
-    match (least, other) {
-        (None, Some(number)) if from <= number => Some(number),
-        (Some(least), Some(number)) if from <= number && number < least => Some(number),
-        _ => least,
+fn cut_longer(file: &File, len: u64) -> io::Result<()> {
+    if file.metadata()?.len() > len {
+        file.set_len(len)?;
     }
+    Ok(())
 }
 
 // The number of the file with this name.

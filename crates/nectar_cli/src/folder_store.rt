@@ -1,10 +1,12 @@
 //! The store over a real folder.
-ghost use Rattle.std.specs.Prelude.{false, refl};
+ghost use Rattle.std.specs.Prelude.{◌≡◌, ◌≤◌, false, refl, IfOk, OnOk, OnErr};
+ghost use Rattle.outside_traits.specs.Counts.{Rose};
 ghost use Rattle.outside_traits.specs.View.{untold};
 
 use crate::folder::Folder;
 use outside_traits::{Failed, Store};
 use std::fs::File;
+use std::io;
 use std::rt::Files;
 
 /// A store over a folder. It tells nothing: what a folder holds between two calls is the system's.
@@ -42,85 +44,52 @@ impl<R: AllocGlobal + Files<File = File> + Clone + Drop> Store for FolderStore<'
     ghost absent_is_empty = { λ s file e. refl };
 
     fn attach(&mut self, folder: &str) -> Result<(), Failed> {
-        match self.folder.attach(folder) {
-            Ok(()) => Ok(()),
-            Err(_) => {
-                self.read_faults = self.read_faults.saturating_add(1);
-                Err(Failed)
-            }
-        }
+        counted(self.folder.attach(folder), &mut self.read_faults)
     }
 
     fn size(&mut self, file: u64) -> Result<u64, Failed> {
-        match self.folder.size(file) {
-            Ok(size) => Ok(size),
-            Err(_) => {
-                self.read_faults = self.read_faults.saturating_add(1);
-                Err(Failed)
-            }
-        }
+        counted(self.folder.size(file), &mut self.read_faults)
     }
 
     fn read(&mut self, file: u64, at: u64, buf: &mut [u8]) -> Result<usize, Failed> {
-        match self.folder.read(file, at, buf) {
-            Ok(count) => {
-                self.taken = self.taken.saturating_add(count as u64);
-                Ok(count)
-            }
-            Err(_) => {
-                self.read_faults = self.read_faults.saturating_add(1);
-                Err(Failed)
-            }
-        }
+        let count = counted(self.folder.read(file, at, buf), &mut self.read_faults)?;
+        self.taken = self.taken.saturating_add(count as u64);
+        Ok(count)
     }
 
     fn write(&mut self, file: u64, at: u64, bytes: &[u8]) -> Result<(), Failed> {
-        match self.folder.write(file, at, bytes) {
-            Ok(()) => Ok(()),
-            Err(_) => {
-                self.write_faults = self.write_faults.saturating_add(1);
-                Err(Failed)
-            }
-        }
+        counted(self.folder.write(file, at, bytes), &mut self.write_faults)
     }
 
     fn cut(&mut self, file: u64, len: u64) -> Result<(), Failed> {
-        match self.folder.cut(file, len) {
-            Ok(()) => Ok(()),
-            Err(_) => {
-                self.write_faults = self.write_faults.saturating_add(1);
-                Err(Failed)
-            }
-        }
+        counted(self.folder.cut(file, len), &mut self.write_faults)
     }
 
     fn sync(&mut self, file: u64) -> Result<(), Failed> {
-        match self.folder.sync(file) {
-            Ok(()) => Ok(()),
-            Err(_) => {
-                self.write_faults = self.write_faults.saturating_add(1);
-                Err(Failed)
-            }
-        }
+        counted(self.folder.sync(file), &mut self.write_faults)
     }
 
     fn remove(&mut self, file: u64) -> Result<(), Failed> {
-        match self.folder.remove(file) {
-            Ok(()) => Ok(()),
-            Err(_) => {
-                self.remove_faults = self.remove_faults.saturating_add(1);
-                Err(Failed)
-            }
-        }
+        counted(self.folder.remove(file), &mut self.remove_faults)
     }
 
     fn next_file(&mut self, from: u64) -> Result<Option<u64>, Failed> {
-        match self.folder.next_file(from) {
-            Ok(next) => Ok(next),
-            Err(_) => {
-                self.read_faults = self.read_faults.saturating_add(1);
-                Err(Failed)
-            }
+        counted(self.folder.next_file(from), &mut self.read_faults)
+    }
+}
+
+// What a call gave, or `Failed`, which is counted.
+fn counted<T: Drop>(done: io::Result<T>, faults: &mut u64) -> Result<T, Failed>
+    ensures value { IfOk result (λ value. done ≡ Ok value) }
+    ensures cause { OnErr result (Rose faults.old faults.new) }
+    ensures no_fault { OnOk result (faults.new ≡ faults.old) }
+    ensures counts { faults.old ≤ faults.new }
+{
+    match done {
+        Ok(value) => Ok(value),
+        Err(_) => {
+            *faults = faults.saturating_add(1);
+            Err(Failed)
         }
     }
 }

@@ -1,11 +1,13 @@
 //! The program: `nectar FOLDER < script`.
 #![tactic(auto)]
 
+ghost use Rattle.std.specs.Prelude.{◌≡◌, map, drop, string_bytes, IfOk};
+
 mod folder;
 mod folder_store;
-mod report;
 #[cfg(test)]
-mod tests;
+mod folder_tests;
+mod report;
 
 use crate::folder_store::FolderStore;
 use crate::report::{message, status};
@@ -50,10 +52,22 @@ where
 }
 
 // The words of the command line behind the program's own name.
-fn words_of<'a>(alloc: Global, arguments: &'a [String]) -> Result<Vec<&'a str>, AllocError> {
-    let mut words = Vec::new(alloc);
-    for argument in arguments.iter().skip(1) {
-        words.push(argument.as_str())?;
+fn words_of<'a>(alloc: Global, arguments: &'a [String]) -> Result<Vec<&'a str>, AllocError>
+    ensures { IfOk result (λ words. map (λ word. word.now) words.items ≡ map string_bytes (drop 1 arguments.now)) }
+{
+    match arguments {
+        [_, rest @ ..] => texts_of(alloc, rest),
+        [] => Ok(Vec::new(alloc)),
     }
-    Ok(words)
+}
+
+// The texts, in order.
+fn texts_of<'a>(alloc: Global, strings: &'a [String]) -> Result<Vec<&'a str>, AllocError>
+    ensures { IfOk result (λ texts. map (λ text. text.now) texts.items ≡ map string_bytes strings.now) }
+{
+    let mut texts = Vec::new(alloc);
+    for string in strings {
+        texts.push(string.as_str())?;
+    }
+    Ok(texts)
 }

@@ -1,9 +1,13 @@
 //! What a person is told at the end of a run: the line on standard error and the status.
+ghost use Rattle.std.specs.Prelude.{◌≡◌, option_copied};
+ghost use Rattle.nectar_cli.specs.Report.{message_of, status_of};
 
 use nectar_top::Exit;
 
 /// The line on standard error. None where all went well.
-pub fn message(exit: Exit) -> Option<&'static str> {
+pub fn message(exit: Exit) -> Option<&'static str>
+    ensures { option_copied result ≡ message_of exit }
+{
     match exit {
         Exit::Done => None,
         Exit::Usage => Some("usage: nectar FOLDER"),
@@ -15,7 +19,9 @@ pub fn message(exit: Exit) -> Option<&'static str> {
 }
 
 /// The status of the process.
-pub fn status(exit: Exit) -> u8 {
+pub fn status(exit: Exit) -> u8
+    ensures { result ≡ status_of exit }
+{
     match exit {
         Exit::Done => 0,
         Exit::Usage => 2,

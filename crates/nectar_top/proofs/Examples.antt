@@ -10,6 +10,7 @@ use Rattle.script_text.specs.declared.answer.Answer.TheVariants.{Ok, Held, Refus
 use Rattle.script_text.specs.declared.answer.Refusal.TheVariants.{Syntax, Unknown, Exists, Memory}
 use Rattle.script_text.specs.declared.item.Command.TheVariants.{Stream, Append}
 use Rattle.script_text.specs.declared.item.Item.TheVariants as item
+use Rattle.session.specs.State.{state_of, empty_state}
 use Rattle.session.specs.Rows.{Rows}
 use Rattle.session.specs.Machine.{new_stream, grown}
 use Rattle.nectar_top.specs.Machine.{Run}
@@ -22,9 +23,9 @@ rows = (Int (pos 1) ∷ []) ∷ (Int (pos 0) ∷ []) ∷ []
 
 -- a stream, an append of two rows, a second stream of the name, an append to no stream, a refused command, and an append
 -- for which there was no memory
-stored : Run [] (item.Command (Stream (codes "s") columns) ∷ item.Command (Append (codes "s") (codes "1" ∷ codes "0" ∷ [])) ∷ item.Command (Stream (codes "s") columns)
+stored : Run empty_state (item.Command (Stream (codes "s") columns) ∷ item.Command (Append (codes "s") (codes "1" ∷ codes "0" ∷ [])) ∷ item.Command (Stream (codes "s") columns)
     ∷ item.Command (Append (codes "t") (codes "0" ∷ [])) ∷ item.Refused Syntax ∷ item.Command (Append (codes "s") (codes "2" ∷ [])) ∷ [])
     (Ok ∷ Held 2 ∷ Refused (Exists (codes "s")) ∷ Refused (Unknown (codes "t")) ∷ Refused Syntax ∷ Refused Memory ∷ [])
-    (grown (new_stream (codes "s") columns) rows ∷ [])
+    (state_of (grown (new_stream (codes "s") columns) rows ∷ []))
 unfolding digits
 stored = (_, inl refl, (_, inl (Rows rows, record { loose = ((refl, (fits_signed_from_abs _ (pos 1) (search rules), tt)), ((refl, (fits_signed_from_abs _ (pos 0) (search rules), tt)), tt)); spelled = refl }, refl), (_, inl refl, (_, inl refl, (_, inl refl, (_, inr refl, refl))))))

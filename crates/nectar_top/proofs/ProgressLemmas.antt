@@ -13,7 +13,9 @@ use Rattle.script_text.specs.declared.item.Item.TheVariants as item
 use Rattle.script_text.specs.declared.lines.Lines.{Lines}
 use Rattle.script_text.proofs.ReaderLemmas.{items-unbroken}
 use Rattle.session.specs.Machine as session
-use Rattle.nectar_top.specs.Machine.{State, Step, Run, texts_of}
+use Rattle.session.specs.State.{State, StandsFor}
+use Rattle.nectar_top.specs.Machine.{Step, Run, texts_of}
+use Rattle.nectar_top.specs.Outside.{Outside}
 use Rattle.nectar_top.specs.Progress.{Progress, Sends, SendsInPart}
 use Rattle.nectar_top.specs.Run.{Answered, AnsweredInPart}
 
@@ -42,34 +44,40 @@ texts_of-push : (answers : List Answer) (a : Answer) → texts_of answers ++ ans
 texts_of-push answers a = ap (λ t. texts_of answers ++ t) (sym (append-nil (answer_text a))) ∙ sym (flat_map-append answer_text answers (a ∷ []))
 
 -- nothing was taken
-pub Progress-new : (reader : Lines) (written : Option (List ℕ)) → Stands reader [] → Progress reader [] [] written written
-Progress-new reader written stands = record {
+pub Progress-new : (start : State) (reader : Lines) (session : State) (begun : Outside) → Stands reader [] → StandsFor session start → Progress start reader session [] begun begun
+Progress-new start reader session begun reads stands = record {
   done = [];
   part = [];
   commands = [];
   answers = [];
+  state = start;
   whole = refl;
   goes_on = λ more. refl;
   ends = λ more. refl;
   run = refl;
   stands = stands;
-  wrote = Appends-nil written;
+  reads = reads;
+  wrote = Appends-nil begun.written;
+  counts = omega arith;
 }
 
-module _ (reader : Lines) (state : State) (taken : List ℕ) (w w' : Option (List ℕ)) (at : Progress reader state taken w w') where
+module _ (start : State) (reader : Lines) (session : State) (taken : List ℕ) (begun now : Outside) (at : Progress start reader session taken begun now) where
   -- more was taken, and no command ended in it
-  pub Progress-more : (reader' : Lines) (piece : List ℕ) → ((before : List ℕ) → Stands reader before → Stands reader' (before ++ piece)) → Progress reader' state (taken ++ piece) w w'
-  Progress-more reader' piece stands = record {
+  pub Progress-more : (reader' : Lines) (piece : List ℕ) → ((before : List ℕ) → Stands reader before → Stands reader' (before ++ piece)) → Progress start reader' session (taken ++ piece) begun now
+  Progress-more reader' piece reads = record {
     done = at.done;
     part = at.part ++ piece;
     commands = at.commands;
     answers = at.answers;
+    state = at.state;
     whole = ap (λ t. t ++ piece) at.whole ∙ append_assoc at.done at.part piece;
     goes_on = at.goes_on;
     ends = at.ends;
     run = at.run;
-    stands = stands at.part at.stands;
+    stands = at.stands;
+    reads = reads at.part at.reads;
     wrote = at.wrote;
+    counts = at.counts;
   }
 
   -- the bytes taken and what comes behind the command that ends in them
@@ -85,83 +93,88 @@ module _ (reader : Lines) (state : State) (taken : List ℕ) (w w' : Option (Lis
     all_items-ended more =
         ap all_items (joined piece more) ∙ at.ends ((at.part ++ piece) ++ more) ∙ ap (λ i. at.commands ++ i) (ended.ends more) ∙ sym (append_assoc at.commands (ended.spelled ∷ []) (all_items more))
 
+    run-ended : (new : State) (answer : Answer) → Step at.state given answer new → Run start (at.commands ++ ended.spelled ∷ []) (at.answers ++ answer ∷ []) new
+    run-ended new answer step = Run-push start at.state new at.commands at.answers ended.spelled answer at.run (Step-spelled at.state new ended.spelled given answer ended.is_given step)
+
     -- a command ended, and was answered
-    pub Progress-command : (reader' : Lines) (state' : State) (w'' : Option (List ℕ)) → Stands reader' [] → Sends state given state' w' w'' → Progress reader' state' (taken ++ piece) w w''
-    Progress-command reader' state' w'' stands sent = record {
+    pub Progress-command : (reader' : Lines) (session' : State) (now' : Outside) → Stands reader' [] → Sends at.state given session' now now' → Progress start reader' session' (taken ++ piece) begun now'
+    Progress-command reader' session' now' reads sent = record {
       done = taken ++ piece;
       part = [];
       commands = at.commands ++ ended.spelled ∷ [];
       answers = at.answers ++ sent.answer ∷ [];
+      state = sent.new;
       whole = sym (append-nil (taken ++ piece));
       goes_on = items-ended;
       ends = all_items-ended;
-      run = Run-push [] state state' at.commands at.answers ended.spelled sent.answer at.run (Step-spelled state state' ended.spelled given sent.answer ended.is_given sent.step);
-      stands = stands;
-      wrote = subst (Appends w w'') (texts_of-push at.answers sent.answer) (Appends-trans w w' w'' _ _ at.wrote sent.wrote);
+      run = run-ended sent.new sent.answer sent.step;
+      stands = sent.stands;
+      reads = reads;
+      wrote = subst (Appends begun.written now'.written) (texts_of-push at.answers sent.answer) (Appends-trans begun.written now.written now'.written _ _ at.wrote sent.wrote);
+      counts = omega (arith, at.counts, sent.counts);
     }
 
     -- a command ended, and its answer could not be written whole
-    pub AnsweredInPart-command : (w'' : Option (List ℕ)) (more : List ℕ) → SendsInPart state given w' w'' → AnsweredInPart (items ((taken ++ piece) ++ more)) w w''
-    AnsweredInPart-command w'' more sent = record {
+    pub AnsweredInPart-command : (now' : Outside) (more : List ℕ) → SendsInPart at.state given now now' → AnsweredInPart start (items ((taken ++ piece) ++ more)) begun now'
+    AnsweredInPart-command now' more sent = record {
       performed = at.commands ++ ended.spelled ∷ [];
       others = items more;
       first = items-ended more;
       answers = at.answers;
       last = sent.answer;
       state = sent.new;
-      run = Run-push [] state sent.new at.commands at.answers ended.spelled sent.answer at.run (Step-spelled state sent.new ended.spelled given sent.answer ended.is_given sent.step);
+      run = run-ended sent.new sent.answer sent.step;
       part = sent.sent.part;
       rest = sent.sent.rest;
       last_text = sent.sent.whole;
       lacks = sent.sent.lacks;
-      wrote = Appends-trans w w' w'' _ _ at.wrote sent.sent.wrote;
+      wrote = Appends-trans begun.written now.written now'.written _ _ at.wrote sent.sent.wrote;
     }
 
   -- the commands that are ended are all that the bytes taken spell so far
-  pub Answered-taken : Answered (items taken) w w'
+  pub Answered-taken : Answered start (items taken) begun now
   Answered-taken =
-      let quiet : items at.part ≡ [] = ap items (sym (append-nil at.part)) ∙ items-unbroken _ _ at.part [] _ at.stands (λ k d h. absurd (omega (arith, h))) in
+      let quiet : items at.part ≡ [] = ap items (sym (append-nil at.part)) ∙ items-unbroken _ _ at.part [] _ at.reads (λ k d h. absurd (omega (arith, h))) in
       let all : items taken ≡ at.commands = ap items at.whole ∙ at.goes_on at.part ∙ ap (λ i. at.commands ++ i) quiet ∙ append-nil at.commands in
-      record { answers = at.answers; state = state; run = subst (λ c. Run [] c at.answers state) (sym all) at.run; wrote = at.wrote }
+      record { answers = at.answers; state = at.state; run = subst (λ c. Run start c at.answers at.state) (sym all) at.run; wrote = at.wrote }
 
   all_items-taken : all_items taken ≡ at.commands ++ all_items at.part
   all_items-taken = ap all_items at.whole ∙ at.ends at.part
 
   -- the script ends, and leaves no command unfinished
-  pub Answered-end : ((before : List ℕ) → Stands reader before → all_items before ≡ []) → Answered (all_items taken) w w'
+  pub Answered-end : ((before : List ℕ) → Stands reader before → all_items before ≡ []) → Answered start (all_items taken) begun now
   Answered-end none =
-      let all : all_items taken ≡ at.commands = all_items-taken ∙ ap (λ i. at.commands ++ i) (none at.part at.stands) ∙ append-nil at.commands in
-      record { answers = at.answers; state = state; run = subst (λ c. Run [] c at.answers state) (sym all) at.run; wrote = at.wrote }
+      let all : all_items taken ≡ at.commands = all_items-taken ∙ ap (λ i. at.commands ++ i) (none at.part at.reads) ∙ append-nil at.commands in
+      record { answers = at.answers; state = at.state; run = subst (λ c. Run start c at.answers at.state) (sym all) at.run; wrote = at.wrote }
 
   module _ (given : Item) (last : (before : List ℕ) → Stands reader before → (spelled : Item) × Given spelled given × (all_items before ≡ spelled ∷ [])) where
-    all_items-last : all_items taken ≡ at.commands ++ (last at.part at.stands).0 ∷ []
-    all_items-last = all_items-taken ∙ ap (λ i. at.commands ++ i) (last at.part at.stands).2
+    all_items-last : all_items taken ≡ at.commands ++ (last at.part at.reads).0 ∷ []
+    all_items-last = all_items-taken ∙ ap (λ i. at.commands ++ i) (last at.part at.reads).2
+
+    run-last : (new : State) (answer : Answer) → Step at.state given answer new → Run start (at.commands ++ (last at.part at.reads).0 ∷ []) (at.answers ++ answer ∷ []) new
+    run-last new answer step = let one = last at.part at.reads in Run-push start at.state new at.commands at.answers one.0 answer at.run (Step-spelled at.state new one.0 given answer one.1 step)
 
     -- the script ends with a command, which was answered
-    pub Answered-last : (state' : State) (w'' : Option (List ℕ)) → Sends state given state' w' w'' → Answered (all_items taken) w w''
-    Answered-last state' w'' sent =
-        let one = last at.part at.stands in
-        record {
-          answers = at.answers ++ sent.answer ∷ [];
-          state = state';
-          run = subst (λ c. Run [] c (at.answers ++ sent.answer ∷ []) state') (sym all_items-last) (Run-push [] state state' at.commands at.answers one.0 sent.answer at.run (Step-spelled state state' one.0 given sent.answer one.1 sent.step));
-          wrote = subst (Appends w w'') (texts_of-push at.answers sent.answer) (Appends-trans w w' w'' _ _ at.wrote sent.wrote);
-        }
+    pub Answered-last : (session' : State) (now' : Outside) → Sends at.state given session' now now' → Answered start (all_items taken) begun now'
+    Answered-last session' now' sent = record {
+      answers = at.answers ++ sent.answer ∷ [];
+      state = sent.new;
+      run = subst (λ c. Run start c (at.answers ++ sent.answer ∷ []) sent.new) (sym all_items-last) (run-last sent.new sent.answer sent.step);
+      wrote = subst (Appends begun.written now'.written) (texts_of-push at.answers sent.answer) (Appends-trans begun.written now.written now'.written _ _ at.wrote sent.wrote);
+    }
 
-    pub AnsweredInPart-last : (w'' : Option (List ℕ)) → SendsInPart state given w' w'' → AnsweredInPart (all_items taken) w w''
-    AnsweredInPart-last w'' sent =
-        let one = last at.part at.stands in
-        record {
-          performed = at.commands ++ one.0 ∷ [];
-          others = [];
-          first = all_items-last ∙ sym (append-nil (at.commands ++ one.0 ∷ []));
-          answers = at.answers;
-          last = sent.answer;
-          state = sent.new;
-          run = Run-push [] state sent.new at.commands at.answers one.0 sent.answer at.run (Step-spelled state sent.new one.0 given sent.answer one.1 sent.step);
-          part = sent.sent.part;
-          rest = sent.sent.rest;
-          last_text = sent.sent.whole;
-          lacks = sent.sent.lacks;
-          wrote = Appends-trans w w' w'' _ _ at.wrote sent.sent.wrote;
-        }
+    pub AnsweredInPart-last : (now' : Outside) → SendsInPart at.state given now now' → AnsweredInPart start (all_items taken) begun now'
+    AnsweredInPart-last now' sent = record {
+      performed = at.commands ++ (last at.part at.reads).0 ∷ [];
+      others = [];
+      first = all_items-last ∙ sym (append-nil (at.commands ++ (last at.part at.reads).0 ∷ []));
+      answers = at.answers;
+      last = sent.answer;
+      state = sent.new;
+      run = run-last sent.new sent.answer sent.step;
+      part = sent.sent.part;
+      rest = sent.sent.rest;
+      last_text = sent.sent.whole;
+      lacks = sent.sent.lacks;
+      wrote = Appends-trans begun.written now.written now'.written _ _ at.wrote sent.sent.wrote;
+    }

@@ -1,4 +1,5 @@
 pub mod Machine
+pub mod Outside
 pub mod Progress
 pub mod Run
 pub mod Sending

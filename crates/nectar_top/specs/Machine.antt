@@ -4,11 +4,8 @@ use Rattle.script_text.specs.Answer.{answer_text}
 use Rattle.script_text.specs.declared.answer.Answer.{Answer}
 use Rattle.script_text.specs.declared.item.Item.{Item}
 use Rattle.script_text.specs.declared.item.Item.TheVariants as item
+use Rattle.session.specs.State.{State}
 use Rattle.session.specs.Machine as session
-
--- the streams in the order of making, each with its extents and these with their rows
-abbrev pub State : Type 0
-State = session.State
 
 -- one step
 abbrev pub Step : State → Item → Answer → State → Type 0

@@ -1,8 +1,8 @@
 //! Answers on their way to the sink.
-ghost use Rattle.std.specs.Prelude.{◌≡◌, ◌<◌, ◌≤◌, ◌++◌, List, ℕ, length, OnOk, OnErr, vec_capacity, vec_len};
+ghost use Rattle.std.specs.Prelude.{◌≡◌, ◌<◌, ◌≤◌, ◌++◌, List, All, false, ℕ, length, OnOk, OnErr, vec_capacity, vec_len};
 ghost use Rattle.std.specs.Io.KnownBytes.{Appends};
 ghost use Rattle.outside_traits.specs.Counts.{Rose};
-ghost use Rattle.script_text.specs.Answer.{answer_text};
+ghost use Rattle.script_text.specs.Answer.{IsShort, answer_lines, answer_text};
 ghost use Rattle.nectar_top.specs.Sending.{SentInPart};
 
 use outside_traits::{Failed, Sink};
@@ -13,7 +13,8 @@ pub const LINE_LEN: usize = 65_536;
 
 /// Writes an answer line by line, each by way of this room.
 pub fn send<K: Sink>(answer: &Answer, room: &mut Vec<u8>, sink: &mut K) -> Result<(), Failed>
-    requires { 65536 ≤ vec_capacity room.old }
+    requires room { 65536 ≤ vec_capacity room.old }
+    requires short { All IsShort (answer_lines false answer.now) }
     ensures room { vec_capacity room.old ≤ vec_capacity room.new }
     ensures ok { OnOk result (Appends (K.written sink.old) (K.written sink.new) (answer_text answer.now)) }
     ensures err { OnErr result (SentInPart (K.written sink.old) (K.written sink.new) (answer_text answer.now)) }

@@ -1,34 +1,36 @@
 //! What serves a script: the reader of its commands, the session, and the room for a line of an answer.
-ghost use Rattle.std.specs.Prelude.{◌≡◌, ℕ, ◌<◌, ◌≤◌, List, [], ◌++◌, length, take, Option, IfOk, OnOk, OnErr, vec_capacity};
-ghost use Rattle.outside_traits.specs.Counts.{Rose};
-ghost use Rattle.script_text.specs.Script.{items, all_items, IsWholeItem};
+ghost use Rattle.std.specs.Prelude.{◌≡◌, ℕ, ◌<◌, ◌≤◌, List, All, false, [], ◌++◌, length, take, drop, IfOk, IfErr, vec_capacity};
+ghost use Rattle.std.specs.Io.KnownBytes.{IsAtEnd};
+ghost use Rattle.script_text.specs.Answer.{IsShort, answer_lines};
+ghost use Rattle.script_text.specs.Script.{IsWholeItem};
+ghost use Rattle.session.specs.State.{State, empty_state, StandsFor};
 ghost use Rattle.nectar_top.specs.Machine.{Step};
-ghost use Rattle.nectar_top.specs.Run.{Answered, AnsweredInPart};
-ghost use Rattle.nectar_top.specs.Progress.{IsReading, Progress, Sends, SendsInPart};
+ghost use Rattle.nectar_top.specs.Outside.{Outside, with_sink};
+ghost use Rattle.nectar_top.specs.Progress.{Sends, Fails};
+ghost use Rattle.nectar_top.specs.Run.{longest_script};
+ghost use Rattle.nectar_top.specs.Turns.{Serving, Ends};
 
+use crate::exit::Exit;
 use crate::sending::{LINE_LEN, send};
 use outside_traits::{Failed, Sink};
 use rows_core::Memory;
-use script_text::{Answer, Item, Lines};
+use script_text::{Answer, Item, Lines, refusal_is_short};
 use session::Session;
 use std::alloc::Global;
 
-/// What serves a script, command by command.
+/// What serves a script, command by command. Each call takes it by value, and gives it back where the run goes on.
 #[derive(Drop)]
 pub struct Server {
     pub reader: Lines,
     pub session: Session,
     room: Vec<u8>,
-    // It stands at some bytes, so each command that it gives has a column or a row line.
-    ghost reading: { ∥ IsReading reader ∥₁ },
     ghost roomy: { 65536 ≤ vec_capacity room },
 }
 
 impl Server {
     /// The empty state, with all the memory that answers will need.
     pub fn new(alloc: Global) -> Result<Server, Memory>
-        ensures { IfOk result (λ server. (written : Option (List ℕ))
-            → Progress server.reader server.session [] written written) }
+        ensures { IfOk result (λ server. (begun : Outside) → Serving empty_state server.reader server.session [] [] begun begun) }
     {
         Ok(Server {
             reader: Lines::new(alloc)?,
@@ -37,68 +39,88 @@ impl Server {
         })
     }
 
-    /// Takes a piece of the script, and answers the commands that end in it.
-    pub fn take<K: Sink>(&mut self, piece: &[u8], sink: &mut K) -> Result<(), Failed>
-        ensures ok { OnOk result ((taken : List ℕ) (written : Option (List ℕ))
-            → Progress self.old.reader self.old.session taken written (K.written sink.old)
-            → Progress self.new.reader self.new.session (taken ++ piece.now) written (K.written sink.new)) }
-        ensures err { OnErr result ((taken : List ℕ) (written : Option (List ℕ))
-            → Progress self.old.reader self.old.session taken written (K.written sink.old)
-            → AnsweredInPart (items (taken ++ piece.now)) written (K.written sink.new)) }
-        ensures cause { OnErr result (Rose (K.faults sink.old) (K.faults sink.new)) }
-        ensures counts { K.faults sink.old ≤ K.faults sink.new }
+    /// Takes a piece of the script that the source gave, and answers the commands that end in it.
+    pub fn take<K: Sink>(self, piece: &[u8], sink: &mut K) -> Result<Server, Exit>
+        ensures ok { IfOk result (λ server. (start : State) (served : List ℕ) (begun before : Outside)
+            → Serving start self.reader self.session served piece.now begun (with_sink before (K.written sink.old) (K.faults sink.old))
+            → Serving start server.reader server.session (served ++ piece.now) [] begun (with_sink before (K.written sink.new) (K.faults sink.new))) }
+        ensures err { IfErr result (λ exit. (start : State) (served : List ℕ) (begun before : Outside)
+            → Serving start self.reader self.session served piece.now begun (with_sink before (K.written sink.old) (K.faults sink.old))
+            → length (served ++ piece.now) ≤ longest_script
+            → Ends start exit begun (with_sink before (K.written sink.new) (K.faults sink.new))) }
     {
+        let mut server = self;
         let mut at = 0;
         while at < piece.len() {
-            match self.take_command(&piece[at..], sink) {
-                Ok(count) => at += count,
-                Err(Failed) => return Err(Failed),
+            match server.take_command(&piece[at..], sink) {
+                Ok((next, count)) => {
+                    server = next;
+                    at += count;
+                }
+                Err(exit) => return Err(exit),
             }
         }
-        Ok(())
+        Ok(server)
     }
 
     /// The script ends here: answers the command that it leaves unfinished.
-    pub fn end<K: Sink>(self, sink: &mut K) -> Result<(), Failed>
-        ensures ok { OnOk result ((taken : List ℕ) (written : Option (List ℕ))
-            → Progress self.reader self.session taken written (K.written sink.old)
-            → Answered (all_items taken) written (K.written sink.new)) }
-        ensures err { OnErr result ((taken : List ℕ) (written : Option (List ℕ))
-            → Progress self.reader self.session taken written (K.written sink.old)
-            → AnsweredInPart (all_items taken) written (K.written sink.new)) }
-        ensures cause { OnErr result (Rose (K.faults sink.old) (K.faults sink.new)) }
-        ensures counts { K.faults sink.old ≤ K.faults sink.new }
+    pub fn end<K: Sink>(self, sink: &mut K) -> Exit
+        ensures { (start : State) (served : List ℕ) (begun before : Outside)
+            → Serving start self.reader self.session served [] begun (with_sink before (K.written sink.old) (K.faults sink.old))
+            → IsAtEnd before.left → length served ≤ longest_script
+            → Ends start result begun (with_sink before (K.written sink.new) (K.faults sink.new)) }
     {
         let Server {
             reader,
-            mut session,
+            session,
             mut room,
         } = self;
         match reader.finish() {
-            Some(item) => answer(&mut session, item, &mut room, sink),
-            None => Ok(()),
+            Some(item) => match answer(session, item, &mut room, sink) {
+                Ok(_) => Exit::Done,
+                Err(exit) => exit,
+            },
+            None => Exit::Done,
         }
     }
 
     // Takes bytes up to the end of the first command, which it answers, or all of them, and says how many.
-    fn take_command<K: Sink>(&mut self, piece: &[u8], sink: &mut K) -> Result<usize, Failed>
+    fn take_command<K: Sink>(self, piece: &[u8], sink: &mut K) -> Result<(Server, usize), Exit>
         requires { 0 < length piece.now }
-        ensures bound { IfOk result (λ count. (0 < count) × (count ≤ length piece.now)) }
-        ensures ok { IfOk result (λ count. (taken : List ℕ) (written : Option (List ℕ))
-            → Progress self.old.reader self.old.session taken written (K.written sink.old)
-            → Progress self.new.reader self.new.session (taken ++ take count piece.now) written (K.written sink.new)) }
-        ensures err { OnErr result ((taken : List ℕ) (written : Option (List ℕ))
-            → Progress self.old.reader self.old.session taken written (K.written sink.old)
-            → AnsweredInPart (items (taken ++ piece.now)) written (K.written sink.new)) }
-        ensures cause { OnErr result (Rose (K.faults sink.old) (K.faults sink.new)) }
-        ensures counts { K.faults sink.old ≤ K.faults sink.new }
+        ensures bound { IfOk result (λ next. (0 < next.1) × (next.1 ≤ length piece.now)) }
+        ensures ok { IfOk result (λ next. (start : State) (served : List ℕ) (begun before : Outside)
+            → Serving start self.reader self.session served piece.now begun (with_sink before (K.written sink.old) (K.faults sink.old))
+            → Serving start next.0.reader next.0.session (served ++ take next.1 piece.now) (drop next.1 piece.now) begun (with_sink before (K.written sink.new) (K.faults sink.new))) }
+        ensures err { IfErr result (λ exit. (start : State) (served : List ℕ) (begun before : Outside)
+            → Serving start self.reader self.session served piece.now begun (with_sink before (K.written sink.old) (K.faults sink.old))
+            → length (served ++ piece.now) ≤ longest_script
+            → Ends start exit begun (with_sink before (K.written sink.new) (K.faults sink.new))) }
     {
-        let (count, item) = self.reader.take(piece);
+        let Server {
+            mut reader,
+            session,
+            mut room,
+        } = self;
+        let (count, item) = reader.take(piece);
         match item {
-            None => Ok(count),
-            Some(item) => match answer(&mut self.session, item, &mut self.room, sink) {
-                Ok(()) => Ok(count),
-                Err(Failed) => Err(Failed),
+            None => {
+                let server = Server {
+                    reader,
+                    session,
+                    room,
+                };
+                Ok((server, count))
+            }
+            Some(item) => match answer(session, item, &mut room, sink) {
+                Ok(session) => {
+                    let server = Server {
+                        reader,
+                        session,
+                        room,
+                    };
+                    Ok((server, count))
+                }
+                Err(exit) => Err(exit),
             },
         }
     }
@@ -106,30 +128,37 @@ impl Server {
 
 // Performs a command and sends its answer.
 fn answer<K: Sink>(
-    session: &mut Session,
+    session: Session,
     item: Item,
     room: &mut Vec<u8>,
     sink: &mut K,
-) -> Result<(), Failed>
+) -> Result<Session, Exit>
     requires room { 65536 ≤ vec_capacity room.old }
     requires whole { IsWholeItem item }
     ensures room { vec_capacity room.old ≤ vec_capacity room.new }
-    ensures ok { OnOk result (Sends session.old item session.new (K.written sink.old) (K.written sink.new)) }
-    ensures err { OnErr result (SendsInPart session.old item (K.written sink.old) (K.written sink.new)) }
-    ensures cause { OnErr result (Rose (K.faults sink.old) (K.faults sink.new)) }
-    ensures counts { K.faults sink.old ≤ K.faults sink.new }
+    ensures ok { IfOk result (λ next. (old : State) (before : Outside) → StandsFor session old
+        → Sends old item next (with_sink before (K.written sink.old) (K.faults sink.old)) (with_sink before (K.written sink.new) (K.faults sink.new))) }
+    ensures err { IfErr result (λ exit. (old : State) (before : Outside) → StandsFor session old
+        → Fails exit old item (with_sink before (K.written sink.old) (K.faults sink.old)) (with_sink before (K.written sink.new) (K.faults sink.new))) }
 {
-    let answer = perform(session, item);
-    send(&answer, room, sink)
+    let (session, answer) = perform(session, item);
+    match send(&answer, room, sink) {
+        Ok(()) => Ok(session),
+        Err(Failed) => Err(Exit::SinkFault),
+    }
 }
 
 // What a command is answered, and the state after it.
-fn perform(session: &mut Session, item: Item) -> Answer
+fn perform(session: Session, item: Item) -> (Session, Answer)
     requires { IsWholeItem item }
-    ensures { Step session.old item result session.new }
+    ensures step { Step session item result.1 result.0 }
+    ensures short { All IsShort (answer_lines false result.1) }
 {
     match item {
         Item::Command(command) => session.step(command),
-        Item::Refused(refusal) => Answer::Refused(refusal),
+        Item::Refused(refusal) => {
+            refusal_is_short(&refusal);
+            (session, Answer::Refused(refusal))
+        }
     }
 }

@@ -1,9 +1,10 @@
 -- Calls that follow each other: from a run and one more call to a longer run, each by one line.
-use Rattle.std.proofs.Common.{◌≡◌, ◌≢◌, ◌⊎◌, inl, inr, ℕ, ◌<◌, ◌≤◌, Bool, true, false, cond, List, ◌∙◌, subst, sym, refl, arith}
-use Rattle.std.proofs.lemmas.Bool.{cases_lt, cases_eq}
+use Rattle.std.proofs.Common.{◌≡◌, ◌≢◌, ◌⊎◌, inl, inr, ℕ, ◌<◌, ◌≤◌, Bool, true, false, cond, List, ◌∙◌, ap, subst, sym, refl, arith}
+use Rattle.std.specs.Prelude.{IsTrue, ◌==◌}
+use Rattle.std.proofs.lemmas.Bool.{cases_lt, cases_eq, cases_Bool, eq-eqb, false≢true}
 use Rattle.outside_traits.specs.View.{View, Now, IsImageAt, LeftSince}
 use Rattle.outside_traits.specs.Calls.{Passes, Acts, Idles, Same}
-use Rattle.outside_traits.specs.Runs.{Touches, Spans, Narrows}
+use Rattle.outside_traits.specs.Runs.{Touches, Spans, Narrows, put_back}
 
 -- ## Images
 
@@ -275,3 +276,39 @@ files_have mine Q u v run law = image_has mine Q u v run v.files law
 pub since_has : (mine : ℕ → Type 0) (Q : (ℕ → List ℕ) → Type 0) (u v : View) → Spans mine Q u v
     → (image : ℕ → List ℕ) → LeftSince v u.moment image → Q image
 since_has mine Q u v run image left = run.each left.0 image left.1 left.2 left.3
+
+-- ## Images before a run
+
+choose : (b : Bool) (Q : List ℕ → Type 0) (x y : List ℕ) → Q x → (b ≡ false → Q y) → Q (cond b x y)
+choose true Q x y here other = here
+choose false Q x y here other = other refl
+
+module _ (mine : ℕ → Bool) where
+  -- a file that was put back reads as then, and each other as in the image
+  pub put_back_mine : (files image : ℕ → List ℕ) (g : ℕ) → IsTrue (mine g) → put_back mine files image g ≡ files g
+  put_back_mine files image g is = ap (λ (b : Bool). cond b (files g) (image g)) is
+
+  pub put_back_other : (files image : ℕ → List ℕ) (g : ℕ) → (IsTrue (mine g) → ⊥) → put_back mine files image g ≡ image g
+  put_back_other files image g other =
+      elim (cases_Bool (mine g)) [
+        | inl is ↦ absurd (other is)
+        | inr is ↦ ap (λ (b : Bool). cond b (files g) (image g)) is
+      ]
+
+  -- What some of the files read as, with an outcome of each other one, is an image.
+  pub image_before : (u : View) (image : ℕ → List ℕ) → ((g : ℕ) → Now u g (u.files g)) → ((g : ℕ) → (IsTrue (mine g) → ⊥) → Now u g (image g))
+      → IsImageAt u u.moment (put_back mine u.files image)
+  image_before u image law others = λ g.
+      choose (mine g) (Now u g) (u.files g) (image g) (law g) (λ is_other. others g (λ is. false≢true (sym is_other ∙ is)))
+
+  -- An image during a run on these files, with them put back as they read at its start, is an image at its start.
+  pub image_before_spans : (Q : (ℕ → List ℕ) → Type 0) (u v : View) → Spans (λ g. IsTrue (mine g)) Q u v → ((g : ℕ) → Now u g (u.files g))
+      → (k : ℕ) (image : ℕ → List ℕ) → u.moment ≤ k → k ≤ v.moment → IsImageAt v k image → IsImageAt u u.moment (put_back mine u.files image)
+  image_before_spans Q u v run law k image low high is =
+      image_before u image law (λ g other. run.others k g (image g) low high other (is g))
+
+-- And so is one during a run on one file.
+pub image_before_touches : (file : ℕ) (P : List ℕ → Type 0) (u v : View) → Touches file P u v → ((g : ℕ) → Now u g (u.files g))
+    → (k : ℕ) (image : ℕ → List ℕ) → u.moment ≤ k → k ≤ v.moment → IsImageAt v k image → IsImageAt u u.moment (put_back (λ g. g == file) u.files image)
+image_before_touches file P u v run law k image low high is =
+    image_before (λ g. g == file) u image law (λ g other. run.others k g (image g) low high (λ same. other (eq-eqb g file same)) (is g))

@@ -95,6 +95,6 @@ pub record Rises (old new : Counts) : Type 0 where
   pub removes : old.removes ≤ new.removes
   pub taken : old.taken ≤ new.taken
 
--- these many bytes were taken more, or the count stands at the greatest u64
-abbrev pub Takes : ℕ → Counts → Counts → Type 0
-Takes n old new = new.taken ≡ min (old.taken + n) (2 ^ 64 - 1)
+-- the count of bytes that were taken rose by n, or stands at the greatest u64
+abbrev pub CountsTaken : ℕ → Counts → Counts → Type 0
+CountsTaken n old new = new.taken ≡ min (old.taken + n) (2 ^ 64 - 1)

@@ -1,5 +1,5 @@
 -- What calls that follow each other do, seen from the first one's start.
-use Rattle.std.specs.Prelude.{◌≡◌, ◌≢◌, ℕ, ◌≤◌, List}
+use Rattle.std.specs.Prelude.{◌≡◌, ◌≢◌, ℕ, ◌≤◌, Bool, cond, List}
 use Rattle.outside_traits.specs.View.{View, Now, IsImageAt}
 use Rattle.outside_traits.specs.Calls.{Passes}
 
@@ -10,6 +10,10 @@ pub record Touches (file : ℕ) (P : List ℕ → Type 0) (old new : View) : Typ
   pub others : (k g : ℕ) (x : List ℕ) → old.moment ≤ k → k ≤ new.moment → g ≢ file → new.left_at k g x → Now old g x
   pub same : (g : ℕ) → g ≢ file → new.files g ≡ old.files g
   pub same_there : (g : ℕ) → g ≢ file → new.there g ≡ old.there g
+
+-- A run on one file, of which nothing is said but that all other files are left alone.
+abbrev pub ChangesOnly : ℕ → View → View → Type 0
+ChangesOnly file old new = Touches file (λ x. Unit {0}) old new
 
 -- A run on several files: each image at each moment since the start has Q. All files outside of them are left alone.
 pub record Spans (mine : ℕ → Type 0) (Q : (ℕ → List ℕ) → Type 0) (old new : View) : Type 0 where
@@ -25,3 +29,7 @@ pub record Narrows (old new : View) : Type 0 where
   pub each : (k g : ℕ) (x : List ℕ) → old.moment ≤ k → k ≤ new.moment → new.left_at k g x → Now old g x
   pub same : (g : ℕ) → new.files g ≡ old.files g
   pub same_there : (g : ℕ) → new.there g ≡ old.there g
+
+-- an image with the files of these numbers put back as they read
+abbrev pub put_back : (ℕ → Bool) → (ℕ → List ℕ) → (ℕ → List ℕ) → ℕ → List ℕ
+put_back mine files image file = cond (mine file) (files file) (image file)

@@ -3,11 +3,13 @@
 #![tactic(auto)]
 
 pub mod failed;
+pub mod front;
 pub mod sink;
 pub mod source;
 pub mod store;
 
 pub use failed::Failed;
+pub use front::{Unread, read_front};
 pub use sink::{Sink, WriterSink};
 pub use source::{ReaderSource, Source};
 pub use store::Store;

@@ -1,5 +1,5 @@
 //! Where the answers go.
-ghost use Rattle.std.specs.Prelude.{◌≡◌, ℕ, ◌<◌, ◌≤◌, List, Option, take, length, IfOk, OnErr, IfSome, IfNone};
+ghost use Rattle.std.specs.Prelude.{◌≡◌, ℕ, ◌<◌, ◌≤◌, List, Option, take, length, IfOk, OnOk, OnErr, IfSome, IfNone};
 ghost use Rattle.std.specs.Io.KnownBytes.{Appends, Keeps};
 ghost use Rattle.outside_traits.specs.Counts.{Rose};
 
@@ -11,7 +11,7 @@ pub trait Sink {
     // The bytes that were written, where the sink tells them.
     ghost written: { Self → Option (List ℕ) };
 
-    // How many writes have failed. The count never falls, and stands still at the greatest u64.
+    // How many writes have failed. A failed write alone raises the count, which stands still at the greatest u64.
     ghost faults: { Self → ℕ };
 
     /// Appends the first n bytes at `Ok(n)`, and at least one. A sink that takes none answers `Failed`. After `Failed`
@@ -23,6 +23,7 @@ pub trait Sink {
         ensures bytes { IfOk result (λ n. Appends (written self.old) (written self.new) (take n bytes.now)) }
         ensures failed { OnErr result (Keeps (written self.old) (written self.new)) }
         ensures cause { OnErr result (Rose (faults self.old) (faults self.new)) }
+        ensures no_fault { OnOk result (faults self.new ≡ faults self.old) }
         ensures counts { faults self.old ≤ faults self.new };
 }
 

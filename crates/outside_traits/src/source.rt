@@ -1,5 +1,5 @@
 //! Where a script comes from.
-ghost use Rattle.std.specs.Prelude.{◌≡◌, ℕ, ◌<◌, ◌≤◌, List, Option, take, length, IfOk, OnErr, IfSome, IfNone};
+ghost use Rattle.std.specs.Prelude.{◌≡◌, ℕ, ◌<◌, ◌≤◌, List, Option, take, length, IfOk, OnOk, OnErr, IfSome, IfNone};
 ghost use Rattle.std.specs.Io.KnownBytes.{Consumes, IsAtEnd, Keeps};
 ghost use Rattle.outside_traits.specs.Counts.{Rose};
 ghost use Rattle.outside_traits.specs.Bytes.{KeepsOrForgets};
@@ -12,7 +12,7 @@ pub trait Source {
     // The bytes that reads will give from here on, where the source tells them.
     ghost left: { Self → Option (List ℕ) };
 
-    // How many reads have failed. The count never falls, and stands still at the greatest u64.
+    // How many reads have failed. A failed read alone raises the count, which stands still at the greatest u64.
     ghost faults: { Self → ℕ };
 
     /// Puts the next n bytes in front of `buf` at `Ok(n)`, and 0 bytes at the end of the input alone. After `Failed`
@@ -24,6 +24,7 @@ pub trait Source {
         ensures end { IfOk result (λ n. n ≡ 0 → IsAtEnd (left self.new)) }
         ensures failed { OnErr result (KeepsOrForgets (left self.old) (left self.new)) }
         ensures cause { OnErr result (Rose (faults self.old) (faults self.new)) }
+        ensures no_fault { OnOk result (faults self.new ≡ faults self.old) }
         ensures counts { faults self.old ≤ faults self.new };
 }
 

@@ -16,7 +16,7 @@ ghost use Rattle.outside_traits.specs.Calls.{
   MayRaiseReads,
   MayRaiseWrites,
   MayRaiseRemoves,
-  Takes,
+  CountsTaken,
 };
 
 use crate::failed::Failed;
@@ -29,7 +29,8 @@ use crate::failed::Failed;
 /// successful sync of any file. After a successful sync of a file a crash leaves of it what a read gives.
 ///
 /// A store need not tell what its files are: then what the calls give, and what a sync makes stable, isn't promised.
-/// What a call leaves alone, the moments and the counts are promised of every store.
+/// What a call leaves alone, the moments and the counts are promised of every store. Only a failed call raises a count
+/// of faults.
 pub trait Store {
     // Whether it tells what its files are.
     ghost tells: { Bool };
@@ -44,6 +45,7 @@ pub trait Store {
     fn attach(&mut self, folder: &str) -> Result<(), Failed>
         ensures idles { Idles (view self.old) (view self.new) }
         ensures cause { OnErr result (Rose (counts self.old).reads (counts self.new).reads) }
+        ensures no_fault { OnOk result ((counts self.new).reads ≡ (counts self.old).reads) }
         ensures counts { MayRaiseReads (counts self.old) (counts self.new) }
         ensures taken { (counts self.new).taken ≡ (counts self.old).taken };
 
@@ -52,6 +54,7 @@ pub trait Store {
         ensures size { IsTrue tells → IfOk result (λ size. size ≡ length ((view self.old).files file)) }
         ensures idles { Idles (view self.old) (view self.new) }
         ensures cause { OnErr result (Rose (counts self.old).reads (counts self.new).reads) }
+        ensures no_fault { OnOk result ((counts self.new).reads ≡ (counts self.old).reads) }
         ensures counts { MayRaiseReads (counts self.old) (counts self.new) }
         ensures taken { (counts self.new).taken ≡ (counts self.old).taken };
 
@@ -62,18 +65,20 @@ pub trait Store {
         ensures bytes { IsTrue tells → IfOk result (λ n. IsRead ((view self.old).files file) at (length buf.old) n buf.new) }
         ensures idles { Idles (view self.old) (view self.new) }
         ensures cause { OnErr result (Rose (counts self.old).reads (counts self.new).reads) }
+        ensures no_fault { OnOk result ((counts self.new).reads ≡ (counts self.old).reads) }
         ensures counts { MayRaiseReads (counts self.old) (counts self.new) }
-        ensures taken { IfOk result (λ n. Takes n (counts self.old) (counts self.new)) }
+        ensures taken { IfOk result (λ n. CountsTaken n (counts self.old) (counts self.new)) }
         ensures none_taken { OnErr result ((counts self.new).taken ≡ (counts self.old).taken) };
 
-    /// Writes the bytes at `at`, with zero bytes in a gap before them. After `Failed` the range, and what is past the
-    /// old end up to the range's end, may be anything.
+    /// Writes the bytes at `at`, with zero bytes in a gap before them; so a write of no bytes past the end makes the file
+    /// longer, up to `at`. After `Failed` the range, and what is past the old end up to the range's end, may be anything.
     fn write(&mut self, file: u64, at: u64, bytes: &[u8]) -> Result<(), Failed>
         requires { at + length bytes.now < 2 ^ 64 }
         ensures written { IsTrue tells → OnOk result ((view self.new).files file ≡ overlaid ((view self.old).files file) at bytes.now) }
         ensures there { IsTrue tells → OnOk result ((view self.new).there file ≡ true) }
         ensures acts { Acts file (Torn at (length bytes.now)) (view self.old) (view self.new) }
         ensures cause { OnErr result (Rose (counts self.old).writes (counts self.new).writes) }
+        ensures no_fault { OnOk result ((counts self.new).writes ≡ (counts self.old).writes) }
         ensures counts { MayRaiseWrites (counts self.old) (counts self.new) };
 
     /// Cuts a longer file to this length, and leaves a shorter one as it is. After `Failed` it has the old or the new
@@ -84,6 +89,7 @@ pub trait Store {
         ensures there { (view self.new).there file ≡ (view self.old).there file }
         ensures acts { Acts file (Shortened len) (view self.old) (view self.new) }
         ensures cause { OnErr result (Rose (counts self.old).writes (counts self.new).writes) }
+        ensures no_fault { OnOk result ((counts self.new).writes ≡ (counts self.old).writes) }
         ensures counts { MayRaiseWrites (counts self.old) (counts self.new) };
 
     /// Makes the file stable, and each removal before, of any file.
@@ -93,6 +99,7 @@ pub trait Store {
         ensures there { (view self.new).there file ≡ (view self.old).there file }
         ensures acts { Acts file Same (view self.old) (view self.new) }
         ensures cause { OnErr result (Rose (counts self.old).writes (counts self.new).writes) }
+        ensures no_fault { OnOk result ((counts self.new).writes ≡ (counts self.old).writes) }
         ensures counts { MayRaiseWrites (counts self.old) (counts self.new) };
 
     /// Makes the file not be there. After `Failed` it is there or not.
@@ -100,6 +107,7 @@ pub trait Store {
         ensures removed { IsTrue tells → OnOk result ((view self.new).there file ≡ false) }
         ensures acts { Acts file Gone (view self.old) (view self.new) }
         ensures cause { OnErr result (Rose (counts self.old).removes (counts self.new).removes) }
+        ensures no_fault { OnOk result ((counts self.new).removes ≡ (counts self.old).removes) }
         ensures counts { MayRaiseRemoves (counts self.old) (counts self.new) };
 
     /// The least number of a file that is there, at or above `from`.
@@ -108,6 +116,7 @@ pub trait Store {
         ensures next { IsTrue tells → IfOk result (NextIs (view self.old).there from) }
         ensures idles { Idles (view self.old) (view self.new) }
         ensures cause { OnErr result (Rose (counts self.old).reads (counts self.new).reads) }
+        ensures no_fault { OnOk result ((counts self.new).reads ≡ (counts self.old).reads) }
         ensures counts { MayRaiseReads (counts self.old) (counts self.new) }
         ensures taken { (counts self.new).taken ≡ (counts self.old).taken };
 

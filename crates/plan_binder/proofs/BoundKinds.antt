@@ -6,7 +6,7 @@ use Rattle.rows_core.specs.declared.schema.Column as schema
 use Rattle.rows_core.specs.Schema.{kinds_of}
 use Rattle.plan_core.specs.PlainPlan.{PlainPlan, Scan, Filter, Project, Group, Join, Concat, Order}
 use Rattle.plan_core.specs.PlanTyping.{Kinds, all_there, is_empty, plan_kinds, filter_kinds, project_kinds, group_kinds, join_kinds, concat_kinds, order_kinds, column_kind_of, agg_kind}
-use Rattle.plan_core.specs.ValueKinds.{slice_get-map, then_some, map_some, both_some, unless_some, where_some}
+use Rattle.plan_core.proofs.ValueKinds.{slice_get-map, then_some, map_some, both_some, unless_some, where_some}
 use Rattle.plan_grammar.specs.declared.plan.NamedResult.{NamedResult}
 use Rattle.plan_grammar.specs.declared.plan.NamedPair.{NamedPair}
 use Rattle.plan_grammar.specs.declared.plan.NamedKey.{NamedKey}

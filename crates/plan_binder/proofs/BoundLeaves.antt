@@ -11,7 +11,7 @@ use Rattle.plan_grammar.specs.declared.plan.NamedKey.{NamedKey}
 use Rattle.plan_grammar.specs.PlainNamed as named
 use Rattle.plan_grammar.specs.PlainNamed.{PlainColumn, PlainTree, From, Where, Select, streams_of}
 use Rattle.plan_binder.specs.Binding.{Names, Bound, kind_or_int, with_columns, bound_expr, bound_agg, bound_pair, bound_key, place_of, projected, grouped, joined, bound_scan, bound_from, bound_where, bound_select, bound_distinct, bound_group, bound_join, bound_concat, bound_order, bound_tree}
-use Rattle.plan_core.specs.ValueKinds.{then_some, map_some, both_some, where_some}
+use Rattle.plan_core.proofs.ValueKinds.{then_some, map_some, both_some, where_some}
 use Rattle.plan_binder.proofs.BoundKinds.{columns_some}
 
 -- with columns or not, the plan stays the same

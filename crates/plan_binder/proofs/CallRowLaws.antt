@@ -21,7 +21,7 @@ use Rattle.plan_binder.specs.OpRows.{row_for}
 use Rattle.plan_binder.specs.Binding.{Names, Bound, kind_or_int, call1, call2, of_two, of_three, bound_expr, bound_agg, bound_pair, bound_key, place_of, projected, grouped, joined, bound_where, bound_select, bound_distinct, bound_group, bound_join, bound_concat, bound_order, bound_tree, absent_stream, present_or, plan_or_ill_typed, binding}
 use Rattle.plan_binder.specs.CallRows.{has_no_row, bound_kind, lacks_row, test_lacks_row, columns_lack_row, plan_lacks_row}
 use Rattle.plan_binder.proofs.OpRowLaws.{chosen_found}
-use Rattle.plan_core.specs.ValueKinds.{then_some, map_some, both_some, unless_some, where_some}
+use Rattle.plan_core.proofs.ValueKinds.{then_some, map_some, both_some, unless_some, where_some}
 use Rattle.plan_binder.proofs.BoundKinds.{columns_some, bound_kinds}
 
 -- what is refused wherever it is found isn't there

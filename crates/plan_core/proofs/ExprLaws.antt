@@ -14,7 +14,7 @@ use Rattle.scalar_ops.specs.Meaning.{op_at, Divides}
 use Rattle.plan_core.specs.PlainExpr.{PlainExpr, Column, Literal, Call1, Call2, And, Or, If}
 use Rattle.plan_core.specs.Columns.{Row}
 use Rattle.plan_core.specs.ExpressionValue.{expression_value, cell_of_value}
-use Rattle.plan_core.specs.ValueKinds.{kind_of_cell-cell_of_value, slice_get-map}
+use Rattle.plan_core.proofs.ValueKinds.{kind_of_cell-cell_of_value, slice_get-map}
 use Rattle.plan_core.specs.ExpressionKind.{IsTyped, expression_kind, of_both, call_kind, is_division, is_divisor}
 
 -- ---- columns

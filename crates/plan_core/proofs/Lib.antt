@@ -1,2 +1,3 @@
 pub mod ExprLaws
 pub mod PlanLaws
+pub mod ValueKinds

@@ -4,7 +4,8 @@ use Rattle.std.specs.Prelude.{ℕ, List, ◌++◌, map, Result, Ok}
 use Rattle.std.specs.List.{filter}
 use Rattle.rows_core.specs.declared.overflow.Overflow.{Overflow}
 use Rattle.plan_core.specs.declared.agg.Agg.{Agg}
-use Rattle.plan_core.specs.Columns.{Row, Rows, columns_of, row_eq}
+use Rattle.rows_core.specs.Value.{row_eq}
+use Rattle.plan_core.specs.Columns.{Row, Rows, columns_of}
 use Rattle.plan_core.specs.Distinct.{distinct_rows}
 use Rattle.plan_core.specs.ExpressionValue.{◌>>=◌, all_of}
 use Rattle.plan_core.specs.Aggregate.{aggregate_value}

@@ -2,7 +2,8 @@
 -- ones: `Join` of LINQ to Objects.
 use Rattle.std.specs.Prelude.{ℕ, Bool, List, ◌++◌, map}
 use Rattle.std.specs.List.{list_all, filter, flat_map}
-use Rattle.plan_core.specs.Columns.{Row, Rows, column_of, value_eq}
+use Rattle.rows_core.specs.Value.{value_eq}
+use Rattle.plan_core.specs.Columns.{Row, Rows, column_of}
 
 -- the values of each pair of columns are equal
 abbrev pub rows_agree : List (ℕ × ℕ) → Row → Row → Bool

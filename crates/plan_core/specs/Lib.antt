@@ -23,5 +23,4 @@ pub mod Literals
 pub mod TypedPlan
 pub mod PlanCode
 pub mod KindLaw
-pub mod ValueKinds
 pub mod Examples

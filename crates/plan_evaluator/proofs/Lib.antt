@@ -1,10 +1,2 @@
-pub mod Answers
-pub mod FirstOfEqual
-pub mod Insertion
-pub mod Members
-pub mod StableLists
-pub mod TypedOperators
-pub mod TypedPlans
 pub mod Loops
 pub mod TypedParts
-pub mod KeptRows

@@ -5,11 +5,13 @@ use Rattle.std.proofs.lemmas.List.{at_drop_more, take_more, map-append}
 use Rattle.rows_core.specs.declared.value.Value.{Value}
 use Rattle.std.proofs.Math.IntN.{+ℤ_assoc}
 use Rattle.plan_core.specs.Aggregate.{number_of, exact_sum, values_of, lesser, greater, least_value, greatest_value}
-use Rattle.plan_core.specs.Columns.{Row, Rows, column_of, columns_of, row_eq}
+use Rattle.rows_core.specs.Value.{row_eq}
+use Rattle.plan_core.specs.Columns.{Row, Rows, column_of, columns_of}
 use Rattle.plan_core.specs.Distinct.{distinct_rows}
 use Rattle.plan_core.specs.Group.{keys_of, members_of}
-use Rattle.plan_evaluator.proofs.FirstOfEqual.{if_new, one_more, same_test, has_all, has_no_more, row_eq-Decides}
-use Rattle.plan_evaluator.proofs.Members.{at_front, behind, front_or_behind}
+use Rattle.plan_laws.proofs.FirstOfEqual.{if_new, one_more, same_test, has_all, has_no_more}
+use Rattle.rows_core.specs.Equality.{row_eq-Decides}
+use Rattle.plan_laws.proofs.Members.{at_front, behind, front_or_behind}
 
 -- F gives of a row and the others what f gives of the row, and then what it gives of the others
 pub more : (F : Rows → Rows) (f : Row → Rows) → ((row : Row) (rows : Rows) → F (row ∷ rows) ≡ f row ++ F rows) → (rows sofar next : Rows) (row : Row) (i : ℕ) → i < length rows

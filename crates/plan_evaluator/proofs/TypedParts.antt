@@ -16,8 +16,8 @@ use Rattle.plan_core.specs.PlanMeaning.{plan_meaning}
 use Rattle.plan_core.specs.PlanTyping.{Kinds, plan_kinds, all_there, column_kind, is_truth, is_empty, filter_kinds, project_kinds, join_kinds, concat_kinds}
 use Rattle.plan_core.specs.TypedRows.{HaveKinds, AreOfStreams}
 use Rattle.plan_evaluator.specs.Evaluation.{IsTypedOn}
-use Rattle.plan_evaluator.proofs.Answers.{both_some, tested, otherwise, there_front}
-use Rattle.plan_evaluator.proofs.TypedPlans.{and_then, lists_of_parts}
+use Rattle.plan_laws.proofs.Answers.{both_some, tested, otherwise, there_front}
+use Rattle.plan_laws.proofs.TypedPlans.{and_then, lists_of_parts}
 
 abbrev pub GivesTypedRows : Type 0
 GivesTypedRows = (schemas : List Kinds) (plan : PlainPlan) (kinds : Kinds) (lists : List Rows) → plan_kinds schemas plan ≡ Some kinds

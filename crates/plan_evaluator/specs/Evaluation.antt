@@ -1,9 +1,6 @@
--- What the evaluator takes, and what its answers say. Want of memory may be answered in place of any answer.
-use Rattle.std.specs.Prelude.{◌≡◌, Bool, List, ◌++◌, map, Result, Ok, Err, IsSome}
+-- What the evaluator takes, and the steps that it goes in.
+use Rattle.std.specs.Prelude.{Bool, List, ◌++◌, map, Result, Ok, IsSome}
 use Rattle.rows_core.specs.declared.overflow.Overflow.{Overflow}
-use Rattle.scalar_ops.specs.Meaning.{overflow}
-use Rattle.plan_core.specs.declared.refusal.EvRefusal.{EvRefusal}
-use Rattle.plan_core.specs.declared.refusal.EvRefusal.TheVariants as refusal
 use Rattle.plan_core.specs.declared.agg.Agg.{Agg}
 use Rattle.plan_core.specs.Aggregate.{aggregate_value}
 use Rattle.plan_core.specs.Columns.{Row, Rows}
@@ -12,12 +9,6 @@ use Rattle.plan_core.specs.PlainExpr.{PlainExpr}
 use Rattle.plan_core.specs.PlainPlan.{PlainPlan, leaves}
 use Rattle.plan_core.specs.PlanTyping.{Kinds, plan_kinds}
 use Rattle.plan_core.specs.TypedRows.{AreOfStreams}
-
--- the meaning is what was given, or it is the overflow
-abbrev pub Means : {A : Type 0} → Result A EvRefusal → Result A Overflow → Type 0
-Means (Ok given) meaning = meaning ≡ Ok given
-Means (Err refusal.Overflow) meaning = meaning ≡ Err overflow
-Means (Err refusal.Memory) meaning = Unit {0}
 
 -- over some streams the plan has a typing, and the lists have rows of the streams of its leaves
 abbrev pub IsTypedOn : PlainPlan → List Rows → Type 0

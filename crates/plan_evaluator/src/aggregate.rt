@@ -2,13 +2,15 @@
 ghost use Rattle.std.specs.Prelude.{◌≡◌, ◌<◌, ◌*◌, ◌^◌, ◌-◌, ◌≤ℤ◌, ◌+ℤ◌, neg_ℤ, pos, FitsSigned, [], ◌∷◌, ◌++◌, map, All, length, if◌then◌else◌, OnOk, Contains, IfOk, IsErrOf};
 ghost use Rattle.std.specs.Int.{w128};
 ghost use Rattle.scalar_ops.specs.Division.{floor_div};
-ghost use Rattle.plan_core.specs.Columns.{column_of, columns_of, row_eq};
+ghost use Rattle.rows_core.specs.Value.{row_eq};
+ghost use Rattle.plan_core.specs.Columns.{column_of, columns_of};
 ghost use Rattle.plan_core.specs.Aggregate.{values_of, number_of, exact_sum, whole_value, lesser, greater, least_value, greatest_value, first_value, last_value, aggregate_value};
 ghost use Rattle.plan_core.specs.ExpressionValue.{all_of};
 ghost use Rattle.plan_core.specs.Group.{keys_of, members_of, group_row, group_rows};
-ghost use Rattle.plan_evaluator.specs.Evaluation.{Means, aggregate_values};
+ghost use Rattle.plan_core.specs.Answer.{Means};
+ghost use Rattle.plan_evaluator.specs.Evaluation.{aggregate_values};
 
-use crate::groups::keys_of_groups;
+use plan_laws::keys_of_groups;
 use crate::operators::{distinct_rows, joined_row, push_row, push_value};
 use plan_core::{Agg, EvRefusal};
 use rows_core::{Memory, Row, Seq, Value};

@@ -2,13 +2,14 @@
 ghost use Rattle.std.specs.Prelude.{◌≡◌, ◌≤◌, ◌++◌, length, take, drop, IfOk};
 ghost use Rattle.plan_core.specs.PlainPlan.{plan_of, leaf_count};
 ghost use Rattle.plan_core.specs.PlanMeaning.{plan_meaning, first_list};
-ghost use Rattle.plan_evaluator.specs.Evaluation.{Means, IsTypedOn};
+ghost use Rattle.plan_core.specs.Answer.{Means};
+ghost use Rattle.plan_evaluator.specs.Evaluation.{IsTypedOn};
 
 use crate::aggregate::group_rows;
 use crate::operators::{
     copy_rows, distinct_rows, filter_rows, join_rows, order_rows, project_rows,
 };
-use crate::typed::typed_plans_give_typed_rows;
+use plan_laws::typed_plans_give_typed_rows;
 use plan_core::{EvRefusal, Plan};
 use rows_core::{Memory, Row, Seq};
 use std::alloc::Global;

@@ -3,16 +3,18 @@ ghost use Rattle.std.specs.Prelude.{◌≡◌, [], ◌∷◌, ◌++◌, map, All
 ghost use Rattle.std.specs.List.{list_any, filter};
 ghost use Rattle.rows_core.specs.Value.{kind_of};
 ghost use Rattle.plan_core.specs.PlainExpr.{expr_of};
-ghost use Rattle.plan_core.specs.Columns.{column_of, no_value, value_eq, row_eq};
+ghost use Rattle.rows_core.specs.Value.{value_eq, row_eq};
+ghost use Rattle.plan_core.specs.Columns.{column_of, no_value};
 ghost use Rattle.plan_core.specs.ExpressionKind.{IsTyped};
 ghost use Rattle.plan_core.specs.Filter.{filter_rows};
 ghost use Rattle.plan_core.specs.Project.{column_value, project_row, project_rows};
 ghost use Rattle.plan_core.specs.Distinct.{distinct_rows};
 ghost use Rattle.plan_core.specs.Join.{rows_agree, join_rows};
 ghost use Rattle.plan_core.specs.StableOrder.{order_rows};
-ghost use Rattle.plan_evaluator.specs.Evaluation.{Means, test_value};
+ghost use Rattle.plan_core.specs.Answer.{Means};
+ghost use Rattle.plan_evaluator.specs.Evaluation.{test_value};
 
-use crate::order::one_stable_order;
+use plan_laws::one_stable_order;
 use plan_core::{EvRefusal, Expr, ev};
 use rows_core::{Key, Memory, Row, Seq, Value, cmp_by, total_order};
 use scalar_ops::Cell;

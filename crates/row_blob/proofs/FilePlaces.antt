@@ -5,12 +5,13 @@ use Rattle.std.proofs.lemmas.Bool.{cases_Bool, eqb-true, eqb-false}
 use Rattle.std.proofs.lemmas.List.{length-append}
 use Rattle.row_blob.specs.declared.kept.Kept.{Kept}
 use Rattle.row_blob.specs.Spelling.{opening}
-use Rattle.row_blob.specs.Reading.{◌>>=◌, Read, literal_at, items_at, ended}
+use Rattle.byte_formats.specs.Reading.{◌>>=◌, Read, literal_at, ended}
+use Rattle.row_blob.specs.Reading.{items_at}
 use Rattle.row_blob.specs.Kept.{AreInOrder}
-use Rattle.row_blob.proofs.Readers.{IsBytes, bind_ok, Takes, IsReader}
+use Rattle.byte_formats.proofs.Readers.{IsBytes, bind_ok, Takes, IsReader}
 use Rattle.row_blob.proofs.KeptLaws.{literal_takes, IsBytes-after}
-use Rattle.row_blob.proofs.Same.{Same, same_longer, same_behind, same_cancel}
-use Rattle.row_blob.proofs.Exact.{IsExact, bind_err, proper, goes_longer, behind_goes, behind_stops}
+use Rattle.byte_formats.proofs.Same.{Same, same_longer, same_behind, same_cancel}
+use Rattle.byte_formats.proofs.Stopping.{IsExact, bind_err, proper, goes_longer, behind_goes, behind_stops}
 use Rattle.row_blob.proofs.ItemPlaces.{IsPlaced, begin, fills, length-fills, fills_fit, all_within, all_go, all_stop}
 
 -- ---- fixed bytes

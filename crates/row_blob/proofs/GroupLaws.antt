@@ -11,12 +11,15 @@ use Rattle.row_blob.specs.declared.kept.GroupRow.{GroupRow}
 use Rattle.row_blob.specs.declared.kept.TaggedRow.{TaggedRow}
 use Rattle.row_blob.specs.declared.shape.AccKind.{AccKind}
 use Rattle.row_blob.specs.declared.shape.AccKind.TheVariants as acc_kind
-use Rattle.row_blob.specs.Spelling.{signed, row_spelling, acc_spelling, group_spelling, tagged_spelling}
-use Rattle.row_blob.specs.Reading.{◌>>=◌, number_at, value_at, row_at, count_at, sum_at, acc_at, accs_at, group_at, group_after, tagged_at}
+use Rattle.byte_formats.specs.Format.{signed}
+use Rattle.row_blob.specs.Spelling.{row_spelling, acc_spelling, group_spelling, tagged_spelling}
+use Rattle.byte_formats.specs.Reading.{◌>>=◌, number_at}
+use Rattle.row_blob.specs.Reading.{value_at, row_at, count_at, sum_at, acc_at, accs_at, group_at, group_after, tagged_at}
 use Rattle.rows_core.specs.Value.{row_eq}
 use Rattle.row_blob.specs.Kept.{keys_of, last_left, AreEach, IsCount, IsSum, IsAcc, IsNextGroup, IsNextTagged}
-use Rattle.row_blob.proofs.Readers.{IsBytes, bind_ok, guard_ok, ok_is, Takes, IsReader, each_reader}
-use Rattle.row_blob.proofs.Fields.{wide64, number_reader, bounded_reader, or_parts}
+use Rattle.byte_formats.proofs.Readers.{IsBytes, bind_ok, guard_ok, ok_is, Takes, IsReader}
+use Rattle.row_blob.proofs.Readers.{each_reader}
+use Rattle.byte_formats.proofs.Fields.{wide64, number_reader, bounded_reader, or_parts}
 use Rattle.row_blob.proofs.RowLaws.{value_reader, row_reader}
 
 pub count_reader : IsReader count_at (to_be_bytes w64) IsCount

@@ -3,11 +3,12 @@ use Rattle.std.proofs.Common.{◌≡◌, ℕ, zero, suc, ◌+◌, ◌-◌, ◌<�
 use Rattle.std.specs.List.{flat_map}
 use Rattle.std.proofs.lemmas.List.{append-nil, length-append}
 use Rattle.std.proofs.lemmas.Grind.{flat_map-append}
-use Rattle.row_blob.specs.Reading.{◌>>=◌, Read, items_at, ended}
+use Rattle.byte_formats.specs.Reading.{◌>>=◌, Read, ended}
+use Rattle.row_blob.specs.Reading.{items_at}
 use Rattle.row_blob.specs.Kept.{AreInOrder}
-use Rattle.row_blob.proofs.Readers.{IsBytes, bind_ok, Takes, IsReader}
-use Rattle.row_blob.proofs.Same.{Same, same_behind}
-use Rattle.row_blob.proofs.Exact.{IsExact, bind_err, proper, goes_longer, behind_stops}
+use Rattle.byte_formats.proofs.Readers.{IsBytes, bind_ok, Takes, IsReader}
+use Rattle.byte_formats.proofs.Same.{Same, same_behind}
+use Rattle.byte_formats.proofs.Stopping.{IsExact, bind_err, proper, goes_longer, behind_stops}
 
 module _ {A : Type 0} (spell : A → List ℕ) (off : ℕ) where
   -- where an item begins, in the file

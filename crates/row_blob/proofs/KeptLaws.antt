@@ -15,10 +15,12 @@ use Rattle.row_blob.specs.declared.shape.AccKind.{AccKind}
 use Rattle.row_blob.specs.declared.shape.Shape.{Shape}
 use Rattle.row_blob.specs.declared.shape.Shape.TheVariants as shape
 use Rattle.row_blob.specs.Spelling.{row_spelling, group_spelling, tagged_spelling, opening, kept_spelling}
-use Rattle.row_blob.specs.Reading.{◌>>=◌, Read, Reads, literal_at, number_at, bounded_at, items_at, row_at, rows_at, group_after, groups_at, tagged_at, tagged_rows_at, ended, kept_at}
+use Rattle.byte_formats.specs.Reading.{◌>>=◌, Read, literal_at, number_at, bounded_at, ended}
+use Rattle.row_blob.specs.Reading.{Reads, items_at, row_at, rows_at, group_after, groups_at, tagged_at, tagged_rows_at, kept_at}
 use Rattle.row_blob.specs.Kept.{AreInOrder, IsRow, IsNextGroup, IsNextTagged, IsKept}
-use Rattle.row_blob.proofs.Readers.{IsBytes, bind_ok, ok_is, done, Takes, IsReader, items_reader}
-use Rattle.row_blob.proofs.Fields.{wide64, number_reader, bounded_reader}
+use Rattle.byte_formats.proofs.Readers.{IsBytes, bind_ok, ok_is, done, Takes, IsReader}
+use Rattle.row_blob.proofs.Readers.{items_reader}
+use Rattle.byte_formats.proofs.Fields.{wide64, number_reader, bounded_reader}
 use Rattle.row_blob.proofs.RowLaws.{row_reader}
 use Rattle.row_blob.proofs.SumLaws.{sum_reader}
 use Rattle.row_blob.proofs.GroupLaws.{group_reader, tagged_reader}

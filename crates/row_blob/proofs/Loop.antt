@@ -1,8 +1,9 @@
 -- Reading a count of items one after the other, as a loop does.
 use Rattle.std.proofs.Common.{◌≡◌, ℕ, suc, ◌-◌, ◌+◌, ◌<◌, List, [], ◌∷◌, ◌++◌, Ok, Err, refl, sym, ap, ◌∙◌, arith}
-use Rattle.row_blob.specs.declared.refusal.Unread.{Unread}
-use Rattle.row_blob.specs.declared.refusal.Unread.TheVariants.{Left, Memory}
-use Rattle.row_blob.specs.Reading.{◌>>=◌, Read, Fails, items_at}
+use Rattle.byte_formats.specs.declared.unread.Unread.{Unread}
+use Rattle.byte_formats.specs.declared.unread.Unread.TheVariants.{Left, Memory}
+use Rattle.byte_formats.specs.Reading.{◌>>=◌, Read, Fails}
+use Rattle.row_blob.specs.Reading.{items_at}
 
 next : {A : Type 0} (read : List A → List ℕ → Read A) (n : ℕ) (front : List A) (bytes : List ℕ) → items_at read (suc n) front bytes ≡ (read front bytes >>= λ x. items_at read n (front ++ x.0 ∷ []) x.1)
 next read n front bytes = refl

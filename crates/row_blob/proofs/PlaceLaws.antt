@@ -10,7 +10,7 @@ use Rattle.row_blob.specs.declared.shape.Shape.TheVariants as shape
 use Rattle.row_blob.specs.Spelling.{row_spelling, acc_spelling, group_spelling, tagged_spelling, kept_spelling}
 use Rattle.row_blob.specs.Kept.{AreInOrder, IsNextGroup, IsNextTagged, IsKept}
 use Rattle.row_blob.specs.Place.{IsGroupTo, IsTaggedTo, IsKeptTo, GoesOn, StopsAt}
-use Rattle.row_blob.proofs.Same.{same_less}
+use Rattle.byte_formats.proofs.Same.{same_less}
 use Rattle.row_blob.proofs.ItemPlaces.{begin_next}
 
 in_order : {A : Type 0} (P Q : List A → A → Type 0) → ((before : List A) (x : A) → P before x → Q before x) → (before xs : List A) → AreInOrder P before xs → AreInOrder Q before xs

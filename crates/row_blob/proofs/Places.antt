@@ -17,17 +17,19 @@ use Rattle.row_blob.specs.declared.shape.AccKind.{AccKind}
 use Rattle.row_blob.specs.declared.shape.Shape.{Shape}
 use Rattle.row_blob.specs.declared.shape.Shape.TheVariants as shape
 use Rattle.row_blob.specs.Spelling.{row_spelling, acc_spelling, group_spelling, tagged_spelling, opening}
-use Rattle.row_blob.specs.Reading.{◌>>=◌, Read, Reads, literal_at, number_at, bounded_at, row_at, group_at, group_after, accs_at, tagged_at, items_at, rows_at, groups_at, tagged_rows_at, ended, kept_at}
+use Rattle.byte_formats.specs.Reading.{◌>>=◌, Read, literal_at, number_at, bounded_at, ended}
+use Rattle.row_blob.specs.Reading.{Reads, row_at, group_at, group_after, accs_at, tagged_at, items_at, rows_at, groups_at, tagged_rows_at, kept_at}
 use Rattle.rows_core.specs.Value.{row_eq}
 use Rattle.row_blob.specs.Kept.{keys_of, last_left, AreEach, IsRow, IsAcc}
 use Rattle.row_blob.specs.Place.{IsGroupTo, IsTaggedTo, GoesOn, IsPlace}
-use Rattle.row_blob.proofs.Readers.{IsBytes, bind_ok, ok_is, IsReader}
-use Rattle.row_blob.proofs.Fields.{wide64, IsBetween, number_reader, bounded_reader}
+use Rattle.byte_formats.proofs.Readers.{IsBytes, bind_ok, ok_is, IsReader}
+use Rattle.byte_formats.proofs.Fields.{wide64, IsBetween, number_reader, bounded_reader}
 use Rattle.row_blob.proofs.RowLaws.{row_reader}
 use Rattle.row_blob.proofs.SumLaws.{sum_reader}
 use Rattle.row_blob.proofs.GroupLaws.{accs_reader}
-use Rattle.row_blob.proofs.Exact.{IsExact, bind_err, pair_reader, pair_exact}
-use Rattle.row_blob.proofs.Between.{big64, number_exact, bounded_exact}
+use Rattle.byte_formats.proofs.Stopping.{IsExact, bind_err}
+use Rattle.row_blob.proofs.Exact.{pair_reader, pair_exact}
+use Rattle.byte_formats.proofs.Ranges.{big64, number_exact, bounded_exact}
 use Rattle.row_blob.proofs.ValuePlaces.{row_exact, accs_exact}
 use Rattle.row_blob.proofs.ItemPlaces.{IsPlaced, plain_placed}
 use Rattle.row_blob.proofs.RulePlaces.{rule_placed}

@@ -2,11 +2,11 @@
 use Rattle.std.proofs.Common.{◌≡◌, ℕ, suc, ◌+◌, ◌-◌, ◌<◌, ◌≤◌, Bool, false, cond, List, ◌++◌, length, take, Ok, Err, refl, sym, ap, subst, ◌∙◌, append_assoc, arith, inl, inr}
 use Rattle.std.proofs.lemmas.Bool.{both_ways}
 use Rattle.std.proofs.lemmas.List.{length-append}
-use Rattle.row_blob.specs.Reading.{◌>>=◌, Read}
-use Rattle.row_blob.proofs.Readers.{IsBytes, bind_ok, guard_ok, ok_is, Takes, IsReader}
-use Rattle.row_blob.proofs.Same.{Same, same_front}
-use Rattle.row_blob.proofs.Exact.{IsExact, bind_err, proper, goes_longer, behind_goes, behind_stops}
-use Rattle.row_blob.proofs.Between.{err_cases}
+use Rattle.byte_formats.specs.Reading.{◌>>=◌, Read}
+use Rattle.byte_formats.proofs.Readers.{IsBytes, bind_ok, guard_ok, ok_is, Takes, IsReader}
+use Rattle.byte_formats.proofs.Same.{Same, same_front}
+use Rattle.byte_formats.proofs.Stopping.{IsExact, bind_err, proper, goes_longer, behind_goes, behind_stops}
+use Rattle.byte_formats.proofs.Ranges.{err_cases}
 use Rattle.row_blob.proofs.ItemPlaces.{begin, ItemGoes, IsPlaced}
 
 module _ {H T A : Type 0} (head : List ℕ → Read H) (hs : H → List ℕ) (PH : H → Type 0) (law : IsReader head hs PH) (exact : IsExact head hs PH)

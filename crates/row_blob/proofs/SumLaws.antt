@@ -5,12 +5,13 @@ use Rattle.std.specs.Int.{w128, to_be_bytes, cast_signed, cast_unsigned}
 use Rattle.std.proofs.lemmas.Bool.{lt-ltb, le-ltb}
 use Rattle.std.proofs.lemmas.Int.{to_z_pos}
 use mir.ValLaws.{to_z-neg}
-use Rattle.row_blob.specs.Spelling.{signed}
-use Rattle.row_blob.specs.Reading.{◌>>=◌, bounded_at, sum_at, sum_bound, sum_low, sum_high}
+use Rattle.byte_formats.specs.Format.{signed}
+use Rattle.byte_formats.specs.Reading.{◌>>=◌, bounded_at}
+use Rattle.row_blob.specs.Reading.{sum_at, sum_bound, sum_low, sum_high}
 use Rattle.row_blob.specs.Kept.{IsSum}
-use Rattle.row_blob.proofs.Readers.{IsBytes, bind_ok, ok_is, Takes, IsReader}
-use Rattle.row_blob.proofs.Fields.{IsBetween, bounded_reader}
-use Rattle.row_blob.proofs.Wide.{wide128}
+use Rattle.byte_formats.proofs.Readers.{IsBytes, bind_ok, ok_is, Takes, IsReader}
+use Rattle.byte_formats.proofs.Fields.{IsBetween, bounded_reader}
+use Rattle.byte_formats.proofs.Wide.{wide128}
 
 positives : IsReader (bounded_at w128 0 sum_bound) (to_be_bytes w128) (IsBetween 0 (2 ^ 95))
 unfolding sum_bound

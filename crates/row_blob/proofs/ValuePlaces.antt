@@ -15,19 +15,22 @@ use Rattle.row_blob.specs.declared.kept.Acc.{Acc}
 use Rattle.row_blob.specs.declared.kept.Acc.TheVariants as acc
 use Rattle.row_blob.specs.declared.shape.AccKind.{AccKind}
 use Rattle.row_blob.specs.declared.shape.AccKind.TheVariants as acc_kind
-use Rattle.row_blob.specs.Spelling.{signed, value_spelling, row_spelling, acc_spelling}
-use Rattle.row_blob.specs.Reading.{◌>>=◌, Read, number_at, bounded_at, text_at, value_at, row_at, sum_bound, sum_low, sum_high, sum_at, count_at, acc_at, accs_at}
+use Rattle.byte_formats.specs.Format.{signed, text_spelling}
+use Rattle.row_blob.specs.Spelling.{value_spelling, row_spelling, acc_spelling}
+use Rattle.byte_formats.specs.Reading.{◌>>=◌, Read, number_at, bounded_at, text_at}
+use Rattle.row_blob.specs.Reading.{value_at, row_at, sum_bound, sum_low, sum_high, sum_at, count_at, acc_at, accs_at}
 use Rattle.row_blob.specs.Kept.{AreEach, IsValue, IsRow, IsCount, IsSum, IsAcc}
-use Rattle.row_blob.proofs.Readers.{IsBytes}
-use Rattle.row_blob.proofs.Fields.{wide64, IsBetween}
-use Rattle.row_blob.proofs.Wide.{wide128}
-use Rattle.row_blob.proofs.RowLaws.{text_spelling, value_reader}
+use Rattle.byte_formats.proofs.Readers.{IsBytes}
+use Rattle.byte_formats.proofs.Fields.{wide64, IsBetween}
+use Rattle.byte_formats.proofs.Wide.{wide128}
+use Rattle.row_blob.proofs.RowLaws.{value_reader}
 use Rattle.row_blob.proofs.SumLaws.{from_positive, from_negative, first_of_positive, first_of_negative, chosen, sum_reader}
 use Rattle.row_blob.proofs.GroupLaws.{acc_reader}
-use Rattle.row_blob.proofs.Same.{Same, same_byte}
-use Rattle.row_blob.proofs.Exact.{GoesTo, IsExact, bind_err, mapped_exact, pair_exact, each_exact}
-use Rattle.row_blob.proofs.Between.{big64, big128, number_exact, bounded_exact}
-use Rattle.row_blob.proofs.TextPlaces.{text_exact}
+use Rattle.byte_formats.proofs.Same.{Same, same_byte}
+use Rattle.byte_formats.proofs.Stopping.{GoesTo, IsExact, bind_err}
+use Rattle.row_blob.proofs.Exact.{mapped_exact, pair_exact, each_exact}
+use Rattle.byte_formats.proofs.Ranges.{big64, big128, number_exact, bounded_exact}
+use Rattle.byte_formats.proofs.TextPlaces.{text_exact}
 
 -- ---- values and rows
 

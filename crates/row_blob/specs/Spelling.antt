@@ -1,9 +1,10 @@
 -- The one spelling of a kept form. Numbers are big-endian, signed ones in two's complement.
-use Rattle.std.specs.Prelude.{ℕ, ℤ, List, [], ◌∷◌, ◌++◌, length}
-use Rattle.std.specs.Int.{Width, w32, w64, w128, to_be_bytes, cast_unsigned}
+use Rattle.std.specs.Prelude.{ℕ, List, [], ◌∷◌, ◌++◌, length}
+use Rattle.std.specs.Int.{w64, w128, to_be_bytes}
 use Rattle.std.specs.List.{flat_map}
 use Rattle.rows_core.specs.declared.value.Value.{Value}
 use Rattle.rows_core.specs.declared.value.Value.TheVariants.{Int, Text}
+use Rattle.byte_formats.specs.Format.{signed, text_spelling}
 use Rattle.row_blob.specs.declared.kept.Acc.{Acc}
 use Rattle.row_blob.specs.declared.kept.Acc.TheVariants.{Count, Sum, Avg, Pick}
 use Rattle.row_blob.specs.declared.kept.GroupRow.{GroupRow}
@@ -11,13 +12,10 @@ use Rattle.row_blob.specs.declared.kept.TaggedRow.{TaggedRow}
 use Rattle.row_blob.specs.declared.kept.Kept.{Kept}
 use Rattle.row_blob.specs.declared.kept.Kept.TheVariants.{Rows, Groups, Tagged}
 
-abbrev pub signed : Width → ℤ → List ℕ
-signed w n = to_be_bytes w (cast_unsigned w n)
-
 -- a number in 8 bytes; a text's length in 4, and its bytes
 abbrev pub value_spelling : Value → List ℕ
 value_spelling (Int n) = signed w64 n
-value_spelling (Text t) = to_be_bytes w32 (length t) ++ t
+value_spelling (Text t) = text_spelling t
 
 abbrev pub row_spelling : List Value → List ℕ
 row_spelling row = flat_map value_spelling row

@@ -4,16 +4,17 @@ ghost use Rattle.row_blob.specs.declared.kept.Kept.{Kept};
 ghost use Rattle.row_blob.specs.declared.shape.Shape.{Shape};
 ghost use Rattle.row_blob.specs.Kept.{IsKept};
 ghost use Rattle.row_blob.specs.Place.{IsKeptTo, StopsAt, IsPlace};
-ghost use Rattle.row_blob.specs.Reading.{Gives, Reads, kept_at, ended};
+ghost use Rattle.byte_formats.specs.Reading.{Gives, ended};
+ghost use Rattle.row_blob.specs.Reading.{Reads, kept_at};
 ghost use Rattle.row_blob.specs.Spelling.{kept_spelling};
 
 use crate::groups::groups_at;
 use crate::kept::Kept;
-use crate::literal::after_literal;
-use crate::refusal::{BlobRefusal, Unread};
+use crate::refusal::BlobRefusal;
 use crate::rows::rows_at;
 use crate::shape::Shape;
 use crate::tagged::tagged_rows_at;
+use byte_formats::{Unread, after_literal};
 use rows_core::Seq;
 use std::alloc::Global;
 
@@ -27,8 +28,6 @@ pub fn decode(alloc: Global, bytes: &[u8], shape: &Shape) -> Result<Kept, BlobRe
     // What is spelled so is read, unless memory runs out.
     ensures only { (kept : Kept) → IsKept shape.now kept → bytes.now ≡ kept_spelling kept
         → MatchResult result (λ found. found ≡ kept) (λ e. e ≡ BlobRefusal.Memory) }
-    // Which value it is, or at which place reading stops.
-    ensures exact { Reads result (kept_at shape.now bytes.now) (length bytes.now) }
     // A spelling has the bytes up to the place, and none has the byte there too.
     ensures place { IfErr result (λ e. IsPlace shape.now bytes.now e) }
 {

@@ -5,7 +5,8 @@ ghost use Rattle.row_blob.specs.Spelling.{kept_spelling, header, row_spelling, g
 
 use crate::kept::{GroupRow, Kept, TaggedRow};
 use crate::length::encoded_len;
-use crate::put::{put_group, put_row, put_tagged, put_u64};
+use crate::put::{put_group, put_row, put_tagged};
+use byte_formats::put_u64;
 use rows_core::{Memory, Row};
 use std::alloc::Global;
 

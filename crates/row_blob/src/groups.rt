@@ -1,14 +1,15 @@
 //! Groups.
 ghost use Rattle.std.specs.Prelude.{◌≡◌, [], ◌∷◌, ◌++◌, IfOk, IsTrue, not};
 ghost use Rattle.std.specs.List.{list_any};
-ghost use Rattle.row_blob.specs.Reading.{Gives, acc_at, accs_at, group_at, groups_at, group_after, items_at};
+ghost use Rattle.byte_formats.specs.Reading.{Gives};
+ghost use Rattle.row_blob.specs.Reading.{acc_at, accs_at, group_at, groups_at, group_after, items_at};
 ghost use Rattle.rows_core.specs.Value.{row_eq};
 
 use crate::kept::{Acc, GroupRow};
-use crate::number::{count_at, sum_at, u64_at};
-use crate::refusal::Unread;
+use crate::number::{count_at, sum_at};
 use crate::rows::{row_at, value_at};
 use crate::shape::AccKind;
+use byte_formats::{Unread, u64_at};
 use indexmap::IndexSet;
 use rows_core::{Kind, Memory, Row, Seq};
 use std::alloc::Global;

@@ -1,83 +1,76 @@
 //! The length of a kept form's file.
-ghost use Rattle.std.specs.Prelude.{◌≡◌, ◌++◌, ◌+◌, ◌*◌, ◌<◌, ◌≤◌, ◌^◌, length, sum_by};
+ghost use Rattle.std.specs.Prelude.{◌≡◌, length, min};
 ghost use Rattle.std.specs.List.{flat_map};
 ghost use Rattle.row_blob.specs.Spelling.{kept_spelling, row_spelling, value_spelling, acc_spelling, group_spelling, tagged_spelling};
 
 use crate::kept::{Acc, GroupRow, Kept, TaggedRow};
 use rows_core::{Row, Value};
 
-/// The length of the file that holds the kept form. It takes no memory.
+/// The length of the file that holds the kept form, or the greatest u64 where it is longer. It takes no memory.
 pub fn encoded_len(kept: &Kept) -> u64
-    requires { length (kept_spelling kept.now) < 2 ^ 64 }
-    ensures { result ≡ length (kept_spelling kept.now) }
+    ensures { result ≡ min (length (kept_spelling kept.now)) u64.MAX }
 {
     match kept {
-        Kept::Rows(rows) => 16 + rows_len(rows.items()),
-        Kept::Groups(groups) => 16 + groups_len(groups.items()),
-        Kept::Tagged { left: _, rows } => 24 + tagged_rows_len(rows.items()),
+        Kept::Rows(rows) => rows_len(rows.items()).saturating_add(16),
+        Kept::Groups(groups) => groups_len(groups.items()).saturating_add(16),
+        Kept::Tagged { left: _, rows } => tagged_rows_len(rows.items()).saturating_add(24),
     }
 }
 
 fn rows_len(rows: &[Row]) -> u64
-    requires { length (flat_map row_spelling rows.now) < 2 ^ 64 }
-    ensures { result ≡ length (flat_map row_spelling rows.now) }
+    ensures { result ≡ min (length (flat_map row_spelling rows.now)) u64.MAX }
 {
-    let mut len = 0;
+    let mut len: u64 = 0;
     for row in rows {
-        len += row_len(row);
+        len = len.saturating_add(row_len(row));
     }
     len
 }
 
 fn groups_len(groups: &[GroupRow]) -> u64
-    requires { length (flat_map group_spelling groups.now) < 2 ^ 64 }
-    ensures { result ≡ length (flat_map group_spelling groups.now) }
+    ensures { result ≡ min (length (flat_map group_spelling groups.now)) u64.MAX }
 {
-    let mut len = 0;
+    let mut len: u64 = 0;
     for group in groups {
-        len += group_len(group);
+        len = len.saturating_add(group_len(group));
     }
     len
 }
 
 fn tagged_rows_len(rows: &[TaggedRow]) -> u64
-    requires { length (flat_map tagged_spelling rows.now) < 2 ^ 64 }
-    ensures { result ≡ length (flat_map tagged_spelling rows.now) }
+    ensures { result ≡ min (length (flat_map tagged_spelling rows.now)) u64.MAX }
 {
-    let mut len = 0;
+    let mut len: u64 = 0;
     for tagged in rows {
-        len += tagged_len(tagged);
+        len = len.saturating_add(tagged_len(tagged));
     }
     len
 }
 
 fn group_len(group: &GroupRow) -> u64
-    requires { length (group_spelling group.now) < 2 ^ 64 }
-    ensures { result ≡ length (group_spelling group.now) }
+    ensures { result ≡ min (length (group_spelling group.now)) u64.MAX }
 {
-    row_len(&group.key) + accs_len(group.accs.items())
+    row_len(&group.key).saturating_add(accs_len(group.accs.items()))
 }
 
 fn tagged_len(tagged: &TaggedRow) -> u64
-    requires { length (tagged_spelling tagged.now) < 2 ^ 64 }
-    ensures { result ≡ length (tagged_spelling tagged.now) }
+    ensures { result ≡ min (length (tagged_spelling tagged.now)) u64.MAX }
 {
-    8 + row_len(&tagged.row)
+    row_len(&tagged.row).saturating_add(8)
 }
 
 fn row_len(row: &Row) -> u64
-    requires { length (row_spelling row.now) < 2 ^ 64 }
-    ensures { result ≡ length (row_spelling row.now) }
+    ensures { result ≡ min (length (row_spelling row.now)) u64.MAX }
 {
-    let mut len = 0;
+    let mut len: u64 = 0;
     for value in row.values() {
-        len += value_len(value);
+        len = len.saturating_add(value_len(value));
     }
     len
 }
 
 fn value_len(value: &Value) -> u64
-    ensures { result ≡ length (value_spelling value.now) }
+    ensures { result ≡ min (length (value_spelling value.now)) u64.MAX }
 {
     match value {
         Value::Int(_) => 8,
@@ -86,18 +79,17 @@ fn value_len(value: &Value) -> u64
 }
 
 fn accs_len(accs: &[Acc]) -> u64
-    requires { length (flat_map acc_spelling accs.now) < 2 ^ 64 }
-    ensures { result ≡ length (flat_map acc_spelling accs.now) }
+    ensures { result ≡ min (length (flat_map acc_spelling accs.now)) u64.MAX }
 {
-    let mut len = 0;
+    let mut len: u64 = 0;
     for acc in accs {
-        len += acc_len(acc);
+        len = len.saturating_add(acc_len(acc));
     }
     len
 }
 
 fn acc_len(acc: &Acc) -> u64
-    ensures { result ≡ length (acc_spelling acc.now) }
+    ensures { result ≡ min (length (acc_spelling acc.now)) u64.MAX }
 {
     match acc {
         Acc::Count(_) => 8,

@@ -6,14 +6,12 @@ pub mod encoding;
 mod groups;
 pub mod kept;
 pub mod length;
-mod literal;
 mod number;
 mod put;
 pub mod refusal;
 mod rows;
 pub mod shape;
 mod tagged;
-mod text;
 
 pub use decoding::{decode, one_place, one_spelling, told_by_all};
 pub use encoding::encode;
@@ -21,6 +19,3 @@ pub use kept::{Acc, GroupRow, Kept, TaggedRow};
 pub use length::encoded_len;
 pub use refusal::BlobRefusal;
 pub use shape::{AccKind, Shape};
-
-#[cfg(test)]
-mod tests;

@@ -1,9 +1,10 @@
 //! Numbers.
 ghost use Rattle.std.specs.Prelude.{◌≡◌, ◌≤◌, IfOk, if◌then◌else◌, nat_lt, not, slice_index};
 ghost use Rattle.std.specs.Int.{w32, w64, w128, to_be_bytes};
-ghost use Rattle.row_blob.specs.Reading.{Gives, number_at, bounded_at, left_between, sum_at, count_at, sum_bound, sum_low, sum_high};
+ghost use Rattle.byte_formats.specs.Reading.{Gives, number_at, bounded_at, left_between};
+ghost use Rattle.row_blob.specs.Reading.{sum_at, count_at, sum_bound, sum_low, sum_high};
 
-use crate::refusal::Unread;
+use byte_formats::{Unread, u64_between, u128_between};
 
 /// A sum lies from `-MAX_SUM` to `MAX_SUM`.
 const MAX_SUM: u128 = 0x8000_0000_0000_0000_0000_0000;
@@ -13,61 +14,6 @@ const MIN_SUM_BITS: u128 = 0xFFFF_FFFF_8000_0000_0000_0000_0000_0000;
 
 /// The greatest count of an accumulator, and the greatest length of a left list.
 pub const MAX_COUNT: u64 = 0xFFFF_FFFF;
-
-pub fn u64_at(bytes: &[u8]) -> Result<(u64, &[u8]), Unread>
-    ensures { Gives (λ x. (x.0, x.1.now)) result (number_at w64 bytes.now) }
-{
-    let Some((front, rest)) = bytes.split_first_chunk::<8>() else {
-        return Err(Unread::Left(0));
-    };
-    Ok((u64::from_be_bytes(*front), rest))
-}
-
-#[tactic(auto, unfolding(crate::specs::Reading::bounded_at))]
-pub fn u32_between(low: u32, high: u32, bytes: &[u8]) -> Result<(u32, &[u8]), Unread>
-    ensures read { Gives (λ x. (x.0, x.1.now)) result (bounded_at w32 low high bytes.now) }
-    ensures bound { IfOk result (λ x. x.0 ≤ high) }
-{
-    let left = left_between(&low.to_be_bytes(), &high.to_be_bytes(), bytes, true, true);
-    let Some((front, rest)) = bytes.split_first_chunk::<4>() else {
-        return Err(Unread::Left(left));
-    };
-    let number = u32::from_be_bytes(*front);
-    if number < low || high < number {
-        return Err(Unread::Left(left));
-    }
-    Ok((number, rest))
-}
-
-#[tactic(auto, unfolding(crate::specs::Reading::bounded_at))]
-pub fn u64_between(low: u64, high: u64, bytes: &[u8]) -> Result<(u64, &[u8]), Unread>
-    ensures { Gives (λ x. (x.0, x.1.now)) result (bounded_at w64 low high bytes.now) }
-{
-    let left = left_between(&low.to_be_bytes(), &high.to_be_bytes(), bytes, true, true);
-    let Some((front, rest)) = bytes.split_first_chunk::<8>() else {
-        return Err(Unread::Left(left));
-    };
-    let number = u64::from_be_bytes(*front);
-    if number < low || high < number {
-        return Err(Unread::Left(left));
-    }
-    Ok((number, rest))
-}
-
-#[tactic(auto, unfolding(crate::specs::Reading::bounded_at))]
-fn u128_between(low: u128, high: u128, bytes: &[u8]) -> Result<(u128, &[u8]), Unread>
-    ensures { Gives (λ x. (x.0, x.1.now)) result (bounded_at w128 low high bytes.now) }
-{
-    let left = left_between(&low.to_be_bytes(), &high.to_be_bytes(), bytes, true, true);
-    let Some((front, rest)) = bytes.split_first_chunk::<16>() else {
-        return Err(Unread::Left(left));
-    };
-    let number = u128::from_be_bytes(*front);
-    if number < low || high < number {
-        return Err(Unread::Left(left));
-    }
-    Ok((number, rest))
-}
 
 /// The count of an accumulator.
 #[tactic(auto, unfolding(crate::specs::Reading::count_at))]
@@ -105,30 +51,4 @@ fn is_negative(bytes: &[u8]) -> bool
         [first, ..] => *first >= 0x80,
         [] => false,
     }
-}
-
-/// How many bytes are left where a number from one to another stops, these being the bytes of the two. `at_low`
-/// says that the bytes before were the least number's, and `at_high` that they were the greatest's.
-fn left_between(low: &[u8], high: &[u8], bytes: &[u8], at_low: bool, at_high: bool) -> usize
-    ensures { result ≡ left_between low.now high.now bytes.now at_low at_high }
-{
-    let [least, low @ ..] = low else {
-        return 0;
-    };
-    let [greatest, high @ ..] = high else {
-        return 0;
-    };
-    let [byte, rest @ ..] = bytes else {
-        return 0;
-    };
-    if (at_low && byte < least) || (at_high && greatest < byte) {
-        return bytes.len();
-    }
-    left_between(
-        low,
-        high,
-        rest,
-        at_low && byte == least,
-        at_high && byte == greatest,
-    )
 }

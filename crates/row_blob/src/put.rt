@@ -5,48 +5,16 @@ ghost use Rattle.std.specs.List.{flat_map};
 ghost use Rattle.row_blob.specs.Spelling.{value_spelling, acc_spelling, group_spelling, tagged_spelling, row_spelling};
 
 use crate::kept::{Acc, GroupRow, TaggedRow};
-use byteorder::{BigEndian, ByteOrder};
+use byte_formats::{put_i64, put_text, put_u64, put_u128};
 use rows_core::{Memory, Row, Value};
-
-pub fn put_u32(out: &mut Vec<u8>, number: u32) -> Result<(), Memory>
-    ensures { OnOk result (out.new.items ≡ out.old.items ++ to_be_bytes w32 number) }
-{
-    let mut bytes = [0u8; 4];
-    BigEndian::write_u32(&mut bytes, number);
-    out.extend_from_slice(&bytes)?;
-    Ok(())
-}
-
-pub fn put_u64(out: &mut Vec<u8>, number: u64) -> Result<(), Memory>
-    ensures { OnOk result (out.new.items ≡ out.old.items ++ to_be_bytes w64 number) }
-{
-    let mut bytes = [0u8; 8];
-    BigEndian::write_u64(&mut bytes, number);
-    out.extend_from_slice(&bytes)?;
-    Ok(())
-}
-
-fn put_u128(out: &mut Vec<u8>, number: u128) -> Result<(), Memory>
-    ensures { OnOk result (out.new.items ≡ out.old.items ++ to_be_bytes w128 number) }
-{
-    let mut bytes = [0u8; 16];
-    BigEndian::write_u128(&mut bytes, number);
-    out.extend_from_slice(&bytes)?;
-    Ok(())
-}
 
 fn put_value(out: &mut Vec<u8>, value: &Value) -> Result<(), Memory>
     ensures { OnOk result (out.new.items ≡ out.old.items ++ value_spelling value.now) }
 {
     match value {
-        Value::Int(number) => put_u64(out, number.cast_unsigned())?,
-        Value::Text(text) => {
-            let bytes = text.bytes();
-            put_u32(out, bytes.len() as u32)?;
-            out.extend_from_slice(bytes)?;
-        }
+        Value::Int(number) => put_i64(out, *number),
+        Value::Text(text) => put_text(out, text),
     }
-    Ok(())
 }
 
 pub fn put_row(out: &mut Vec<u8>, row: &Row) -> Result<(), Memory>

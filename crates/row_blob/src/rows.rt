@@ -1,10 +1,9 @@
 //! Rows.
 ghost use Rattle.std.specs.Prelude.{◌≡◌, []};
-ghost use Rattle.row_blob.specs.Reading.{Gives, value_at, row_at, rows_at, items_at};
+ghost use Rattle.byte_formats.specs.Reading.{Gives};
+ghost use Rattle.row_blob.specs.Reading.{value_at, row_at, rows_at, items_at};
 
-use crate::number::u64_at;
-use crate::refusal::Unread;
-use crate::text::text_at;
+use byte_formats::{Unread, text_at, u64_at};
 use rows_core::{Kind, Row, Value};
 use std::alloc::Global;
 

@@ -1,12 +1,13 @@
 //! Rows of a join.
 ghost use Rattle.std.specs.Prelude.{◌≡◌, []};
-ghost use Rattle.row_blob.specs.Reading.{Gives, tagged_at, tagged_rows_at, items_at};
+ghost use Rattle.byte_formats.specs.Reading.{Gives};
+ghost use Rattle.row_blob.specs.Reading.{tagged_at, tagged_rows_at, items_at};
 ghost use Rattle.row_blob.specs.Kept.{last_left};
 
 use crate::kept::TaggedRow;
-use crate::number::{MAX_COUNT, u64_at, u64_between};
-use crate::refusal::Unread;
+use crate::number::MAX_COUNT;
 use crate::rows::row_at;
+use byte_formats::{Unread, u64_at, u64_between};
 use rows_core::Kind;
 use std::alloc::Global;
 

@@ -1,2 +1,4 @@
+pub mod FitsI64
 pub mod Rounding
+pub mod RowLaws
 pub mod ValueLaws

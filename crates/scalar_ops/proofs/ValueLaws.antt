@@ -21,9 +21,9 @@ use Rattle.scalar_ops.specs.declared.table.TheConstants.{OPS}
 use Rattle.scalar_ops.specs.Cells.{IsCell, AreCells}
 use Rattle.scalar_ops.specs.Division.{floor_mod, IsRest}
 use Rattle.scalar_ops.specs.Meaning.{Exact, Whole, Truth, exact_value, fits_i64, overflow, cell_of, exact_cell, row_at, op_at, overflows_at, meaning, Divides, MayOverflow, SaysSo}
-use Rattle.scalar_ops.specs.FitsI64.{fits_i64-true, fits_i64-fits}
+use Rattle.scalar_ops.proofs.FitsI64.{fits_i64-true, fits_i64-fits}
 use Rattle.scalar_ops.specs.Table.{one, two, stated_rows}
-use Rattle.scalar_ops.specs.RowLaws.{and_parts, list_all-get}
+use Rattle.scalar_ops.proofs.RowLaws.{and_parts, list_all-get}
 use Rattle.scalar_ops.proofs.Rounding.{floor_mod-IsRest}
 
 -- ---- operations that don't overflow

@@ -6,19 +6,9 @@ use Rattle.script_text.specs.declared.answer.Answer.TheVariants.{Held, Refused}
 use Rattle.script_text.specs.declared.answer.Refusal.{Refusal}
 use Rattle.script_text.specs.declared.answer.Refusal.TheVariants.{Unknown, Exists, Row}
 
-one_is_short : (line : List ℕ) → IsShort line → All IsShort (line ∷ [])
-one_is_short line short zero d h = short
-one_is_short line short (suc k) d h = absurd (omega (arith, h))
-
 -- some words and one more
-IsShort-from_parts : (words text : List ℕ) → length words ≤ 20 → length text ≤ 64 → IsShort (words ++ text)
+pub IsShort-from_parts : (words text : List ℕ) → length words ≤ 20 → length text ≤ 64 → IsShort (words ++ text)
 IsShort-from_parts words text few short = omega (arith, length-append (words ++ text) (10 ∷ []), length-append words text)
-
-pub held_is_short : (quiet : Bool) (answer : Answer) (rows : ℕ) → answer ≡ Held rows → length (decimal rows) ≤ 20 → All IsShort (answer_lines quiet answer)
-held_is_short quiet answer rows is short = subst (λ a. All IsShort (answer_lines quiet a)) (sym is) (one_is_short _ (IsShort-from_parts (codes "ok ") (decimal rows) (omega arith) (omega (arith, short))))
-
-pub refused_is_short : (quiet : Bool) (answer : Answer) (refusal : Refusal) → answer ≡ Refused refusal → IsShort (refusal_line refusal) → All IsShort (answer_lines quiet answer)
-refused_is_short quiet answer refusal is short = subst (λ a. All IsShort (answer_lines quiet a)) (sym is) (one_is_short _ short)
 
 pub unknown_is_short : (refusal : Refusal) (name : List ℕ) → refusal ≡ Unknown name → length name ≤ 64 → IsShort (refusal_line refusal)
 unknown_is_short refusal name is short = subst (λ r. IsShort (refusal_line r)) (sym is) (IsShort-from_parts (codes "refused unknown ") name (omega arith) short)

@@ -1,16 +1,15 @@
 -- A block as its row lines come.
-use Rattle.std.proofs.Common.{◌≡◌, ℕ, ◌+◌, ◌<◌, ◌≤◌, Bool, true, false, cond, ◌&&◌, ◌||◌, nat_eq, is_some, subst, List, [], ◌∷◌, ◌++◌, length, codes, Option, Some, None, refl, sym, ap, ◌∙◌, append-nil, arith}
+use Rattle.std.proofs.Common.{◌≡◌, ℕ, ◌+◌, ◌<◌, ◌≤◌, Bool, true, false, cond, ◌&&◌, ◌||◌, nat_eq, is_some, subst, List, [], ◌∷◌, ◌++◌, length, codes, Option, Some, None, refl, sym, ap, ◌∙◌, append-nil, inl, inr, arith}
 use Rattle.std.specs.List.{list_all}
 use Rattle.std.proofs.lemmas.Bool.Decides.{nat_tests}
 use Rattle.std.proofs.lemmas.List.Sums.{sum_by-append}
 use Rattle.script_text.specs.Line.{Holds}
 use Rattle.script_text.specs.Words.{is_space, trimmed, is_empty_or_remark, is_skipped, behind_word, begins_block}
-use Rattle.script_text.specs.StreamLine.{line_command}
+use Rattle.script_text.specs.Dispatch.{Spelled, IsReadOf, line_command}
 use Rattle.script_text.specs.Script.{Block, longest_line, block_len, fits_line, fit_lines, block_limit, spelled_item, command_item, line_item, line_block, Given}
 use Rattle.script_text.specs.Reader.{with_rows, StandsFor, GivenIfAny, AfterLine}
 use Rattle.script_text.specs.declared.answer.LimitKind.{LimitKind}
 use Rattle.script_text.specs.declared.answer.LimitKind.TheVariants as limit
-use Rattle.script_text.specs.declared.item.Command.{Command}
 use Rattle.script_text.specs.declared.item.Item.{Item}
 use Rattle.script_text.specs.declared.place.Place.{Place}
 use Rattle.script_text.specs.declared.place.Place.TheVariants as place
@@ -74,10 +73,17 @@ AfterLine-command line given read begins is_given =
     }
 
 -- what a line spells that fits
-pub command_item-fits : (line : List ℕ) (command : Option Command) → length line ≤ longest_line → line_command line ≡ command → command_item line ≡ spelled_item None command
-command_item-fits line command short is =
+command_item-fits : (line : List ℕ) (spelled : Spelled) → length line ≤ longest_line → line_command line ≡ spelled → command_item line ≡ spelled_item None spelled
+command_item-fits line spelled short is =
     let fits : fits_line line ≡ true = grind (arith, nat_tests) in
     ap (λ b. spelled_item (cond b None (Some limit.Line)) (line_command line)) fits ∙ ap (spelled_item None) is
+
+-- what is given for a line that passes no limit
+pub Given-read : (line : List ℕ) (spelled read : Spelled) → length line ≤ longest_line → line_command line ≡ spelled → IsReadOf spelled read → Given (command_item line) (spelled_item None read)
+Given-read line spelled read short is reads = elim reads [
+  | inl e ↦ inl (ap (spelled_item None) e ∙ sym (command_item-fits line spelled short is))
+  | inr e ↦ inr (ap (spelled_item None) e)
+]
 
 -- a word at the front of a line of which the front is kept
 behind_word-front : (word text rest : List ℕ) → length word < length text → is_some (behind_word word (text ++ rest)) ≡ is_some (behind_word word text)

@@ -1,5 +1,5 @@
 -- A line spells a stream or a head exactly where one is read from it.
-use Rattle.std.proofs.Common.{◌≡◌, ℕ, ◌<◌, Bool, true, false, cond, ◌&&◌, nat_eq, List, [], ◌∷◌, ◌++◌, length, codes, Option, Some, None, option_and_then, bytes_eq, refl, sym, ap, ◌∙◌, subst, length-append, arith}
+use Rattle.std.proofs.Common.{◌≡◌, ℕ, ◌<◌, Bool, true, false, cond, ◌&&◌, nat_eq, List, [], ◌∷◌, ◌++◌, length, codes, Option, Some, None, Ok, option_and_then, bytes_eq, refl, sym, ap, ◌∙◌, subst, length-append, arith}
 use Rattle.std.specs.List.{slice_split, list_all, join_with_byte}
 use Rattle.std.proofs.lemmas.Bool.Decides.{nat_tests}
 use Rattle.std.proofs.lemmas.Slice.Eq.{bytes_eq-Decides}
@@ -10,8 +10,10 @@ use Rattle.rows_core.specs.declared.kind.Kind.{Kind}
 use Rattle.rows_core.specs.declared.kind.Kind.TheVariants.{Int, Text}
 use Rattle.rows_core.specs.declared.schema.Column.{Column}
 use Rattle.script_text.specs.Spelling.{AreSpaces, Padded, SpellsName, SpellsColumn, SpellsColumns, SpellsStream, SpellsAppend}
-use Rattle.script_text.specs.StreamLine.{is_mark, Parts, parts_at, only_kind, column_with, column_of_parts, column_of, columns_with, columns_of_parts, columns_of, columns_before, closed_columns, stream_with, stream_of_parts, stream_of, line_command}
+use Rattle.script_text.specs.StreamLine.{is_mark, Parts, parts_at, only_kind, column_with, column_of_parts, column_of, columns_with, columns_of_parts, columns_of, columns_before, closed_columns, stream_with, stream_of_parts, stream_of}
+use Rattle.script_text.specs.Dispatch.{or_syntax, line_command}
 use Rattle.script_text.specs.Words.{is_blank, trimmed, ends_word, behind_word, only_word, name_if, only_name, head_name}
+use Rattle.script_text.specs.declared.item.Command.{Command}
 use Rattle.script_text.specs.declared.item.Command.TheVariants.{Stream}
 use Rattle.script_text.proofs.StreamLemmas.{columns_of-next, columns_of-last}
 use Rattle.script_text.proofs.Spellings.{same_byte, is_blank-spaces, AreSpaces-blank, trimmed-spaces, trimmed-whole, Lacks, Lacks-append, parts_at-first, parts_at-lacking, parts_at-whole, only_word-padded, Padded-only_word}
@@ -203,14 +205,17 @@ closed_columns-spelled columns listed back spells spaces =
     ∙ ap (λ b. cond b (columns_of listed) None) (is_blank-spaces back spaces)
     ∙ columns_of-spelled columns listed spells
 
-pub line_command-spelled : (name : List ℕ) (columns : List Column) (line : List ℕ) → SpellsStream name columns line → line_command line ≡ Some (Stream name columns)
-line_command-spelled name columns line spells =
+spelled : (name : List ℕ) (columns : List Column) (line : List ℕ) → SpellsStream name columns line → option_and_then stream_of (behind_word (codes "stream") (trimmed line)) ≡ Some (Stream name columns)
+spelled name columns line spells =
     let none = Lacks-padded 40 (refl, refl) name spells.named (name_bytes name spells.spells_name.is_name) spells.spells_name.padded in
     let front = ap trimmed spells.whole ∙ trimmed-spaces spells.front (codes "stream" ++ 32 ∷ (spells.named ++ 40 ∷ (spells.listed ++ 41 ∷ spells.back))) spells.before in
     ap (λ t. option_and_then stream_of (behind_word (codes "stream") t)) front
     ∙ ap (option_and_then stream_of_parts) (parts_at-first 40 (32 ∷ spells.named) (spells.listed ++ 41 ∷ spells.back) (refl, none))
     ∙ ap (λ n. stream_with n (closed_columns (spells.listed ++ 41 ∷ spells.back))) (only_name-space spells.named ∙ only_name-spelled name spells.named spells.spells_name)
     ∙ ap (stream_with (Some name)) (closed_columns-spelled columns spells.listed spells.back spells.spells_columns spells.behind)
+
+pub line_command-spelled : (name : List ℕ) (columns : List Column) (line : List ℕ) → SpellsStream name columns line → line_command line ≡ Ok (Stream name columns)
+line_command-spelled name columns line spells = ap or_syntax (spelled name columns line spells)
 
 -- the columns with what stands behind them
 record SpellsClosed (columns : List Column) (text : List ℕ) : Type 0 where
@@ -301,8 +306,12 @@ module _ (name : List ℕ) (columns : List Column) (line : List ℕ) where
   read_rest rest behind None parted e = absurd (cc)
   read_rest rest behind (Some parts) parted e = read_parts rest behind parts parted (only_name parts.before) (closed_columns parts.behind) refl refl e
 
-  pub SpellsStream-read : line_command line ≡ Some (Stream name columns) → SpellsStream name columns line
-  SpellsStream-read e = by (behind_word (codes "stream") (trimmed line)) refl e
+  read_command : (command : Option Command) → or_syntax command ≡ Ok (Stream name columns) → command ≡ Some (Stream name columns)
+  read_command (Some command) e = cc
+  read_command None e = absurd (cc)
+
+  pub SpellsStream-read : line_command line ≡ Ok (Stream name columns) → SpellsStream name columns line
+  SpellsStream-read e = by (behind_word (codes "stream") (trimmed line)) refl (read_command (option_and_then stream_of (behind_word (codes "stream") (trimmed line))) e)
     where
       by : (o : Option (List ℕ)) → behind_word (codes "stream") (trimmed line) ≡ o → option_and_then stream_of o ≡ Some (Stream name columns) → SpellsStream name columns line
       by None is e = absurd (cc)

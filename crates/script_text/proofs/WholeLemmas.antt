@@ -1,13 +1,15 @@
 -- Each command that a script spells has a column or a row line.
-use Rattle.std.proofs.Common.{◌≡◌, ℕ, ◌<◌, true, false, cond, ◌||◌, List, [], ◌∷◌, ◌++◌, length, Option, Some, None, option_to_list, option_and_then, subst, sym, inl, inr, arith}
+use Rattle.std.proofs.Common.{◌≡◌, ℕ, ◌<◌, true, false, cond, ◌||◌, List, [], ◌∷◌, ◌++◌, length, Option, Some, None, Ok, Err, IfOk, option_to_list, option_and_then, subst, arith}
 use Rattle.std.specs.List.{slice_split, AllByRecursion}
 use Rattle.std.specs.Prelude.{⊤}
 use Rattle.std.proofs.lemmas.List.Splits.{length-slice_split}
 use Rattle.rows_core.specs.declared.schema.Column.{Column}
 use Rattle.script_text.specs.Words.{is_skipped, is_blank, only_name, begins_block, behind_stream, head_name}
-use Rattle.script_text.specs.StreamLine.{is_mark, Parts, parts_at, column_of, columns_with, columns_of_parts, columns_of, columns_before, closed_columns, stream_with, stream_of_parts, stream_of, line_command}
-use Rattle.script_text.specs.Script.{Block, block_limit, line_limit, spelled_item, append_with, command_item, is_end, line_item, line_block, unended_item, no_items, last_items, items_of_lines, is_newline, items_by, items, all_items, Given, Completes, IsWhole, IsWholeItem}
+use Rattle.script_text.specs.StreamLine.{is_mark, Parts, parts_at, column_of, columns_with, columns_of_parts, columns_of, columns_before, closed_columns, stream_with, stream_of_parts, stream_of}
+use Rattle.script_text.specs.Dispatch.{Spelled, or_syntax, line_command}
+use Rattle.script_text.specs.Script.{Block, block_limit, line_limit, spelled_item, append_with, command_item, is_end, line_item, line_block, unended_item, no_items, last_items, items_of_lines, is_newline, items_by, items, all_items, IsWhole, IsWholeItem}
 use Rattle.script_text.specs.declared.answer.LimitKind.{LimitKind}
+use Rattle.script_text.specs.declared.answer.Refusal.TheVariants.{Syntax}
 use Rattle.script_text.specs.declared.item.Command.{Command}
 use Rattle.script_text.specs.declared.item.Item.{Item}
 
@@ -56,10 +58,18 @@ IsWhole-append (Some name) (row ∷ rows) = omega arith
 IsWhole-append (Some name) [] = tt
 IsWhole-append None rows = tt
 
-IsWhole-spelled : (limit : Option LimitKind) (command : Option Command) → IsWholeIfAny command → IsWholeItem (spelled_item limit command)
-IsWhole-spelled (Some kind) command whole = tt
-IsWhole-spelled None (Some command) whole = whole
-IsWhole-spelled None None whole = tt
+IsWhole-or_syntax : (command : Option Command) → IsWholeIfAny command → IfOk (or_syntax command) IsWhole
+IsWhole-or_syntax (Some command) whole = whole
+IsWhole-or_syntax None whole = tt
+
+-- what is read of a stream's line
+pub stream_is_whole : (rest : List ℕ) (command : Command) → option_and_then stream_of (Some rest) ≡ Some command → IsWhole command
+stream_is_whole rest command e = subst IsWholeIfAny e (IsWhole-line (Some rest))
+
+IsWhole-spelled : (limit : Option LimitKind) (spelled : Spelled) → IfOk spelled IsWhole → IsWholeItem (spelled_item limit spelled)
+IsWhole-spelled (Some kind) spelled whole = tt
+IsWhole-spelled None (Ok command) whole = whole
+IsWhole-spelled None (Err why) whole = tt
 
 abbrev AreWhole : List Item → Type 0
 AreWhole items = AllByRecursion IsWholeItem items
@@ -72,17 +82,17 @@ AreWhole-line : (block : Option Block) (line : List ℕ) → AreWhole (option_to
 AreWhole-line None line =
     elim (is_skipped line || begins_block line) as (λ b. AreWhole (option_to_list (cond b None (Some (command_item line))))) [
       | true ↦ tt
-      | false ↦ (IsWhole-spelled (line_limit line) (line_command line) (IsWhole-line (behind_stream line)), tt)
+      | false ↦ (IsWhole-spelled (line_limit line) (line_command line) (IsWhole-or_syntax (option_and_then stream_of (behind_stream line)) (IsWhole-line (behind_stream line))), tt)
     ]
 AreWhole-line (Some block) line =
-    elim (is_end line) as (λ b. AreWhole (option_to_list (cond b (Some (spelled_item (block_limit block) (append_with (head_name block.head) block.rows))) None))) [
-      | true ↦ (IsWhole-spelled (block_limit block) (append_with (head_name block.head) block.rows) (IsWhole-append (head_name block.head) block.rows), tt)
+    elim (is_end line) as (λ b. AreWhole (option_to_list (cond b (Some (spelled_item (block_limit block) (or_syntax (append_with (head_name block.head) block.rows)))) None))) [
+      | true ↦ (IsWhole-spelled (block_limit block) (or_syntax (append_with (head_name block.head) block.rows)) (IsWhole-or_syntax (append_with (head_name block.head) block.rows) (IsWhole-append (head_name block.head) block.rows)), tt)
       | false ↦ tt
     ]
 
 AreWhole-unended : (block : Option Block) → AreWhole (option_to_list (unended_item block))
 AreWhole-unended None = tt
-AreWhole-unended (Some block) = (IsWhole-spelled (block_limit block) None tt, tt)
+AreWhole-unended (Some block) = (IsWhole-spelled (block_limit block) (Err Syntax) tt, tt)
 
 AreWhole-last : (block : Option Block) (line : List ℕ) → AreWhole (last_items block line)
 AreWhole-last block [] = AreWhole-unended block
@@ -100,17 +110,3 @@ items_are_whole bytes = AreWhole-lines no_items (λ block line. tt) None (slice_
 pub all_items_are_whole : (bytes : List ℕ) → AllByRecursion IsWholeItem (all_items bytes)
 unfolding items_by
 all_items_are_whole bytes = AreWhole-lines last_items AreWhole-last None (slice_split is_newline bytes)
-
-given_is_whole : (spelled given : Item) → Given spelled given → IsWholeItem spelled → IsWholeItem given
-given_is_whole spelled given is whole = elim is [
-  | inl e ↦ subst IsWholeItem (sym e) whole
-  | inr e ↦ subst IsWholeItem (sym e) tt
-]
-
-pub completed_is_whole : (text : List ℕ) (given : Item) → Completes text given → IsWholeItem given
-completed_is_whole text given completes =
-    let all = subst AreWhole (completes.goes_on []) (items_are_whole (text ++ [])) in
-    given_is_whole completes.spelled given completes.is_given all.0
-
-pub last_is_whole : (bytes : List ℕ) (spelled given : Item) → all_items bytes ≡ spelled ∷ [] → Given spelled given → IsWholeItem given
-last_is_whole bytes spelled given e is = let all = subst AreWhole e (all_items_are_whole bytes) in given_is_whole spelled given is all.0

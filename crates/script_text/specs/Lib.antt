@@ -1,4 +1,5 @@
 pub mod Answer
+pub mod Dispatch
 pub mod Line
 pub mod Reader
 pub mod Script

@@ -1,8 +1,8 @@
 -- What a script spells: its commands, as functions of whole texts that go line by line.
-use Rattle.std.specs.Prelude.{◌≡◌, ℕ, ◌+◌, ◌<◌, Bool, ◌&&◌, ◌||◌, ◌==◌, nat_le, if◌then◌else◌, List, [], ◌∷◌, ◌++◌, length, sum_by, Option, Some, None, option_to_list, codes, bytes_eq, ◌⊎◌, ⊤}
+use Rattle.std.specs.Prelude.{◌≡◌, ℕ, ◌+◌, ◌<◌, Bool, ◌&&◌, ◌||◌, ◌==◌, nat_le, if◌then◌else◌, List, [], ◌∷◌, ◌++◌, length, sum_by, Option, Some, None, Ok, Err, option_to_list, codes, bytes_eq, ◌⊎◌, ⊤}
 use Rattle.std.specs.List.{slice_split, list_all}
 use Rattle.script_text.specs.Words.{is_skipped, begins_block, head_name}
-use Rattle.script_text.specs.StreamLine.{line_command}
+use Rattle.script_text.specs.Dispatch.{Spelled, or_syntax, line_command}
 use Rattle.script_text.specs.declared.answer.LimitKind.{LimitKind}
 use Rattle.script_text.specs.declared.answer.LimitKind.TheVariants as limit
 use Rattle.script_text.specs.declared.answer.Refusal.TheVariants.{Limit, Syntax, Memory}
@@ -46,10 +46,10 @@ abbrev pub block_limit : Block → Option LimitKind
 block_limit block = if fit_lines block then (if fits_block block then None else Some limit.Block) else Some limit.Line
 
 -- what a text spells: a limit comes before its grammar
-abbrev pub spelled_item : Option LimitKind → Option Command → Item
-spelled_item (Some kind) command = item.Refused (Limit kind)
-spelled_item None (Some command) = item.Command command
-spelled_item None None = item.Refused Syntax
+abbrev pub spelled_item : Option LimitKind → Spelled → Item
+spelled_item (Some kind) spelled = item.Refused (Limit kind)
+spelled_item None (Ok command) = item.Command command
+spelled_item None (Err why) = item.Refused why
 
 -- an append of these row lines to the stream of this name; there is one row line or more
 abbrev pub append_with : Option (List ℕ) → List (List ℕ) → Option Command
@@ -59,7 +59,7 @@ append_with None rows = None
 
 -- what a block spells that is ended
 abbrev pub block_item : Block → Item
-block_item block = spelled_item (block_limit block) (append_with (head_name block.head) block.rows)
+block_item block = spelled_item (block_limit block) (or_syntax (append_with (head_name block.head) block.rows))
 
 -- what a line spells that is neither passed over nor of a block
 abbrev pub command_item : List ℕ → Item
@@ -81,7 +81,7 @@ line_block (Some block) line = if is_end line then None else Some (record { head
 -- what a block spells that the script doesn't end
 abbrev pub unended_item : Option Block → Option Item
 unended_item None = None
-unended_item (Some block) = Some (spelled_item (block_limit block) None)
+unended_item (Some block) = Some (spelled_item (block_limit block) (Err Syntax))
 
 -- the last line, which lacks its LF and is no line where it is empty
 abbrev pub last_items : Option Block → List ℕ → List Item

@@ -5,7 +5,7 @@ use Rattle.std.specs.Option.{option_map}
 use Rattle.rows_core.specs.Kind.{kind_with_word}
 use Rattle.rows_core.specs.declared.kind.Kind.{Kind}
 use Rattle.rows_core.specs.declared.schema.Column.{Column}
-use Rattle.script_text.specs.Words.{is_blank, only_word, only_name, behind_stream}
+use Rattle.script_text.specs.Words.{is_blank, only_word, only_name}
 use Rattle.script_text.specs.declared.item.Command.{Command}
 use Rattle.script_text.specs.declared.item.Command.TheVariants.{Stream}
 
@@ -75,7 +75,3 @@ stream_of_parts parts = stream_with (only_name parts.before) (closed_columns par
 -- the command of which `NAME (COL:KIND, COL:KIND)` stands behind its first word
 abbrev pub stream_of : List ℕ → Option Command
 stream_of text = option_and_then stream_of_parts (parts_at 40 text)
-
--- the command that the line spells
-abbrev pub line_command : List ℕ → Option Command
-line_command line = option_and_then stream_of (behind_stream line)

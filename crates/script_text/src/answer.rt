@@ -1,6 +1,6 @@
 //! What a command is answered, and the text of it.
-ghost use Rattle.std.specs.Prelude.{◌≡◌, ◌∷◌, ◌+◌, ◌<◌, ◌≤◌, ◌++◌, length, vec_len, vec_capacity, OnOk, OnErr, IsOk, slice_index_or, [], All, decimal};
-ghost use Rattle.script_text.specs.Answer.{IsShort, answer_lines, refusal_line, limit_text, printed_line};
+ghost use Rattle.std.specs.Prelude.{◌≡◌, ◌∷◌, ◌+◌, ◌<◌, ◌≤◌, ◌++◌, length, vec_len, vec_capacity, OnOk, OnErr, IsOk, slice_index_or, []};
+ghost use Rattle.script_text.specs.Answer.{answer_lines, refusal_line, limit_text, printed_line};
 
 use itoa::Buffer;
 use rows_core::{Memory, Name};
@@ -53,49 +53,14 @@ pub enum Answer {
     Refused(Refusal),
 }
 
-/// The number of lines of the answer's text, each of at most 65,536 bytes with its LF. With `quiet` row lines don't
-/// count; no answer has one yet.
+/// The number of lines of the answer's text. With `quiet` row lines don't count; no answer has one yet.
 pub fn line_count(answer: &Answer, quiet: bool) -> u64
-    ensures count { result ≡ length (answer_lines quiet answer.now) }
-    ensures short { All IsShort (answer_lines quiet answer.now) }
+    ensures { result ≡ length (answer_lines quiet answer.now) }
 {
     let _ = quiet;
     match answer {
-        Answer::Ok => 1,
-        Answer::Held(rows) => numbered_line(*rows),
-        Answer::Refused(refusal) => refusal_line_count(refusal),
+        Answer::Ok | Answer::Held(_) | Answer::Refused(_) => 1,
     }
-}
-
-// The number of lines of a refusal.
-fn refusal_line_count(refusal: &Refusal) -> u64
-    ensures one { result ≡ 1 }
-    ensures short { IsShort (refusal_line refusal.now) }
-{
-    match refusal {
-        Refusal::Unknown(name) => named_line(name),
-        Refusal::Exists(name) => named_line(name),
-        Refusal::Row(number) => numbered_line(*number),
-        Refusal::Limit(_) | Refusal::Syntax | Refusal::IllTyped | Refusal::Memory => 1,
-    }
-}
-
-// One line, which ends with a name.
-fn named_line(name: &Name) -> u64
-    ensures one { result ≡ 1 }
-    ensures short { length name.now ≤ 64 }
-{
-    let _ = name.bytes();
-    1
-}
-
-// One line, which ends with a number.
-fn numbered_line(number: u64) -> u64
-    ensures one { result ≡ 1 }
-    ensures short { length (decimal number) ≤ 20 }
-{
-    let _ = number;
-    1
 }
 
 /// Appends the line of this number, from 0, with its LF. After want of memory `to` has what it had.

@@ -1,9 +1,11 @@
 //! A block that is being read.
-ghost use Rattle.std.specs.Prelude.{◌≡◌, true, false, ℕ, ◌≢◌, ◌∷◌, [], List, Some, None, codes};
+ghost use Rattle.std.specs.Prelude.{◌≡◌, true, false, ℕ, ◌≢◌, ◌∷◌, [], List, Some, None, Err, codes};
 ghost use Rattle.script_text.specs.Line.{Holds};
-ghost use Rattle.script_text.specs.Script.{Block, block_item, block_limit, spelled_item, append_with, Given};
+ghost use Rattle.script_text.specs.Script.{Block, block_item, block_limit, spelled_item, append_with, Given, IsWholeItem};
 ghost use Rattle.script_text.specs.Words.{behind_word, behind_append, head_name};
 ghost use Rattle.script_text.specs.Reader.{IsOf, IsSizeOf, Keeps, with_rows};
+ghost use Rattle.script_text.specs.Dispatch.{or_syntax};
+ghost use Rattle.script_text.specs.declared.answer.Refusal.TheVariants.{Syntax};
 ghost use Rattle.script_text.specs.declared.item.Item.TheVariants.{Refused};
 
 use crate::answer::{LimitKind, Refusal};
@@ -112,7 +114,8 @@ impl OpenBlock {
 
     /// What the block gives that is ended.
     pub fn ended(self) -> Item
-        ensures { (block : Block) → IsOf self block → Given (block_item block) result }
+        ensures given { (block : Block) → IsOf self block → Given (block_item block) result }
+        ensures whole { IsWholeItem result }
     {
         let OpenBlock { size, kept } = self;
         match size.limit() {
@@ -123,7 +126,8 @@ impl OpenBlock {
 
     /// What the block gives where the script doesn't end it.
     pub fn unended(&self) -> Item
-        ensures { (block : Block) → IsOf self.now block → Given (spelled_item (block_limit block) None) result }
+        ensures given { (block : Block) → IsOf self.now block → Given (spelled_item (block_limit block) (Err Syntax)) result }
+        ensures whole { IsWholeItem result }
     {
         match self.size.limit() {
             Some(kind) => self.kept.refused(Refusal::Limit(kind)),
@@ -135,7 +139,8 @@ impl OpenBlock {
 impl Kept {
     // What a block gives that is refused: this refusal, or that for want of memory.
     fn refused(&self, refusal: Refusal) -> Item
-        ensures { Given (Refused refusal) result }
+        ensures given { Given (Refused refusal) result }
+        ensures whole { IsWholeItem result }
     {
         match self {
             Kept::NoMemory => Item::Refused(Refusal::Memory),
@@ -145,7 +150,8 @@ impl Kept {
 
     // What a block gives that passes no limit.
     fn into_item(self) -> Item
-        ensures { (block : Block) → Keeps self block → block_limit block ≡ None → Given (block_item block) result }
+        ensures given { (block : Block) → Keeps self block → block_limit block ≡ None → Given (block_item block) result }
+        ensures whole { IsWholeItem result }
     {
         match self {
             Kept::Append { name, rows } => append_item(name, rows),
@@ -205,7 +211,8 @@ fn with_copy(alloc: Global, name: Name, mut rows: Vec<Text>, row: &[u8]) -> Kept
 
 // The append of these row lines; there is one or more.
 fn append_item(name: Name, rows: Vec<Text>) -> Item
-    ensures { result ≡ spelled_item None (append_with (Some name) rows.items) }
+    ensures item { result ≡ spelled_item None (or_syntax (append_with (Some name) rows.items)) }
+    ensures whole { IsWholeItem result }
 {
     if rows.is_empty() {
         return Item::Refused(Refusal::Syntax);

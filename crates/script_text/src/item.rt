@@ -1,7 +1,7 @@
 //! What a script consists of.
-ghost use Rattle.std.specs.Prelude.{◌≡◌, ℕ, List, [], ◌∷◌};
+ghost use Rattle.std.specs.Prelude.{ℕ, List};
 ghost use Rattle.std.specs.List.{AllByRecursion};
-ghost use Rattle.script_text.specs.Script.{items, all_items, Given, Completes, IsWholeItem};
+ghost use Rattle.script_text.specs.Script.{items, all_items, IsWholeItem};
 
 use crate::answer::Refusal;
 use rows_core::{Column, Name, Seq, Text};
@@ -24,11 +24,8 @@ pub enum Item {
     Refused(Refusal),
 }
 
-/// Each stream that a script spells has one column or more, and each append one row line or more. So has each command
-/// that the reader gives.
+/// Each stream that a script spells has one column or more, and each append one row line or more.
 pub fn commands_are_whole()
     ensures front { (bytes : List ℕ) → AllByRecursion IsWholeItem (items bytes) }
     ensures all { (bytes : List ℕ) → AllByRecursion IsWholeItem (all_items bytes) }
-    ensures given { (text : List ℕ) (given : Item) → Completes text given → IsWholeItem given }
-    ensures last { (bytes : List ℕ) (spelled given : Item) → all_items bytes ≡ spelled ∷ [] → Given spelled given → IsWholeItem given }
 {}

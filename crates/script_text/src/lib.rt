@@ -3,7 +3,9 @@
 
 pub mod answer;
 mod block;
+mod dispatch;
 pub mod item;
+pub mod laws;
 mod line;
 pub mod lines;
 mod place;
@@ -13,8 +15,6 @@ mod words;
 
 pub use answer::{Answer, LimitKind, Refusal, line_count, print_line};
 pub use item::{Command, Item, commands_are_whole};
+pub use laws::{count_is_short, refusal_is_short};
 pub use lines::Lines;
 pub use spelling::{append_spelling, stream_spelling};
-
-#[cfg(test)]
-mod tests;

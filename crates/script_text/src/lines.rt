@@ -1,6 +1,6 @@
 //! The reader of a script, which takes its bytes in pieces of any length.
 ghost use Rattle.std.specs.Prelude.{◌≡◌, ℕ, ◌+◌, ◌<◌, ◌≤◌, List, [], ◌∷◌, ◌++◌, take, length, IfOk, IfSome, IfNone};
-ghost use Rattle.script_text.specs.Script.{items, all_items, Given, Completes};
+ghost use Rattle.script_text.specs.Script.{items, all_items, Given, Completes, IsWholeItem};
 ghost use Rattle.script_text.specs.Reader.{IsUnbroken, Stands};
 
 use crate::item::Item;
@@ -40,6 +40,7 @@ impl Lines {
         ensures stands { IfNone result.1 ((before : List ℕ) → Stands self.old before → Stands self.new (before ++ bytes.now)) }
         ensures item { IfSome result.1 (λ item. (before : List ℕ) → Stands self.old before
             → Stands self.new [] × Completes (before ++ take result.0 bytes.now) item) }
+        ensures whole { IfSome result.1 IsWholeItem }
         ensures first { IfSome result.1 (λ _. (before : List ℕ) → Stands self.old before
             → (k : ℕ) → k < result.0 → items (before ++ take k bytes.now) ≡ []) }
     {
@@ -60,6 +61,7 @@ impl Lines {
         ensures none { IfNone result ((before : List ℕ) → Stands self before → all_items before ≡ []) }
         ensures item { IfSome result (λ item. (before : List ℕ) → Stands self before
             → (spelled : Item) × Given spelled item × (all_items before ≡ spelled ∷ [])) }
+        ensures whole { IfSome result IsWholeItem }
     {
         let Lines { place, line, alloc } = self;
         if line.len == 0 {
@@ -80,6 +82,7 @@ impl Lines {
             → Stands self.new (before ++ take result.0 bytes.now)) }
         ensures item { IfSome result.1 (λ item. (before : List ℕ) → Stands self.old before
             → Stands self.new [] × Completes (before ++ take result.0 bytes.now) item) }
+        ensures whole { IfSome result.1 IsWholeItem }
         ensures first { (before : List ℕ) → Stands self.old before
             → (k : ℕ) → k < result.0 → items (before ++ take k bytes.now) ≡ [] }
     {
@@ -111,6 +114,7 @@ impl Lines {
             → Stands self.new (before ++ (rest.now ++ 10 ∷ []))) }
         ensures item { IfSome result (λ item. (before : List ℕ) → Stands self.old before
             → Stands self.new [] × Completes (before ++ (rest.now ++ 10 ∷ [])) item) }
+        ensures whole { IfSome result IsWholeItem }
     {
         self.push(rest);
         let place = mem::replace(&mut self.place, Place::Outside);

@@ -1,16 +1,15 @@
 //! Where the reader of a script is, from line to line.
-ghost use Rattle.std.specs.Prelude.{◌≡◌, true, false, ℕ, List, Option, Some, None, is_none};
+ghost use Rattle.std.specs.Prelude.{◌≡◌, true, false, ℕ, List, Option, Some, None, is_none, IfSome};
 ghost use Rattle.script_text.specs.Line.{Holds};
-ghost use Rattle.script_text.specs.Script.{Block, is_end, unended_item, command_item, Given};
+ghost use Rattle.script_text.specs.Script.{Block, is_end, unended_item, command_item, Given, IsWholeItem};
 ghost use Rattle.script_text.specs.Reader.{is_outside, StandsFor, GivenIfAny, AfterLine};
 
 use crate::answer::{LimitKind, Refusal};
 use crate::block::OpenBlock;
+use crate::dispatch::line_command;
 use crate::item::Item;
 use crate::line::Line;
-use crate::stream_line::line_command;
 use crate::words::{behind_append, is_empty_or_remark};
-use rows_core::Memory;
 use std::alloc::Global;
 
 /// Where the reader is after a line.
@@ -31,8 +30,9 @@ impl Place {
 
     /// The place after this line, and the item that the line ends.
     pub fn after_line(self, alloc: Global, line: &Line) -> (Place, Option<Item>)
-        ensures { (block : Option Block) (bytes : List ℕ) → StandsFor self block
+        ensures after { (block : Option Block) (bytes : List ℕ) → StandsFor self block
             → Holds (is_none block) line.now.text.items line.now.len bytes → AfterLine block bytes result.0 result.1 }
+        ensures whole { IfSome result.1 IsWholeItem }
     {
         match self {
             Place::Outside => after_outside(alloc, line),
@@ -43,7 +43,8 @@ impl Place {
 
     /// What a block gives that the script doesn't end.
     pub fn unended(&self) -> Option<Item>
-        ensures { (block : Option Block) → StandsFor self.now block → GivenIfAny (unended_item block) result }
+        ensures given { (block : Option Block) → StandsFor self.now block → GivenIfAny (unended_item block) result }
+        ensures whole { IfSome result IsWholeItem }
     {
         match self {
             Place::Outside => None,
@@ -54,7 +55,8 @@ impl Place {
 
 // The place after a line outside of a block, and the item that the line ends.
 fn after_outside(alloc: Global, line: &Line) -> (Place, Option<Item>)
-    ensures { (bytes : List ℕ) → Holds true line.now.text.items line.now.len bytes → AfterLine None bytes result.0 result.1 }
+    ensures after { (bytes : List ℕ) → Holds true line.now.text.items line.now.len bytes → AfterLine None bytes result.0 result.1 }
+    ensures whole { IfSome result.1 IsWholeItem }
 {
     if is_empty_or_remark(&line.text) {
         return (Place::Outside, None);
@@ -67,15 +69,15 @@ fn after_outside(alloc: Global, line: &Line) -> (Place, Option<Item>)
 
 // What a line gives that is neither passed over nor of a block.
 fn command_item(alloc: Global, line: &Line) -> Item
-    ensures { (bytes : List ℕ) → Holds true line.now.text.items line.now.len bytes → Given (command_item bytes) result }
+    ensures given { (bytes : List ℕ) → Holds true line.now.text.items line.now.len bytes → Given (command_item bytes) result }
+    ensures whole { IsWholeItem result }
 {
     if line.is_too_long() {
         return Item::Refused(Refusal::Limit(LimitKind::Line));
     }
     match line_command(alloc, &line.text) {
-        Ok(Some(command)) => Item::Command(command),
-        Ok(None) => Item::Refused(Refusal::Syntax),
-        Err(Memory) => Item::Refused(Refusal::Memory),
+        Ok(command) => Item::Command(command),
+        Err(refusal) => Item::Refused(refusal),
     }
 }
 

@@ -1,8 +1,8 @@
 //! What is read from a command's line is exactly what the line spells.
-ghost use Rattle.std.specs.Prelude.{◌≡◌, ◌↔◌, ℕ, List, Some};
+ghost use Rattle.std.specs.Prelude.{◌≡◌, ◌↔◌, ℕ, List, Some, Ok};
 ghost use Rattle.rows_core.specs.declared.schema.Column.{Column};
 ghost use Rattle.script_text.specs.Words.{head_name};
-ghost use Rattle.script_text.specs.StreamLine.{line_command};
+ghost use Rattle.script_text.specs.Dispatch.{line_command};
 ghost use Rattle.script_text.specs.Spelling.{SpellsStream, SpellsAppend};
 ghost use Rattle.script_text.specs.declared.item.Command.TheVariants.{Stream};
 
@@ -10,7 +10,7 @@ ghost use Rattle.script_text.specs.declared.item.Command.TheVariants.{Stream};
 /// spaces before, between and behind its parts.
 pub fn stream_spelling()
     ensures { (name : List ℕ) (columns : List Column) (line : List ℕ) →
-        ((line_command line ≡ Some (Stream name columns)) ↔ SpellsStream name columns line) }
+        ((line_command line ≡ Ok (Stream name columns)) ↔ SpellsStream name columns line) }
 {}
 
 /// A block's name is read from its head line exactly where the line spells `append NAME`, with any number of spaces

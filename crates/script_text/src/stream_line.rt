@@ -1,25 +1,14 @@
 //! The line `stream NAME (COL:KIND, COL:KIND)`.
-ghost use Rattle.std.specs.Prelude.{◌≡◌, ◌<◌, length, IfOk, IfSome, IfNone, Some, None, position, codes, option_and_then};
+ghost use Rattle.std.specs.Prelude.{◌≡◌, ◌<◌, length, IfOk, IfSome, IfNone, Some, None, position};
 ghost use Rattle.script_text.specs.StreamLine.{is_mark, Parts, parts_at, only_kind, column_of, columns_of, closed_columns, stream_of};
-ghost use Rattle.script_text.specs.Words.{behind_word};
 
 use crate::item::Command;
-use crate::words::{behind_stream, is_blank, only_name, only_word};
+use crate::words::{is_blank, only_name, only_word};
 use rows_core::{Column, Kind, Memory, Seq};
 use std::alloc::Global;
 
-/// The command that a line spells which has no spaces at its front.
-pub fn line_command(alloc: Global, text: &[u8]) -> Result<Option<Command>, Memory>
-    ensures { IfOk result (λ command. command ≡ option_and_then stream_of (behind_word (codes "stream") text.now)) }
-{
-    match behind_stream(text) {
-        Some(rest) => stream_of(alloc, rest),
-        None => Ok(None),
-    }
-}
-
-// The command of which this stands behind its first word.
-fn stream_of(alloc: Global, text: &[u8]) -> Result<Option<Command>, Memory>
+/// The command of which this stands behind its first word.
+pub fn stream_of(alloc: Global, text: &[u8]) -> Result<Option<Command>, Memory>
     ensures { IfOk result (λ command. command ≡ stream_of text.now) }
 {
     let Some((before, behind)) = split_at_mark(b'(', text) else {

@@ -19,8 +19,8 @@ use Rattle.script_text.specs.declared.answer.LimitKind.TheVariants as limit
 use Rattle.script_text.specs.declared.answer.Refusal.TheVariants.{Limit, Unknown, Exists, IllTyped, Row}
 use Rattle.script_text.specs.declared.item.Command.TheVariants as command
 use Rattle.session.specs.Rows.{Spell, SpellsNone, Rows, BadLine, have_long}
-use Rattle.session.specs.Machine.{State, outcome, refused, Step, new_stream, grown, with_rows, row_count, extent_count, appended}
-use Rattle.session.specs.declared.stream.Stream.{Stream}
+use Rattle.session.specs.State.{Stream, State, state_of, empty_state}
+use Rattle.session.specs.Machine.{outcome, refused, Step, new_stream, grown, with_rows, with_streams, row_count, extent_count, appended}
 use Rattle.session.proofs.OutcomeLemmas.{appended_rows}
 use Rattle.session.proofs.RefusalLemmas.{above_limit}
 
@@ -37,13 +37,13 @@ many (suc n) = record { name = replicate (suc n) 97; kind = kind.Int } ∷ many 
 
 -- the state after `stream s (a:int, t:text)`
 abbrev s : State
-s = new_stream (codes "s") columns ∷ []
+s = state_of (new_stream (codes "s") columns ∷ [])
 
-stream_is_made : Step [] (command.Stream (codes "s") columns) Ok s
+stream_is_made : Step empty_state (command.Stream (codes "s") columns) Ok s
 stream_is_made = inl refl
 
 -- it is the last one
-second_stream_is_made : Step s (command.Stream (codes "u") columns) Ok (new_stream (codes "s") columns ∷ new_stream (codes "u") columns ∷ [])
+second_stream_is_made : Step s (command.Stream (codes "u") columns) Ok (state_of (new_stream (codes "s") columns ∷ new_stream (codes "u") columns ∷ []))
 second_stream_is_made = inl refl
 
 -- also where columns share a name
@@ -57,7 +57,7 @@ columns_are_too_many : Step s (command.Stream (codes "u") (many 33)) (Refused (L
 unfolding many
 columns_are_too_many = inl refl
 
-columns_are_as_many_as_may_be : Step [] (command.Stream (codes "u") (many 32)) Ok (new_stream (codes "u") (many 32) ∷ [])
+columns_are_as_many_as_may_be : Step empty_state (command.Stream (codes "u") (many 32)) Ok (state_of (new_stream (codes "u") (many 32) ∷ []))
 unfolding many
 columns_are_as_many_as_may_be = inl refl
 
@@ -68,7 +68,7 @@ abbrev row : List Value
 row = Int (negsuc 4) ∷ Text (codes "q\"z") ∷ []
 
 -- `-5,"q\"z"`
-row_is_appended : Step s (command.Append (codes "s") (codes "-5,\"q\\\"z\"" ∷ [])) (Held 1) (grown (new_stream (codes "s") columns) (row ∷ []) ∷ [])
+row_is_appended : Step s (command.Append (codes "s") (codes "-5,\"q\\\"z\"" ∷ [])) (Held 1) (state_of (grown (new_stream (codes "s") columns) (row ∷ []) ∷ []))
 unfolding digits
 row_is_appended = inl (
   Rows (row ∷ []),
@@ -142,5 +142,5 @@ module _ (state : State) (stream : Stream) (rows : List (List Value)) (short : h
   extents_are_full : length stream.extents ≡ 65535 → appended state stream.name stream (Rows rows) ≡ refused state (Limit limit.Extents)
   extents_are_full full = sym (above_limit state stream.name stream rows limit.Extents (not_from_false _ short, omega (arith, full)))
 
-  one_extent_is_left : length stream.extents ≡ 65534 → extent_count state < 262144 → appended state stream.name stream (Rows rows) ≡ outcome (Held (row_count (grown stream rows))) (with_rows state stream.name rows)
+  one_extent_is_left : length stream.extents ≡ 65534 → extent_count state.streams < 262144 → appended state stream.name stream (Rows rows) ≡ outcome (Held (row_count (grown stream rows))) (with_streams state (with_rows state.streams stream.name rows))
   one_extent_is_left left room = appended_rows state stream.name stream rows (not_from_false _ short) (omega (arith, left)) room

@@ -9,8 +9,9 @@ use Rattle.rows_core.specs.declared.value.Value.{Value}
 use Rattle.rows_core.specs.Schema.{kinds_of, has_repeat}
 use Rattle.row_text.specs.RowSpelling.{row_spelling, IsLooseRow}
 use Rattle.row_text.proofs.Lines.{row_spelling-injective}
+use Rattle.session.specs.State.{Stream, State}
 use Rattle.session.specs.Rows.{Spell, SpellsNone, IsFirstBad, Reading, Rows, BadLine, Reads, have_long}
-use Rattle.session.specs.Machine.{State, Outcome, outcome, refused, AppendsTo, Performs, Step, stream_of, extent_count, row_count, grown, with_rows, new_stream, made, appended}
+use Rattle.session.specs.Machine.{HasNoChoice, Outcome, outcome, refused, AppendsTo, Performs, Step, stream_of, extent_count, row_count, grown, with_rows, with_streams, new_stream, made, appended}
 use Rattle.session.specs.Refusals.{IsMakingRefused, IsAppendRefused, IsAboveLimit, IsRefusedFor}
 use Rattle.script_text.specs.declared.answer.Answer.{Answer}
 use Rattle.script_text.specs.declared.answer.Answer.TheVariants.{Ok, Held, Refused}
@@ -20,7 +21,6 @@ use Rattle.script_text.specs.declared.answer.LimitKind.{LimitKind}
 use Rattle.script_text.specs.declared.answer.LimitKind.TheVariants as limit
 use Rattle.script_text.specs.declared.answer.Refusal.{Refusal}
 use Rattle.script_text.specs.declared.answer.Refusal.TheVariants as refusal
-use Rattle.session.specs.declared.stream.Stream.{Stream}
 
 module _ (kinds : List Kind) where
   -- lines spell no two lists of rows
@@ -71,11 +71,11 @@ module _ (kinds : List Kind) where
 -- the machine gives one outcome
 one_append : (state : State) (stream : Option Stream) (name : List ℕ) (lines : List (List ℕ)) (a b : Outcome) → AppendsTo state stream name lines a → AppendsTo state stream name lines b → a ≡ b
 one_append state None name lines a b p q = p ∙ sym q
-one_append state (Some stream) name lines a b p q = p.2 ∙ ap (appended state name stream) (one_reading (kinds_of stream.schema) lines p.0 q.0 p.1 q.1) ∙ sym q.2
+one_append state (Some stream) name lines a b p q = p.2 ∙ ap (appended state name stream) (one_reading (kinds_of stream.columns) lines p.0 q.0 p.1 q.1) ∙ sym q.2
 
-pub same_outcome : (state : State) (asked : Command) (a b : Outcome) → Performs state asked a → Performs state asked b → a ≡ b
-same_outcome state (command.Stream name columns) a b p q = p ∙ sym q
-same_outcome state (command.Append name lines) a b p q = one_append state (stream_of state name) name lines a b p q
+pub same_outcome : (state : State) (asked : Command) (a b : Outcome) → HasNoChoice asked → Performs state asked a → Performs state asked b → a ≡ b
+same_outcome state (command.Stream name columns) a b none p q = p ∙ sym q
+same_outcome state (command.Append name lines) a b none p q = one_append state (stream_of state.streams name) name lines a b p q
 
 none_there : (stream : Option Stream) → is_some stream ≡ false → stream ≡ None
 none_there None e = refl
@@ -83,7 +83,7 @@ none_there (Some stream) e = absurd (cc)
 
 -- what is refused for a cause
 module _ (state : State) (name : List ℕ) where
-  free : stream_of state name ≡ None → is_some (stream_of state name) ≡ false
+  free : stream_of state.streams name ≡ None → is_some (stream_of state.streams name) ≡ false
   free none = ap is_some none
 
   making_refused : (columns : List Column) (why : Refusal) → IsMakingRefused state name columns why → refused state why ≡ made state name columns
@@ -92,7 +92,7 @@ module _ (state : State) (name : List ℕ) where
   making_refused columns (refusal.Limit limit.Columns) h = let many : nat_lt 32 (length columns) ≡ true = let above = h.2 in grind (arith, nat_tests) in rw (free h.0, not-true _ h.1, many)
   making_refused columns (refusal.Limit limit.Streams) h =
       let few : nat_lt 32 (length columns) ≡ false = let below = h.2 in grind (arith, nat_tests) in
-      let full : nat_le 1024 (length state) ≡ true = let at = h.3 in grind (arith, nat_tests) in
+      let full : nat_le 1024 (length state.streams) ≡ true = let at = h.3 in grind (arith, nat_tests) in
       rw (free h.0, not-true _ h.1, few, full)
   making_refused columns _ h = absurd h
 
@@ -103,12 +103,12 @@ module _ (state : State) (name : List ℕ) where
       rw (not-true _ h.0, full)
   above_limit stream rows limit.AllExtents h =
       let room : nat_le 65535 (length stream.extents) ≡ false = let below = h.1 in grind (arith, nat_tests) in
-      let full : nat_le 262144 (extent_count state) ≡ true = let at = h.2 in grind (arith, nat_tests) in
+      let full : nat_le 262144 (extent_count state.streams) ≡ true = let at = h.2 in grind (arith, nat_tests) in
       rw (not-true _ h.0, room, full)
   above_limit stream rows _ h = absurd h
 
   module _ (lines : List (List ℕ)) where
-    append_refused : (why : Refusal) → IsAppendRefused state name lines why → AppendsTo state (stream_of state name) name lines (refused state why)
+    append_refused : (why : Refusal) → IsAppendRefused state name lines why → AppendsTo state (stream_of state.streams name) name lines (refused state why)
     append_refused (refusal.Unknown other) h = rw (h.0, h.1)
     append_refused (refusal.Row number) h = subst (λ o. AppendsTo state o name lines (refused state (refusal.Row number))) (sym h.1) (BadLine number, h.2, refl)
     append_refused (refusal.Limit kind) h = subst (λ o. AppendsTo state o name lines (refused state (refusal.Limit kind))) (sym h.1) (Rows h.2, h.3, above_limit h.0 h.2 kind h.4)
@@ -118,10 +118,14 @@ performs_refused : (state : State) (asked : Command) (why : Refusal) → IsRefus
 performs_refused state (command.Stream name columns) why h = making_refused state name columns why h
 performs_refused state (command.Append name lines) why h = append_refused state name lines why h
 
+no_choice : (asked : Command) → HasNoChoice asked
+no_choice (command.Stream name columns) = tt
+no_choice (command.Append name lines) = tt
+
 -- where the condition of a refusal holds, it comes, or want of memory
 pub refused_exactly : (old new : State) (asked : Command) (answer : Answer) → Step old asked answer new → (why : Refusal) → IsRefusedFor old asked why → (answer ≡ Refused why) ⊎ (answer ≡ Refused refusal.Memory)
 refused_exactly old new asked answer step why h = elim step [
-  | inl done ↦ inl (ap (λ o. o.answer) (same_outcome old asked (outcome answer new) (refused old why) done (performs_refused old asked why h)))
+  | inl done ↦ inl (ap (λ o. o.answer) (same_outcome old asked (outcome answer new) (refused old why) (no_choice asked) done (performs_refused old asked why h)))
   | inr none ↦ inr (ap (λ o. o.answer) none)
 ]
 
@@ -137,18 +141,18 @@ module _ (state new : State) (why : Refusal) where
   limit_is kind e = let answers : Refused why ≡ Refused (refusal.Limit kind) = ap (λ o. o.answer) e in cc
 
   module _ (name : List ℕ) (columns : List Column) where
-    making_cause : (taken repeat many full : Bool) → is_some (stream_of state name) ≡ taken → has_repeat columns ≡ repeat → nat_lt 32 (length columns) ≡ many → nat_le 1024 (length state) ≡ full
-        → outcome (Refused why) new ≡ cond taken (refused state (refusal.Exists name)) (cond repeat (refused state refusal.IllTyped) (cond many (refused state (refusal.Limit limit.Columns)) (cond full (refused state (refusal.Limit limit.Streams)) (outcome Ok (state ++ new_stream name columns ∷ [])))))
+    making_cause : (taken repeat many full : Bool) → is_some (stream_of state.streams name) ≡ taken → has_repeat columns ≡ repeat → nat_lt 32 (length columns) ≡ many → nat_le 1024 (length state.streams) ≡ full
+        → outcome (Refused why) new ≡ cond taken (refused state (refusal.Exists name)) (cond repeat (refused state refusal.IllTyped) (cond many (refused state (refusal.Limit limit.Columns)) (cond full (refused state (refusal.Limit limit.Streams)) (outcome Ok (with_streams state (state.streams ++ new_stream name columns ∷ []))))))
         → IsMakingRefused state name columns why × (new ≡ state)
     making_cause true repeat many full t r m f e = caused (IsMakingRefused state name columns) (refusal.Exists name) (refl, t) e
-    making_cause false true many full t r m f e = caused (IsMakingRefused state name columns) refusal.IllTyped (none_there (stream_of state name) t, r) e
-    making_cause false false true full t r m f e = caused (IsMakingRefused state name columns) (refusal.Limit limit.Columns) (none_there (stream_of state name) t, ap not r, grind (arith, nat_tests)) e
-    making_cause false false false true t r m f e = caused (IsMakingRefused state name columns) (refusal.Limit limit.Streams) (none_there (stream_of state name) t, ap not r, grind (arith, nat_tests), grind (arith, nat_tests)) e
+    making_cause false true many full t r m f e = caused (IsMakingRefused state name columns) refusal.IllTyped (none_there (stream_of state.streams name) t, r) e
+    making_cause false false true full t r m f e = caused (IsMakingRefused state name columns) (refusal.Limit limit.Columns) (none_there (stream_of state.streams name) t, ap not r, grind (arith, nat_tests)) e
+    making_cause false false false true t r m f e = caused (IsMakingRefused state name columns) (refusal.Limit limit.Streams) (none_there (stream_of state.streams name) t, ap not r, grind (arith, nat_tests), grind (arith, nat_tests)) e
     making_cause false false false false t r m f e = let answers : Refused why ≡ Ok = ap (λ o. o.answer) e in absurd (cc)
 
   module _ (name : List ℕ) (stream : Stream) (rows : List (List Value)) where
-    rows_cause : (long full all_full : Bool) → have_long rows ≡ long → nat_le 65535 (length stream.extents) ≡ full → nat_le 262144 (extent_count state) ≡ all_full
-        → outcome (Refused why) new ≡ cond long (refused state (refusal.Limit limit.Text)) (cond full (refused state (refusal.Limit limit.Extents)) (cond all_full (refused state (refusal.Limit limit.AllExtents)) (outcome (Held (row_count (grown stream rows))) (with_rows state name rows))))
+    rows_cause : (long full all_full : Bool) → have_long rows ≡ long → nat_le 65535 (length stream.extents) ≡ full → nat_le 262144 (extent_count state.streams) ≡ all_full
+        → outcome (Refused why) new ≡ cond long (refused state (refusal.Limit limit.Text)) (cond full (refused state (refusal.Limit limit.Extents)) (cond all_full (refused state (refusal.Limit limit.AllExtents)) (outcome (Held (row_count (grown stream rows))) (with_streams state (with_rows state.streams name rows)))))
         → (kind : LimitKind) × (why ≡ refusal.Limit kind) × IsAboveLimit state stream rows kind × (new ≡ state)
     rows_cause true full all_full l f a e = (limit.Text, limit_is limit.Text e, l, ap (λ o. o.state) e)
     rows_cause false true all_full l f a e = (limit.Extents, limit_is limit.Extents e, (ap not l, grind (arith, nat_tests)), ap (λ o. o.state) e)
@@ -156,20 +160,20 @@ module _ (state new : State) (why : Refusal) where
     rows_cause false false false l f a e = let answers : Refused why ≡ Held _ = ap (λ o. o.answer) e in absurd (cc)
 
   module _ (name : List ℕ) (lines : List (List ℕ)) where
-    append_cause : (there : Option Stream) → stream_of state name ≡ there → AppendsTo state there name lines (outcome (Refused why) new) → IsAppendRefused state name lines why × (new ≡ state)
+    append_cause : (there : Option Stream) → stream_of state.streams name ≡ there → AppendsTo state there name lines (outcome (Refused why) new) → IsAppendRefused state name lines why × (new ≡ state)
     append_cause None is e = caused (IsAppendRefused state name lines) (refusal.Unknown name) (refl, is) e
     append_cause (Some stream) is e = by e.0 e.1 e.2
       where
-        by : (reading : Reading) → Reads (kinds_of stream.schema) lines reading → outcome (Refused why) new ≡ appended state name stream reading → IsAppendRefused state name lines why × (new ≡ state)
+        by : (reading : Reading) → Reads (kinds_of stream.columns) lines reading → outcome (Refused why) new ≡ appended state name stream reading → IsAppendRefused state name lines why × (new ≡ state)
         by (BadLine number) bad e = caused (IsAppendRefused state name lines) (refusal.Row number) (stream, is, bad) e
         by (Rows rows) spell e =
-            let cause = rows_cause name stream rows (have_long rows) (nat_le 65535 (length stream.extents)) (nat_le 262144 (extent_count state)) refl refl refl e in
+            let cause = rows_cause name stream rows (have_long rows) (nat_le 65535 (length stream.extents)) (nat_le 262144 (extent_count state.streams)) refl refl refl e in
             (subst (IsAppendRefused state name lines) (sym cause.1) (stream, is, rows, spell, cause.2), cause.3)
 
   performed_cause : (asked : Command) → Performs state asked (outcome (Refused why) new) → IsRefusedFor state asked why × (new ≡ state)
   performed_cause (command.Stream name columns) e =
-      making_cause name columns (is_some (stream_of state name)) (has_repeat columns) (nat_lt 32 (length columns)) (nat_le 1024 (length state)) refl refl refl refl e
-  performed_cause (command.Append name lines) e = append_cause name lines (stream_of state name) refl e
+      making_cause name columns (is_some (stream_of state.streams name)) (has_repeat columns) (nat_lt 32 (length columns)) (nat_le 1024 (length state.streams)) refl refl refl refl e
+  performed_cause (command.Append name lines) e = append_cause name lines (stream_of state.streams name) refl e
 
 -- a refusal comes where its condition holds, or it is want of memory, and it changes nothing
 refused_for : (old new : State) (asked : Command) (why : Refusal) → Step old asked (Refused why) new → (IsRefusedFor old asked why ⊎ (why ≡ refusal.Memory)) × (new ≡ old)

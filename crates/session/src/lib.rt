@@ -4,11 +4,7 @@
 pub mod laws;
 mod reading;
 pub mod session;
-pub mod stream;
+mod stream;
 
 pub use laws::one_outcome;
 pub use session::Session;
-pub use stream::Stream;
-
-#[cfg(test)]
-mod tests;

@@ -1,16 +1,17 @@
 //! The session: what the commands of a script make and fill, and what they are answered.
-ghost use Rattle.std.specs.Prelude.{◌≡◌, ◌⊎◌, ℕ, ◌<◌, ◌-◌, ◌^◌, min, not, IsTrue, List, [], length, slice_index_or, IfSome};
+ghost use Rattle.std.specs.Prelude.{◌≡◌, ◌⊎◌, ℕ, ◌<◌, ◌-◌, ◌^◌, min, not, false, IsTrue, List, All, length, slice_index_or, IfSome};
+ghost use Rattle.script_text.specs.Answer.{IsShort, answer_lines};
 ghost use Rattle.script_text.specs.Script.{IsWhole};
 ghost use Rattle.script_text.specs.declared.answer.Refusal.{Refusal};
 ghost use Rattle.session.specs.Rows.{Rows, have_long};
 ghost use Rattle.session.specs.Machine.{IsGiven, Step, place_of, extent_count, added, appended};
+ghost use Rattle.session.specs.State.{Stream, state_of, empty_state, StandsFor};
 ghost use Rattle.session.specs.Refusals.{IsRefusedFor};
-ghost use Rattle.session.specs.declared.stream.Stream.{Stream};
 
 use crate::reading::read_rows;
-use crate::stream::Stream;
+use crate::stream::StreamRows;
 use rows_core::{Column, Memory, Name, Row, Schema, SchemaRefusal, Seq, Text};
-use script_text::{Answer, Command, LimitKind, Refusal};
+use script_text::{Answer, Command, LimitKind, Refusal, count_is_short, refusal_is_short};
 use std::alloc::Global;
 use std::marker::Model;
 
@@ -23,27 +24,25 @@ const MAX_EXTENTS: usize = 65_535;
 /// The most extents of all streams together.
 const MAX_ALL_EXTENTS: usize = 262_144;
 
-/// What the commands of a script have made and filled. It lives in memory. Contracts see it as the list of its streams,
-/// in the order of making.
+/// What the commands of a script have made and filled. It lives in memory. Contracts see it as the machine's state.
 #[derive(Drop)]
 pub struct Session {
-    streams: Vec<Stream>,
+    streams: Vec<StreamRows>,
     alloc: Global,
 }
 
 impl Model for Session {
-    ghost use Rattle.std.specs.Prelude.{List};
-    ghost use Rattle.session.specs.declared.stream.Stream.{Stream};
+    ghost use Rattle.session.specs.State.{State, state_of};
 
-    ghost Value = { List Stream };
+    ghost Value = { State };
 
-    ghost view = { λ session. session.streams.items };
+    ghost view = { λ session. state_of session.streams.items };
 }
 
 impl Session {
     /// The session without a stream.
     pub fn new(alloc: Global) -> Session
-        ensures { result ≡ [] }
+        ensures { StandsFor result empty_state }
     {
         Session {
             streams: Vec::new(alloc),
@@ -52,28 +51,53 @@ impl Session {
     }
 
     /// Performs a command, and answers it. A refused command changes nothing.
-    pub fn step(&mut self, command: Command) -> Answer
+    pub fn step(self, command: Command) -> (Session, Answer)
         requires { IsWhole command }
-        ensures step { Step self.old command result self.new }
+        ensures step { Step self command result.1 result.0 }
+
+        // Each line of the answer has room in the longest line of an answer.
+        ensures short { All IsShort (answer_lines false result.1) }
 
         // Each refusal but want of memory comes exactly where its condition holds, unless memory is wanted first.
-        ensures cause { (why : Refusal) → result ≡ Answer.Refused why
-            → IsRefusedFor self.old command why ⊎ (why ≡ Refusal.Memory) }
-        ensures exactly { (why : Refusal) → IsRefusedFor self.old command why
-            → (result ≡ Answer.Refused why) ⊎ (result ≡ Answer.Refused Refusal.Memory) }
-        ensures unchanged { (why : Refusal) → result ≡ Answer.Refused why → self.new ≡ self.old }
+        ensures cause { (why : Refusal) → result.1 ≡ Answer.Refused why
+            → IsRefusedFor self command why ⊎ (why ≡ Refusal.Memory) }
+        ensures exactly { (why : Refusal) → IsRefusedFor self command why
+            → (result.1 ≡ Answer.Refused why) ⊎ (result.1 ≡ Answer.Refused Refusal.Memory) }
+        ensures unchanged { (why : Refusal) → result.1 ≡ Answer.Refused why → result.0 ≡ self }
     {
-        match command {
-            Command::Stream { name, columns } => make(&mut self.streams, self.alloc, name, columns),
-            Command::Append { name, lines } => append(&mut self.streams, self.alloc, name, lines),
-        }
+        let Session { mut streams, alloc } = self;
+        let answer = perform(&mut streams, alloc, command);
+        answer_is_short(&answer);
+        (Session { streams, alloc }, answer)
+    }
+}
+
+// Performs a command.
+fn perform(streams: &mut Vec<StreamRows>, alloc: Global, command: Command) -> Answer
+    requires { IsWhole command }
+    ensures { Step (state_of streams.old.items) command result (state_of streams.new.items) }
+{
+    match command {
+        Command::Stream { name, columns } => make(streams, alloc, name, columns),
+        Command::Append { name, lines } => append(streams, alloc, name, lines),
+    }
+}
+
+// How long the lines of an answer are.
+fn answer_is_short(answer: &Answer)
+    ensures { All IsShort (answer_lines false answer.now) }
+{
+    match answer {
+        Answer::Ok => {}
+        Answer::Held(rows) => count_is_short(*rows),
+        Answer::Refused(refusal) => refusal_is_short(refusal),
     }
 }
 
 // Makes a stream.
-fn make(streams: &mut Vec<Stream>, alloc: Global, name: Name, columns: Seq<Column>) -> Answer
+fn make(streams: &mut Vec<StreamRows>, alloc: Global, name: Name, columns: Seq<Column>) -> Answer
     requires { 0 < length columns }
-    ensures { Step streams.old.items (Command.Stream name columns) result streams.new.items }
+    ensures { Step (state_of streams.old.items) (Command.Stream name columns) result (state_of streams.new.items) }
 {
     if place_of(streams, &name).is_some() {
         return Answer::Refused(Refusal::Exists(name));
@@ -87,49 +111,43 @@ fn make(streams: &mut Vec<Stream>, alloc: Global, name: Name, columns: Seq<Colum
 }
 
 // Puts a stream behind the others.
-fn add_stream(streams: &mut Vec<Stream>, alloc: Global, name: Name, schema: Schema) -> Answer
-    ensures { IsGiven streams.old.items (added streams.old.items name schema) result streams.new.items }
+fn add_stream(streams: &mut Vec<StreamRows>, alloc: Global, name: Name, schema: Schema) -> Answer
+    ensures { IsGiven (state_of streams.old.items) (added (state_of streams.old.items) name schema) result (state_of streams.new.items) }
 {
     if streams.len() >= MAX_STREAMS {
         return Answer::Refused(Refusal::Limit(LimitKind::Streams));
     }
-    let extents = Seq::new(Vec::new(alloc));
-    let stream = Stream {
-        name,
-        schema,
-        extents,
-    };
-    match streams.push(stream) {
+    match streams.push(StreamRows::new(alloc, name, schema)) {
         Ok(()) => Answer::Ok,
         Err(_) => Answer::Refused(Refusal::Memory),
     }
 }
 
 // Appends the rows that these lines spell.
-fn append(streams: &mut Vec<Stream>, alloc: Global, name: Name, lines: Seq<Text>) -> Answer
-    ensures { Step streams.old.items (Command.Append name lines) result streams.new.items }
+fn append(streams: &mut Vec<StreamRows>, alloc: Global, name: Name, lines: Seq<Text>) -> Answer
+    ensures { Step (state_of streams.old.items) (Command.Append name lines) result (state_of streams.new.items) }
 {
     let Some(place) = place_of(streams, &name) else {
         return Answer::Refused(Refusal::Unknown(name));
     };
-    match read_rows(alloc, lines.items(), &streams[place].schema) {
+    match read_rows(alloc, lines.items(), streams[place].schema()) {
         Ok(rows) => add_rows(streams, alloc, place, rows),
         Err(refusal) => Answer::Refused(refusal),
     }
 }
 
 // Appends these rows to the stream at this place.
-fn add_rows(streams: &mut Vec<Stream>, alloc: Global, place: usize, rows: Vec<Row>) -> Answer
+fn add_rows(streams: &mut Vec<StreamRows>, alloc: Global, place: usize, rows: Vec<Row>) -> Answer
     requires place { place < length streams.old.items }
     requires short { IsTrue (not (have_long rows.items)) }
     ensures { (name : List ℕ) (stream : Stream) → place_of streams.old.items name ≡ Some place
         → let there = slice_index_or streams.old.items place stream in
-        IsGiven streams.old.items (appended streams.old.items name there (Rows rows.items)) result streams.new.items }
+        IsGiven (state_of streams.old.items) (appended (state_of streams.old.items) name there (Rows rows.items)) result (state_of streams.new.items) }
 {
-    if streams[place].extents.items().len() >= MAX_EXTENTS {
+    if streams[place].extent_count() >= MAX_EXTENTS {
         return Answer::Refused(Refusal::Limit(LimitKind::Extents));
     }
-    if extent_count(streams) >= MAX_ALL_EXTENTS {
+    if all_extents(streams) >= MAX_ALL_EXTENTS {
         return Answer::Refused(Refusal::Limit(LimitKind::AllExtents));
     }
     let stream = &mut streams[place];
@@ -140,22 +158,22 @@ fn add_rows(streams: &mut Vec<Stream>, alloc: Global, place: usize, rows: Vec<Ro
 }
 
 // The extents of all streams, up to the greatest usize.
-fn extent_count(streams: &[Stream]) -> usize
+fn all_extents(streams: &[StreamRows]) -> usize
     ensures { result ≡ min (extent_count streams.now) (2 ^ 64 - 1) }
 {
     let mut count: usize = 0;
     for stream in streams {
-        count = count.saturating_add(stream.extents.items().len());
+        count = count.saturating_add(stream.extent_count());
     }
     count
 }
 
 // The place of the stream with this name.
-fn place_of(streams: &[Stream], name: &Name) -> Option<usize>
+fn place_of(streams: &[StreamRows], name: &Name) -> Option<usize>
     ensures place { result ≡ place_of streams.now name.now }
     ensures bound { IfSome result (λ place. place < length streams.now) }
 {
     streams
         .iter()
-        .position(|stream| stream.name.bytes() == name.bytes())
+        .position(|stream| stream.name().bytes() == name.bytes())
 }

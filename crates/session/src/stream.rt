@@ -1,23 +1,67 @@
 //! A stream, and its growth.
 ghost use Rattle.std.specs.Prelude.{◌≡◌, ◌+◌, length, sum_by, IfOk, OnErr, IfSome};
-ghost use Rattle.session.specs.Machine.{row_count, grown};
+ghost use Rattle.session.specs.Machine.{row_count, new_stream, grown};
 
 use rows_core::{Memory, Name, Row, Schema, Seq};
 use std::alloc::Global;
+use std::marker::Model;
 use std::mem;
 
-/// A stream: its name, its columns, and the extents in the order of appending, each with its rows.
+/// A stream with its rows: its name, its columns, and the extents in the order of appending. Contracts see it as plain
+/// data.
 #[derive(Drop)]
-pub struct Stream {
-    pub name: Name,
-    pub schema: Schema,
-    pub extents: Seq<Seq<Row>>,
+pub struct StreamRows {
+    name: Name,
+    schema: Schema,
+    extents: Seq<Seq<Row>>,
 }
 
-impl Stream {
+impl Model for StreamRows {
+    ghost use Rattle.session.specs.State.{Stream};
+
+    ghost Value = { Stream };
+
+    ghost view = { λ s. record { name = s.name; columns = s.schema; extents = s.extents } };
+
+    ghost inverse = { λ v. record { name = v.name; schema = v.columns; extents = v.extents } };
+}
+
+impl StreamRows {
+    /// A stream without a row.
+    pub fn new(alloc: Global, name: Name, schema: Schema) -> StreamRows
+        ensures { result ≡ new_stream name schema }
+    {
+        StreamRows {
+            name,
+            schema,
+            extents: Seq::new(Vec::new(alloc)),
+        }
+    }
+
+    /// The name.
+    pub fn name(&self) -> &Name
+        ensures { result.now ≡ self.now.name }
+    {
+        &self.name
+    }
+
+    /// The columns.
+    pub fn schema(&self) -> &Schema
+        ensures { result.now ≡ self.now.columns }
+    {
+        &self.schema
+    }
+
+    /// The number of extents.
+    pub fn extent_count(&self) -> usize
+        ensures { result ≡ length self.now.extents }
+    {
+        self.extents.items().len()
+    }
+
     /// Puts these rows behind the older ones, as an extent of their own, and gives the number of rows that the stream
     /// then holds. After want of memory it is as before; a number above u64 is want of memory too.
-    pub(crate) fn grow(&mut self, alloc: Global, rows: Vec<Row>) -> Result<u64, Memory>
+    pub fn grow(&mut self, alloc: Global, rows: Vec<Row>) -> Result<u64, Memory>
         ensures stream { IfOk result (λ held. self.new ≡ grown self.old rows.items) }
         ensures held { IfOk result (λ held. held ≡ row_count (grown self.old rows.items)) }
         ensures err { OnErr result (self.new ≡ self.old) }

@@ -1,5 +1,5 @@
 -- What a crash leaves of a run on one file, and of a log after a commit.
-use Rattle.std.proofs.Common.{◌≡◌, ◌⊎◌, inl, inr, ℕ, List, [], ◌∷◌, Result, Ok, Err, is_ok, IfOk, IsErrOf, true, refl, sym, ap, ◌∙◌, subst, arith}
+use Rattle.std.proofs.Common.{◌≡◌, ◌⊎◌, inl, inr, ℕ, List, [], ◌∷◌, Result, Ok, Err, is_ok, IfOk, IsErrOf, true, sym, ◌∙◌, subst, arith}
 use Rattle.outside_traits.specs.View.{View, Now, IsImageAt}
 use Rattle.outside_traits.specs.Runs.{Touches}
 use Rattle.outside_traits.specs.declared.failed.Failed.{Failed}

@@ -1,6 +1,6 @@
 //! What a crash leaves of what was written just before it.
 ghost use Rattle.std.specs.Prelude.{◌≡◌, ◌⊎◌, ℕ, [], ◌∷◌, IsTrue, IfOk, IsErrOf};
-ghost use Rattle.outside_traits.specs.Runs.{Touches};
+ghost use Rattle.outside_traits.specs.Runs.{ChangesOnly};
 ghost use Rattle.rows_core.specs.declared.file_ref.Digest.{Digest};
 ghost use Rattle.gated_log.specs.Logs.{IsBody, contents};
 
@@ -21,7 +21,7 @@ pub fn file_after_a_crash(
     pick: u64,
 ) -> Result<Vec<u8>, FileRefusal>
     ensures bytes { IfOk result (λ left. left.items ≡ bytes.now) }
-    ensures alone { Touches file (λ x. Unit {0}) (⟦<MemStore as Store>⟧.view store.old) (⟦<MemStore as Store>⟧.view store.new) }
+    ensures alone { ChangesOnly file (⟦<MemStore as Store>⟧.view store.old) (⟦<MemStore as Store>⟧.view store.new) }
     ensures damaged { (kept found : Digest) → IsErrOf result (FileRefusal.Damaged kept found) → ⊥ }
 {
     let digest = write_file(store, file, bytes)?;

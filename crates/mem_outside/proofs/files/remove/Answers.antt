@@ -3,7 +3,7 @@ use Rattle.outside_traits.specs.Calls.{Gone}
 use Rattle.mem_outside.specs.Shown.{Shown}
 use Rattle.mem_outside.specs.Outcomes.{Outcome, state_in, removed, is_sound}
 use Rattle.mem_outside.specs.Sound.{number_of, removed_sound, removed_outcome}
-use Rattle.mem_outside.proofs.Changes.{changed_state, changed_sound, changed_acts, here_sound}
+use Rattle.mem_outside.proofs.Changes.{changed_state, changed_sound, changed_acts, others_stay, here_sound}
 use Rattle.mem_outside.proofs.files.remove.Goals as goal
 
 pub returns-clause-sound : goal.returns-clause-sound
@@ -35,3 +35,10 @@ returns-clause-acts c =
     step c.args.past.now.items _ c.in_ok-change.ensures.past
     (subst (λ (s : Shown). step old.bytes s.bytes) (sym next_is) (inr refl))
     (λ x now. removed_outcome old (here_sound c.args.file c.args.current.now.items c.requires.sound) x (subst (λ (s : Shown). Outcome s x) next_is now))
+
+pub returns-clause-others : goal.returns-clause-others
+returns-clause-others c =
+    let from = c.in_ok-state.ensures ∙ ap (λ (l : List Shown). state_in l c.args.file) c.deref.ensures.value in
+    let next_is = c.in_ok-next.ensures ∙ ap (λ (s : Shown). removed s) from in
+    others_stay c.args.file true _ c.args.current.now.items _ c.in_ok-change.ensures.current
+    (ap (λ (s : Shown). s.number) next_is ∙ number_of c.args.file c.args.current.now.items)

@@ -3,7 +3,7 @@ use Rattle.outside_traits.specs.Calls.{Same}
 use Rattle.mem_outside.specs.Shown.{Shown}
 use Rattle.mem_outside.specs.Outcomes.{Outcome, state_in, synced, is_sound}
 use Rattle.mem_outside.specs.Sound.{number_of, synced_sound}
-use Rattle.mem_outside.proofs.Changes.{changed_state, changed_sound, changed_acts, none_gone, here_sound, sync_here}
+use Rattle.mem_outside.proofs.Changes.{changed_state, changed_sound, changed_acts, others_stay, none_gone, here_sound, sync_here}
 use Rattle.mem_outside.proofs.files.sync.Goals as goal
 
 pub returns-clause-sound : goal.returns-clause-sound
@@ -47,3 +47,10 @@ returns-clause-all_gone c = λ g.
     none_gone c.args.file false _ c.args.current.now.items _ c.in_ok-change.ensures.current
     (ap (λ (s : Shown). s.number) next_is ∙ number_of c.args.file c.args.current.now.items)
     refl (ap (λ (s : Shown). s.gone) next_is) g
+
+pub returns-clause-others : goal.returns-clause-others
+returns-clause-others c =
+    let from = c.in_ok-state.ensures ∙ ap (λ (l : List Shown). state_in l c.args.file) c.deref.ensures.value in
+    let next_is = c.in_ok-next.ensures ∙ ap (λ (s : Shown). synced s) from in
+    others_stay c.args.file false _ c.args.current.now.items _ c.in_ok-change.ensures.current
+    (ap (λ (s : Shown). s.number) next_is ∙ number_of c.args.file c.args.current.now.items)

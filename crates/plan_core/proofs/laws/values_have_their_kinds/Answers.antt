@@ -1,5 +1,5 @@
 -- By cases on the expression.
-use Rattle.plan_core.specs.ValueKinds.{typed_value}
+use Rattle.plan_core.proofs.ValueKinds.{typed_value}
 use Rattle.plan_core.proofs.laws.values_have_their_kinds.Goals as goal
 
 pub returns : goal.returns

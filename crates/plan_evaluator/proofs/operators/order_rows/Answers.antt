@@ -1,7 +1,7 @@
 use Rattle.std.proofs.Common.{rules, subst, ◌∙◌, IsPermutation}
 use Rattle.std.specs.List.Sorted.{IsStableBy}
 use Rattle.std.proofs.lemmas.Fn.{always_returns_same}
-use Rattle.plan_evaluator.proofs.Insertion.{below, weak}
+use Rattle.plan_laws.proofs.Insertion.{below, weak}
 use Rattle.plan_evaluator.proofs.operators.order_rows.Goals as goal
 
 pub returns : goal.returns

@@ -2,7 +2,8 @@
 use Rattle.std.proofs.Common.{◌≡◌, [], ◌∷◌, ◌++◌, Ok, ap, sym, subst, ◌∙◌}
 use Rattle.std.proofs.lemmas.Result.{err_from_is_err_and}
 use Rattle.std.proofs.lemmas.List.{map_push}
-use Rattle.row_blob.specs.Reading.{Fails, group_at, items_at, group_after}
+use Rattle.byte_formats.specs.Reading.{Fails}
+use Rattle.row_blob.specs.Reading.{group_at, items_at, group_after}
 use Rattle.row_blob.specs.Kept.{keys_of}
 use Rattle.row_blob.proofs.Loop.{goes_on, ends}
 use Rattle.row_blob.proofs.groups.counted_groups_at.Goals as goal

@@ -1,7 +1,8 @@
 -- One item more at each turn.
 use Rattle.std.proofs.Common.{◌≡◌, [], Ok, subst}
 use Rattle.std.proofs.lemmas.Result.{err_from_is_err_and}
-use Rattle.row_blob.specs.Reading.{Fails, items_at, tagged_at}
+use Rattle.byte_formats.specs.Reading.{Fails}
+use Rattle.row_blob.specs.Reading.{items_at, tagged_at}
 use Rattle.row_blob.proofs.Loop.{goes_on, ends}
 use Rattle.row_blob.proofs.tagged.counted_tagged_at.Goals as goal
 

@@ -1,5 +1,5 @@
 -- The test decides.
-use Rattle.scalar_ops.specs.RowLaws.{is_row_for-Decides}
+use Rattle.scalar_ops.proofs.RowLaws.{is_row_for-Decides}
 use Rattle.scalar_ops.proofs.laws.rows_are_found_by_kinds.Goals as goal
 
 pub returns : goal.returns

@@ -1,5 +1,5 @@
 -- The rows that may overflow have cells at which they do, and the others none.
-use Rattle.scalar_ops.specs.RowLaws.{one_row}
+use Rattle.scalar_ops.proofs.RowLaws.{one_row}
 use Rattle.scalar_ops.proofs.ValueLaws.{all_say}
 use Rattle.scalar_ops.proofs.laws.table_as_stated.Goals as goal
 

@@ -10,10 +10,9 @@ returns-in-Ok c = λ name stream is.
     let there = slice_index_or c.args.streams.now.items c.args.place stream in
     let first_is : c.index.result.now ≡ there = c.index.ensures ∙ get_or_default state c.args.place _ stream c.requires.place in
     let stream_is : c.index_mut-stream.result.now ≡ there = c.index_mut-stream.ensures.value ∙ get_or_default state c.args.place _ stream c.requires.place in
-    let counted : c.extent_count.result ≡ min (extent_count state) (2 ^ 64 - 1) = rw c.deref.ensures.value at c.extent_count.ensures in
+    let counted : c.all_extents.result ≡ min (extent_count state) (2 ^ 64 - 1) = rw c.deref.ensures.value at c.all_extents.ensures in
     let all_room : extent_count state < 262144 = omega arith in
-    let items : c.items.result.now ≡ there.extents = c.items.ensures ∙ ap (λ s. s.extents) first_is in
-    let room : length there.extents < 65535 = rw items at c.if-items-ge-MAX_EXTENTS.false in
+    let room : length there.extents < 65535 = omega (arith, c.extent_count.ensures, ap (λ s. length s.extents) first_is) in
     let held : c.in-Ok.held ≡ row_count (grown there c.args.rows.items) = rw stream_is at c.in-Ok.ensures.held in
     let new : c.grow.new.self ≡ grown there c.args.rows.items = rw stream_is at c.in-Ok.ensures.stream in
     rw (held, new) (IsGiven-held _ name c.args.place stream is c.args.rows.items c.requires.short room all_room)

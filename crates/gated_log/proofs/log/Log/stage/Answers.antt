@@ -62,4 +62,4 @@ returns-clause-staged g c = λ told bodies stands x now.
     let wrote : (g.D.Store.view c.write.new.self).files file ≡ overlaid ((g.D.Store.view c.args.store.now).files file) end (length_bytes (length c.args.body.now)) =
     c.in_ok-write.ensures.written told ∙ ap (λ (l : List ℕ). overlaid ((g.D.Store.view c.args.store.now).files file) end l) len_is in
     let staged = staged_by bodies end c.args.body.now _ _ _ _ stands.end c.requires.size first wrote (c.in_ok-write-2.ensures.written told) (c.in_ok-write-3.ensures.written told) in
-    subst (IsStaged bodies c.args.body.now) (sym (c.in_ok-sync.ensures.stable told x now)) staged
+    subst (IsStaged bodies c.args.body.now _) (sym (c.in_ok-sync.ensures.stable told x now)) staged

@@ -1,14 +1,17 @@
-use Rattle.std.proofs.Common.{rules}
+use Rattle.std.proofs.Common.{subst}
+use Rattle.session.specs.State.{state_of}
 use Rattle.session.specs.Machine.{Step}
 use Rattle.session.proofs.RefusalLemmas.{refused_cause, refused_exactly, refused_same}
 use Rattle.session.proofs.session.Session.step.Goals as goal
 
-pub returns-in-Stream : goal.returns-in-Stream
-returns-in-Stream c =
-    let step : Step c.args.self.now c.args.command c.make.result c.make.new.streams.items = search rules in
-    record { step = step; cause = refused_cause _ _ _ _ step; exactly = refused_exactly _ _ _ _ step; unchanged = refused_same _ _ _ _ step }
-
-pub returns-in-Append : goal.returns-in-Append
-returns-in-Append c =
-    let step : Step c.args.self.now c.args.command c.append.result c.append.new.streams.items = search rules in
-    record { step = step; cause = refused_cause _ _ _ _ step; exactly = refused_exactly _ _ _ _ step; unchanged = refused_same _ _ _ _ step }
+pub returns : goal.returns
+returns c =
+    let new = state_of c.perform-answer.new.streams.items in
+    let step : Step c.args.self c.args.command c.perform-answer.result new = subst (λ old. Step old c.args.command c.perform-answer.result new) c.self.view_is c.perform-answer.ensures in
+    record {
+      step = step;
+      short = c.answer_is_short.ensures;
+      cause = refused_cause c.args.self new c.args.command c.perform-answer.result step;
+      exactly = refused_exactly c.args.self new c.args.command c.perform-answer.result step;
+      unchanged = refused_same c.args.self new c.args.command c.perform-answer.result step;
+    }

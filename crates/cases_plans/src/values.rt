@@ -1,0 +1,32 @@
+//! Values of expressions at the row 7, "tea".
+
+use crate::reader::expr_of;
+use crate::shown::cell_shown;
+use anyhow::Result;
+use plan_core::{EvRefusal, Expr, ev, expression_kind};
+use rows_core::{Row, Txt, Value};
+use scalar_ops::Cell;
+use std::alloc::Global;
+
+/// The value of an expression, or that it has no kind.
+pub fn value(alloc: Global, text: &str) -> Result<String> {
+    let e = expr_of(alloc, text)?;
+    let mut values = Vec::new(alloc);
+    values.push(Value::Int(7))?;
+    values.push(Value::Text(Txt::new(alloc, b"tea")?))?;
+    match typed_value(alloc, &e, &Row::new(values)) {
+        Some(value) => cell_shown(alloc, &value?),
+        None => Ok(String::from_str(alloc, "no kind")?),
+    }
+}
+
+fn typed_value(alloc: Global, e: &Expr, row: &Row) -> Option<Result<Cell, EvRefusal>> {
+    match row.values() {
+        [first, second] => {
+            let kinds = [first.kind(), second.kind()];
+            expression_kind(&kinds, e)?;
+            Some(ev(alloc, e, row))
+        }
+        _ => None,
+    }
+}

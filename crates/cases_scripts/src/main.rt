@@ -1,0 +1,46 @@
+//! Cases of scripts: a case a line on standard input, and on standard output a line for each, what it gives. A case is
+//! the word of its subject and then its arguments, of which the last is a script, as `script.rt` reads it. A line that is
+//! empty or begins with `#` is no case.
+#![tactic(auto)]
+
+mod answers;
+mod faults;
+mod reading;
+mod runs;
+mod script;
+mod shown;
+
+use anyhow::{Context, Result};
+use std::alloc::Global;
+use std::io;
+
+fn main(rt: HostRuntime) -> io::Result<()> {
+    let alloc = rt.alloc();
+    for line in rt.lines(alloc) {
+        let line = line?;
+        if line.is_empty() || line.starts_with('#') {
+            continue;
+        }
+        match answer(alloc, line.as_str()) {
+            Ok(answer) => println!(rt; "{answer}")?,
+            Err(refusal) => println!(rt; "{refusal}")?,
+        }
+    }
+    Ok(())
+}
+
+/// What a case gives; a refusal is the error that its type prints.
+fn answer(alloc: Global, case: &str) -> Result<String> {
+    let (subject, arguments) = case.split_once(' ').unwrap_or((case, ""));
+    match subject {
+        "spells" => reading::spells(alloc, arguments),
+        "block" => reading::block(alloc, arguments),
+        "answer" => answers::answer(alloc, arguments),
+        "run" => runs::run(alloc, arguments),
+        "over-std" => runs::over_std(alloc, arguments),
+        "words" => runs::words(alloc, arguments),
+        "reads" => faults::reads(alloc, arguments),
+        "writes" => faults::writes(alloc, arguments),
+        _ => None.context("no such subject"),
+    }
+}

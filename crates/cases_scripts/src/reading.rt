@@ -1,0 +1,100 @@
+//! What a script spells, taken in pieces.
+
+use crate::{script, shown};
+use anyhow::{Context, Result};
+use rows_core::{Column, Name, Text};
+use script_text::{Answer, Command, Item, Lines, Refusal, print_line};
+use std::alloc::Global;
+
+/// The commands and refusals of a script, which are the same in pieces of 1, 7 and 65,536 bytes.
+pub fn spells(alloc: Global, text: &str) -> Result<String> {
+    let script = script::bytes(alloc, text)?;
+    let whole = items(alloc, &script, 65_536)?;
+    for piece in [1, 7] {
+        if items(alloc, &script, piece)? != whole {
+            return None.context("other items in other pieces");
+        }
+    }
+    shown::lines(alloc, &whole)
+}
+
+/// What a block of 1,024 row lines gives, each of 65,536 bytes with its LF, and these bytes behind them.
+pub fn block(alloc: Global, text: &str) -> Result<String> {
+    let last = script::bytes(alloc, text)?;
+    let mut reader = Lines::new(alloc)?;
+    let mut line = vec![in alloc; b'x'; 65_535]?;
+    line.push(b'\n')?;
+    let _ = reader.take(b"append s t\n");
+    for _ in 0..1024 {
+        let _ = reader.take(line.as_slice());
+    }
+    let _ = reader.take(last.as_slice());
+    let mut to = Vec::new(alloc);
+    if let (_, Some(item)) = reader.take(b"end\n") {
+        push_item(item, &mut to)?;
+    }
+    shown::lines(alloc, &to)
+}
+
+// The items of a script, a line each.
+fn items(alloc: Global, script: &[u8], piece: usize) -> Result<Vec<u8>> {
+    let mut reader = Lines::new(alloc)?;
+    let mut to = Vec::new(alloc);
+    let mut rest = script;
+    for _ in 0..script.len() {
+        let next = &rest[..piece.min(rest.len())];
+        let (taken, item) = reader.take(next);
+        rest = &rest[taken..];
+        if let Some(item) = item {
+            push_item(item, &mut to)?;
+        }
+    }
+    if let Some(item) = reader.finish() {
+        push_item(item, &mut to)?;
+    }
+    Ok(to)
+}
+
+fn push_item(item: Item, to: &mut Vec<u8>) -> Result<()> {
+    match item {
+        Item::Command(command) => push_command(&command, to),
+        Item::Refused(refusal) => push_refusal(refusal, to),
+    }
+}
+
+fn push_refusal(refusal: Refusal, to: &mut Vec<u8>) -> Result<()> {
+    print_line(&Answer::Refused(refusal), false, 0, to)?;
+    Ok(())
+}
+
+// A stream with its columns, or an append with its row lines behind `>`.
+fn push_command(command: &Command, to: &mut Vec<u8>) -> Result<()> {
+    match command {
+        Command::Stream { name, columns } => push_stream(name, columns.items(), to),
+        Command::Append { name, lines } => push_append(name, lines.items(), to),
+    }
+}
+
+fn push_stream(name: &Name, columns: &[Column], to: &mut Vec<u8>) -> Result<()> {
+    to.extend_from_slice(b"stream ")?;
+    to.extend_from_slice(name.bytes())?;
+    for column in columns {
+        to.push(b' ')?;
+        to.extend_from_slice(column.name.bytes())?;
+        to.push(b':')?;
+        to.extend_from_slice(column.kind.word())?;
+    }
+    to.push(b'\n')?;
+    Ok(())
+}
+
+fn push_append(name: &Name, lines: &[Text], to: &mut Vec<u8>) -> Result<()> {
+    to.extend_from_slice(b"append ")?;
+    to.extend_from_slice(name.bytes())?;
+    for line in lines {
+        to.push(b'>')?;
+        to.extend_from_slice(line.items())?;
+    }
+    to.push(b'\n')?;
+    Ok(())
+}

@@ -1,5 +1,0 @@
-use Rattle.plan_evaluator.proofs.KeptRows.{kept_rows}
-use Rattle.plan_evaluator.proofs.kept.rows_of_kept_forms.Goals as goal
-
-pub returns : goal.returns
-returns c = kept_rows

@@ -1,6 +1,0 @@
--- One byte less at each call.
-use Rattle.std.proofs.Common.{length}
-use Rattle.row_blob.proofs.number.+left_between.Given as goal
-
-abbrev pub decreases-left_between : goal.decreases-left_between
-decreases-left_between l = length l.bytes.now

@@ -1,6 +1,0 @@
-use Rattle.std.proofs.Common.{◌^◌, ◌<◌, arith, rules}
-use Rattle.std.proofs.lemmas.Fmt.{length-decimal-le}
-use Rattle.script_text.proofs.answer.numbered_line.Goals as goal
-
-pub returns-clause-short : goal.returns-clause-short
-returns-clause-short c = let fits : c.args.number < 2 ^ 64 = search rules in length-decimal-le 20 c.args.number (omega arith) (omega arith) fits
