@@ -1,9 +1,14 @@
 pub use Rattle.plan_grammar.specs.Token
+pub use Rattle.plan_grammar.specs.TextTokens
 pub use Rattle.plan_grammar.specs.PlainNamed
 pub use Rattle.plan_grammar.specs.Counts
 pub use Rattle.plan_grammar.specs.Grammar
 pub use Rattle.plan_grammar.specs.Spelled
 pub use Rattle.plan_grammar.specs.NamedCode
+pub use Rattle.plan_parser.specs.Draft
+pub use Rattle.plan_parser.specs.Reading
+pub use Rattle.plan_parser.specs.PlanDraft
+pub use Rattle.plan_parser.specs.PlanReading
 pub use Rattle.plan_parser.specs.Answer
 pub use Rattle.plan_printer.specs.Canonical
 pub use Rattle.plan_binder.specs.OpRows
