@@ -148,7 +148,9 @@ fn add_rows(streams: &mut Vec<StreamRows>, alloc: Global, place: usize, rows: Ve
     requires short { IsTrue (not (have_long rows.items)) }
     ensures { (name : List ℕ) (stream : Stream) → place_of streams.old.items name ≡ Some place
         → let there = slice_index_or streams.old.items place stream in
-        IsGiven (state_of streams.old.items) (appended (state_of streams.old.items) name there (Rows rows.items)) result (state_of streams.new.items) }
+        IsGiven (state_of streams.old.items)
+        (appended (state_of streams.old.items) name there (Rows rows.items)) result
+        (state_of streams.new.items) }
 {
     if streams[place].extent_count() >= MAX_EXTENTS {
         return Answer::Refused(Refusal::Limit(LimitKind::Extents));

@@ -22,7 +22,8 @@ pub struct FileLeft {
     pub read: Result<Vec<u8>, FileRefusal>,
 }
 
-/// One of the images that a crash may leave, whether the body was committed, and the bodies that were read of the image.
+/// One of the images that a crash may leave, whether the body was committed, and the bodies that were read of
+/// the image.
 #[derive(Drop)]
 pub struct LogLeft {
     pub image: MemStore,
@@ -30,9 +31,9 @@ pub struct LogLeft {
     pub read: Result<Vec<Vec<u8>>, LogRefusal>,
 }
 
-/// Writes a file, and reads it back from what a crash then leaves, whichever image `pick` takes: its bytes, and never
-/// `Damaged`. `Fault` is the answer where a call of the store failed, and what the image's reading answers where one of
-/// its own did. All other files are left alone.
+/// Writes a file, and reads it back from what a crash then leaves, whichever image `pick` takes: its bytes,
+/// and never `Damaged`. `Fault` is the answer where a call of the store failed, and what the image's reading
+/// answers where one of its own did. All other files are left alone.
 pub fn file_after_a_crash(
     alloc: Global,
     store: &mut MemStore,
@@ -40,16 +41,29 @@ pub fn file_after_a_crash(
     bytes: &[u8],
     pick: u64,
 ) -> Result<FileLeft, Unread>
-    ensures image { IfOk result (λ left. IsImageAt (⟦<MemStore as Store>⟧.view store.new) (⟦<MemStore as Store>⟧.view store.new).moment (⟦<MemStore as Store>⟧.view left.image).files) }
+    ensures image { IfOk result
+        (λ left. IsImageAt (⟦<MemStore as Store>⟧.view store.new)
+        (⟦<MemStore as Store>⟧.view store.new).moment (⟦<MemStore as Store>⟧.view left.image).files) }
     // What is read is of the image: it tells that its bytes were taken, and the store that none were.
-    ensures read { IfOk result (λ left. IfOk left.read (λ read. read.items ≡ take (length bytes.now) ((⟦<MemStore as Store>⟧.view left.image).files file))) }
-    ensures taken { IfOk result (λ left. IfOk left.read (λ read. CountsTaken (length read.items) none (⟦<MemStore as Store>⟧.counts left.image))) }
+    ensures read { IfOk result
+        (λ left. IfOk left.read
+        (λ read. read.items ≡ take (length bytes.now) ((⟦<MemStore as Store>⟧.view left.image).files file))) }
+    ensures taken { IfOk result
+        (λ left. IfOk left.read
+        (λ read. CountsTaken (length read.items) none (⟦<MemStore as Store>⟧.counts left.image))) }
     ensures bytes { IfOk result (λ left. IfOk left.read (λ read. read.items ≡ bytes.now)) }
-    ensures damaged { IfOk result (λ left. (kept found : Digest) → IsErrOf left.read (FileRefusal.Damaged kept found) → ⊥) }
-    ensures image_fault { IfOk result (λ left. IsErrOf left.read FileRefusal.Fault → Rose 0 (⟦<MemStore as Store>⟧.counts left.image).reads) }
-    ensures fault { IsErrOf result Unread.Fault → Rose (⟦<MemStore as Store>⟧.counts store.old).writes (⟦<MemStore as Store>⟧.counts store.new).writes }
-    ensures counts { MayRaiseWrites (⟦<MemStore as Store>⟧.counts store.old) (⟦<MemStore as Store>⟧.counts store.new) }
-    ensures alone { ChangesOnly file (⟦<MemStore as Store>⟧.view store.old) (⟦<MemStore as Store>⟧.view store.new) }
+    ensures damaged { IfOk result
+        (λ left. (kept found : Digest) → IsErrOf left.read (FileRefusal.Damaged kept found) → ⊥) }
+    ensures image_fault { IfOk result
+        (λ left. IsErrOf left.read FileRefusal.Fault
+        → Rose 0 (⟦<MemStore as Store>⟧.counts left.image).reads) }
+    ensures fault { IsErrOf result Unread.Fault
+        → Rose (⟦<MemStore as Store>⟧.counts store.old).writes
+        (⟦<MemStore as Store>⟧.counts store.new).writes }
+    ensures counts { MayRaiseWrites (⟦<MemStore as Store>⟧.counts store.old)
+        (⟦<MemStore as Store>⟧.counts store.new) }
+    ensures alone { ChangesOnly file (⟦<MemStore as Store>⟧.view store.old)
+        (⟦<MemStore as Store>⟧.view store.new) }
 {
     let digest = write_file(store, file, bytes)?;
     let at = FileRef {
@@ -65,10 +79,10 @@ pub fn file_after_a_crash(
     Ok(FileLeft { image, read })
 }
 
-/// Makes a log and commits a body to it, and reads the log from what a crash then leaves, whichever image `pick` takes:
-/// whether the body was committed, and the bodies that are left. These are none or the body, and the body where it was
-/// committed; never is what is left no log. `Fault` is the answer where a call failed before the commit, and what the
-/// image's reading answers where one of its own did.
+/// Makes a log and commits a body to it, and reads the log from what a crash then leaves, whichever image
+/// `pick` takes: whether the body was committed, and the bodies that are left. These are none or the body,
+/// and the body where it was committed; never is what is left no log. `Fault` is the answer where a call
+/// failed before the commit, and what the image's reading answers where one of its own did.
 pub fn log_after_a_crash(
     alloc: Global,
     store: &mut MemStore,
@@ -77,16 +91,34 @@ pub fn log_after_a_crash(
     pick: u64,
 ) -> Result<LogLeft, Unread>
     requires size { IsBody body.now }
-    ensures image { IfOk result (λ left. IsImageAt (⟦<MemStore as Store>⟧.view store.new) (⟦<MemStore as Store>⟧.view store.new).moment (⟦<MemStore as Store>⟧.view left.image).files) }
-    ensures read { IfOk result (λ left. IfOk left.read (λ read. Reads (contents read.items) ((⟦<MemStore as Store>⟧.view left.image).files file))) }
-    ensures taken { IfOk result (λ left. IfOk left.read (λ read. CountsTaken (length ((⟦<MemStore as Store>⟧.view left.image).files file)) none (⟦<MemStore as Store>⟧.counts left.image))) }
-    ensures bodies { IfOk result (λ left. IfOk left.read (λ read. (contents read.items ≡ []) ⊎ (contents read.items ≡ body.now ∷ []))) }
-    ensures committed { IfOk result (λ left. IsTrue left.committed → IfOk left.read (λ read. contents read.items ≡ body.now ∷ [])) }
-    ensures uncommitted { IfOk result (λ left. left.committed ≡ false → Rose (⟦<MemStore as Store>⟧.counts store.old).writes (⟦<MemStore as Store>⟧.counts store.new).writes) }
+    ensures image { IfOk result
+        (λ left. IsImageAt (⟦<MemStore as Store>⟧.view store.new)
+        (⟦<MemStore as Store>⟧.view store.new).moment (⟦<MemStore as Store>⟧.view left.image).files) }
+    ensures read { IfOk result
+        (λ left. IfOk left.read
+        (λ read. Reads (contents read.items) ((⟦<MemStore as Store>⟧.view left.image).files file))) }
+    ensures taken { IfOk result
+        (λ left. IfOk left.read
+        (λ read. CountsTaken (length ((⟦<MemStore as Store>⟧.view left.image).files file)) none
+        (⟦<MemStore as Store>⟧.counts left.image))) }
+    ensures bodies { IfOk result
+        (λ left. IfOk left.read
+        (λ read. (contents read.items ≡ []) ⊎ (contents read.items ≡ body.now ∷ []))) }
+    ensures committed { IfOk result
+        (λ left. IsTrue left.committed → IfOk left.read (λ read. contents read.items ≡ body.now ∷ [])) }
+    ensures uncommitted { IfOk result
+        (λ left. left.committed ≡ false
+        → Rose (⟦<MemStore as Store>⟧.counts store.old).writes
+        (⟦<MemStore as Store>⟧.counts store.new).writes) }
     ensures is_log { IfOk result (λ left. (at : ℕ) → IsErrOf left.read (LogRefusal.NotLog at) → ⊥) }
-    ensures image_fault { IfOk result (λ left. IsErrOf left.read LogRefusal.Fault → Rose 0 (⟦<MemStore as Store>⟧.counts left.image).reads ⊎ Rose 0 (⟦<MemStore as Store>⟧.counts left.image).writes) }
-    ensures fault { IsErrOf result Unread.Fault → Rose (⟦<MemStore as Store>⟧.counts store.old).writes (⟦<MemStore as Store>⟧.counts store.new).writes }
-    ensures counts { MayRaiseWrites (⟦<MemStore as Store>⟧.counts store.old) (⟦<MemStore as Store>⟧.counts store.new) }
+    ensures image_fault { IfOk result
+        (λ left. IsErrOf left.read LogRefusal.Fault → Rose 0 (⟦<MemStore as Store>⟧.counts left.image).reads
+        ⊎ Rose 0 (⟦<MemStore as Store>⟧.counts left.image).writes) }
+    ensures fault { IsErrOf result Unread.Fault
+        → Rose (⟦<MemStore as Store>⟧.counts store.old).writes
+        (⟦<MemStore as Store>⟧.counts store.new).writes }
+    ensures counts { MayRaiseWrites (⟦<MemStore as Store>⟧.counts store.old)
+        (⟦<MemStore as Store>⟧.counts store.new) }
 {
     one_reading();
     let log = match Log::create(store, file) {
