@@ -286,7 +286,11 @@ impl FileState {
     }
 }
 
-fn pushed_in_front(alloc: Global, loose: Loosened, gone: &[Loosened]) -> Result<Vec<Loosened>, Memory>
+fn pushed_in_front(
+    alloc: Global,
+    loose: Loosened,
+    gone: &[Loosened],
+) -> Result<Vec<Loosened>, Memory>
     ensures { IfOk result (λ all. all.items ≡ loose ∷ gone.now) }
 {
     let mut all = Vec::new(alloc);

@@ -2,10 +2,11 @@
 ghost use Rattle.std.specs.Prelude.{◌≡◌, ◌≢◌, ◌⊎◌, ℕ, ◌+◌, ◌^◌, ◌-◌, ◌/◌, ◌%◌, ◌==◌, ◌<◌, ◌≤◌, true, false, List, [], length, take, map, min, None, IsTrue, IfOk, IfSome, OnOk, OnErr};
 ghost use Rattle.std.specs.List.{list_all};
 ghost use Rattle.mem_outside.specs.Shown.{Shown};
-ghost use Rattle.mem_outside.specs.Outcomes.{is_sound, state_in, stable_file, written, shortened, synced, removed, left_of};
+ghost use Rattle.mem_outside.specs.Outcomes.{is_sound, state_in, stable_file, written, shortened, synced, removed, kept, left_of};
 ghost use Rattle.mem_outside.specs.Moments.{view_of};
 ghost use Rattle.mem_outside.specs.Laws.{state_reads, state_absent};
 ghost use Rattle.mem_outside.specs.Schedule.{Schedule, next_fails, called, from_call};
+ghost use Rattle.mem_outside.specs.Refused.{LeavesFailed};
 ghost use Rattle.outside_traits.specs.Counts.{Rose};
 ghost use Rattle.outside_traits.specs.View.{Counts, Now, Only, IsImageAt};
 ghost use Rattle.outside_traits.specs.Calls.{
@@ -16,6 +17,7 @@ ghost use Rattle.outside_traits.specs.Calls.{
   Gone,
   Acts,
   Idles,
+  Passes,
   StayGone,
   NextIs,
   IsRead,
@@ -46,6 +48,7 @@ pub struct MemStore {
     writes: u64,
     removes: u64,
     taken: u64,
+    refused: u64,
     ghost sound: { IsTrue (list_all is_sound current.items) },
 }
 
@@ -56,6 +59,7 @@ impl MemStore {
         ensures there { (file : ℕ) → (⟦<MemStore as Store>⟧.view result).there file ≡ false }
         ensures counts { ⟦<MemStore as Store>⟧.counts result ≡ record { reads = 0; writes = 0; removes = 0; taken = 0 } }
         ensures shown { ⟦<MemStore as InMemory>⟧.shown result ≡ [] }
+        ensures refused { ⟦<MemStore as InMemory>⟧.refused result ≡ 0 }
         ensures schedule { ⟦<MemStore as InMemory>⟧.schedule result ≡ record { listed = fails.items; from = None; next = 0 } }
     {
         MemStore {
@@ -69,6 +73,7 @@ impl MemStore {
             writes: 0,
             removes: 0,
             taken: 0,
+            refused: 0,
         }
     }
 
@@ -77,6 +82,7 @@ impl MemStore {
         ensures view { Idles (⟦<MemStore as Store>⟧.view self.old) (⟦<MemStore as Store>⟧.view self.new) }
         ensures counts { ⟦<MemStore as Store>⟧.counts self.new ≡ ⟦<MemStore as Store>⟧.counts self.old }
         ensures shown { ⟦<MemStore as InMemory>⟧.shown self.new ≡ ⟦<MemStore as InMemory>⟧.shown self.old }
+        ensures refused { ⟦<MemStore as InMemory>⟧.refused self.new ≡ ⟦<MemStore as InMemory>⟧.refused self.old }
         ensures schedule { ⟦<MemStore as InMemory>⟧.schedule self.new ≡ from_call call (⟦<MemStore as InMemory>⟧.schedule self.old) }
     {
         self.fail_from = Some(call);
@@ -87,7 +93,10 @@ impl MemStore {
         ensures bytes { OnOk result ((⟦<MemStore as Store>⟧.view self.new).files file ≡ bytes.now) }
         ensures there { OnOk result ((⟦<MemStore as Store>⟧.view self.new).there file ≡ true) }
         ensures stable { OnOk result (Only bytes.now (Now (⟦<MemStore as Store>⟧.view self.new) file)) }
-        ensures others { (g : ℕ) → g ≢ file → (⟦<MemStore as Store>⟧.view self.new).files g ≡ (⟦<MemStore as Store>⟧.view self.old).files g }
+        ensures others { (g : ℕ) → g ≢ file → state_in (⟦<MemStore as InMemory>⟧.shown self.new) g ≡ state_in (⟦<MemStore as InMemory>⟧.shown self.old) g }
+        ensures time { Passes (⟦<MemStore as Store>⟧.view self.old) (⟦<MemStore as Store>⟧.view self.new) }
+        // Nothing changes where it finds no memory.
+        ensures memory { OnErr result ((⟦<MemStore as InMemory>⟧.shown self.new ≡ ⟦<MemStore as InMemory>⟧.shown self.old) × ((⟦<MemStore as Store>⟧.view self.new).moment ≡ (⟦<MemStore as Store>⟧.view self.old).moment)) }
         ensures counts { ⟦<MemStore as Store>⟧.counts self.new ≡ ⟦<MemStore as Store>⟧.counts self.old }
         ensures shown { OnOk result (state_in (⟦<MemStore as InMemory>⟧.shown self.new) file ≡ stable_file file bytes.now) }
         ensures schedule { ⟦<MemStore as InMemory>⟧.schedule self.new ≡ ⟦<MemStore as InMemory>⟧.schedule self.old }
@@ -120,6 +129,7 @@ impl MemStore {
             writes: 0,
             removes: 0,
             taken: 0,
+            refused: 0,
         })
     }
 
@@ -138,12 +148,17 @@ pub trait InMemory {
 
     // Which calls fail.
     ghost schedule: { Self → Schedule };
+
+    // How many calls have found no memory. The count stands still at the greatest u64.
+    ghost refused: { Self → ℕ };
 }
 
 impl InMemory for MemStore {
     ghost shown = { λ s. s.current.items };
 
     ghost schedule = { λ s. record { listed = s.fails.items; from = s.fail_from; next = s.next_call } };
+
+    ghost refused = { λ s. s.refused };
 }
 
 impl Store for MemStore {
@@ -165,6 +180,7 @@ impl Store for MemStore {
         ensures taken { (⟦<MemStore as Store>⟧.counts self.new).taken ≡ (⟦<MemStore as Store>⟧.counts self.old).taken }
         ensures fails { IsTrue (next_fails (⟦<MemStore as InMemory>⟧.schedule self.old)) → OnOk result ⊥ }
         ensures no_other { OnErr result (IsTrue (next_fails (⟦<MemStore as InMemory>⟧.schedule self.old))) }
+        ensures same { (⟦<MemStore as InMemory>⟧.shown self.new ≡ ⟦<MemStore as InMemory>⟧.shown self.old) × (⟦<MemStore as InMemory>⟧.refused self.new ≡ ⟦<MemStore as InMemory>⟧.refused self.old) }
         ensures schedule { ⟦<MemStore as InMemory>⟧.schedule self.new ≡ called (⟦<MemStore as InMemory>⟧.schedule self.old) }
     {
         let fails = next_call_fails(&self.fails, self.fail_from, &mut self.next_call);
@@ -184,6 +200,7 @@ impl Store for MemStore {
         ensures taken { (⟦<MemStore as Store>⟧.counts self.new).taken ≡ (⟦<MemStore as Store>⟧.counts self.old).taken }
         ensures fails { IsTrue (next_fails (⟦<MemStore as InMemory>⟧.schedule self.old)) → OnOk result ⊥ }
         ensures no_other { OnErr result (IsTrue (next_fails (⟦<MemStore as InMemory>⟧.schedule self.old))) }
+        ensures same { (⟦<MemStore as InMemory>⟧.shown self.new ≡ ⟦<MemStore as InMemory>⟧.shown self.old) × (⟦<MemStore as InMemory>⟧.refused self.new ≡ ⟦<MemStore as InMemory>⟧.refused self.old) }
         ensures schedule { ⟦<MemStore as InMemory>⟧.schedule self.new ≡ called (⟦<MemStore as InMemory>⟧.schedule self.old) }
     {
         let fails = next_call_fails(&self.fails, self.fail_from, &mut self.next_call);
@@ -205,6 +222,7 @@ impl Store for MemStore {
         ensures none_taken { OnErr result ((⟦<MemStore as Store>⟧.counts self.new).taken ≡ (⟦<MemStore as Store>⟧.counts self.old).taken) }
         ensures fails { IsTrue (next_fails (⟦<MemStore as InMemory>⟧.schedule self.old)) → OnOk result ⊥ }
         ensures no_other { OnErr result (IsTrue (next_fails (⟦<MemStore as InMemory>⟧.schedule self.old))) }
+        ensures same { (⟦<MemStore as InMemory>⟧.shown self.new ≡ ⟦<MemStore as InMemory>⟧.shown self.old) × (⟦<MemStore as InMemory>⟧.refused self.new ≡ ⟦<MemStore as InMemory>⟧.refused self.old) }
         ensures schedule { ⟦<MemStore as InMemory>⟧.schedule self.new ≡ called (⟦<MemStore as InMemory>⟧.schedule self.old) }
     {
         let fails = next_call_fails(&self.fails, self.fail_from, &mut self.next_call);
@@ -227,6 +245,9 @@ impl Store for MemStore {
         ensures counts { MayRaiseWrites (⟦<MemStore as Store>⟧.counts self.old) (⟦<MemStore as Store>⟧.counts self.new) }
         ensures fails { IsTrue (next_fails (⟦<MemStore as InMemory>⟧.schedule self.old)) → OnOk result ⊥ }
         ensures shown { OnOk result (state_in (⟦<MemStore as InMemory>⟧.shown self.new) file ≡ written at bytes.now true (state_in (⟦<MemStore as InMemory>⟧.shown self.old) file)) }
+        ensures tried { OnErr result (LeavesFailed (next_fails (⟦<MemStore as InMemory>⟧.schedule self.old)) (written at bytes.now false) file (⟦<MemStore as InMemory>⟧.shown self.old) (⟦<MemStore as InMemory>⟧.shown self.new) (⟦<MemStore as InMemory>⟧.refused self.old) (⟦<MemStore as InMemory>⟧.refused self.new)) }
+        ensures no_refusal { OnOk result (⟦<MemStore as InMemory>⟧.refused self.new ≡ ⟦<MemStore as InMemory>⟧.refused self.old) }
+        ensures others { (g : ℕ) → g ≢ file → state_in (⟦<MemStore as InMemory>⟧.shown self.new) g ≡ state_in (⟦<MemStore as InMemory>⟧.shown self.old) g }
         ensures schedule { ⟦<MemStore as InMemory>⟧.schedule self.new ≡ called (⟦<MemStore as InMemory>⟧.schedule self.old) }
     {
         let fails = next_call_fails(&self.fails, self.fail_from, &mut self.next_call);
@@ -240,7 +261,12 @@ impl Store for MemStore {
             !fails,
         ) {
             Ok(()) if !fails => Ok(()),
-            _ => {
+            Ok(()) => {
+                self.writes = self.writes.saturating_add(1);
+                Err(Failed)
+            }
+            Err(Memory) => {
+                self.refused = self.refused.saturating_add(1);
                 self.writes = self.writes.saturating_add(1);
                 Err(Failed)
             }
@@ -257,6 +283,9 @@ impl Store for MemStore {
         ensures counts { MayRaiseWrites (⟦<MemStore as Store>⟧.counts self.old) (⟦<MemStore as Store>⟧.counts self.new) }
         ensures fails { IsTrue (next_fails (⟦<MemStore as InMemory>⟧.schedule self.old)) → OnOk result ⊥ }
         ensures shown { OnOk result (state_in (⟦<MemStore as InMemory>⟧.shown self.new) file ≡ shortened len true (state_in (⟦<MemStore as InMemory>⟧.shown self.old) file)) }
+        ensures tried { OnErr result (LeavesFailed (next_fails (⟦<MemStore as InMemory>⟧.schedule self.old)) (shortened len false) file (⟦<MemStore as InMemory>⟧.shown self.old) (⟦<MemStore as InMemory>⟧.shown self.new) (⟦<MemStore as InMemory>⟧.refused self.old) (⟦<MemStore as InMemory>⟧.refused self.new)) }
+        ensures no_refusal { OnOk result (⟦<MemStore as InMemory>⟧.refused self.new ≡ ⟦<MemStore as InMemory>⟧.refused self.old) }
+        ensures others { (g : ℕ) → g ≢ file → state_in (⟦<MemStore as InMemory>⟧.shown self.new) g ≡ state_in (⟦<MemStore as InMemory>⟧.shown self.old) g }
         ensures schedule { ⟦<MemStore as InMemory>⟧.schedule self.new ≡ called (⟦<MemStore as InMemory>⟧.schedule self.old) }
     {
         let fails = next_call_fails(&self.fails, self.fail_from, &mut self.next_call);
@@ -269,7 +298,12 @@ impl Store for MemStore {
             !fails,
         ) {
             Ok(()) if !fails => Ok(()),
-            _ => {
+            Ok(()) => {
+                self.writes = self.writes.saturating_add(1);
+                Err(Failed)
+            }
+            Err(Memory) => {
+                self.refused = self.refused.saturating_add(1);
                 self.writes = self.writes.saturating_add(1);
                 Err(Failed)
             }
@@ -286,6 +320,10 @@ impl Store for MemStore {
         ensures counts { MayRaiseWrites (⟦<MemStore as Store>⟧.counts self.old) (⟦<MemStore as Store>⟧.counts self.new) }
         ensures fails { IsTrue (next_fails (⟦<MemStore as InMemory>⟧.schedule self.old)) → OnOk result ⊥ }
         ensures shown { OnOk result (state_in (⟦<MemStore as InMemory>⟧.shown self.new) file ≡ synced (state_in (⟦<MemStore as InMemory>⟧.shown self.old) file)) }
+        ensures unchanged { OnErr result (⟦<MemStore as InMemory>⟧.shown self.new ≡ ⟦<MemStore as InMemory>⟧.shown self.old) }
+        ensures no_other { OnErr result (IsTrue (next_fails (⟦<MemStore as InMemory>⟧.schedule self.old)) ⊎ Rose (⟦<MemStore as InMemory>⟧.refused self.old) (⟦<MemStore as InMemory>⟧.refused self.new)) }
+        ensures no_refusal { OnOk result (⟦<MemStore as InMemory>⟧.refused self.new ≡ ⟦<MemStore as InMemory>⟧.refused self.old) }
+        ensures others { OnOk result ((g : ℕ) → g ≢ file → state_in (⟦<MemStore as InMemory>⟧.shown self.new) g ≡ kept false (state_in (⟦<MemStore as InMemory>⟧.shown self.old) g)) }
         ensures schedule { ⟦<MemStore as InMemory>⟧.schedule self.new ≡ called (⟦<MemStore as InMemory>⟧.schedule self.old) }
     {
         let fails = next_call_fails(&self.fails, self.fail_from, &mut self.next_call);
@@ -296,6 +334,7 @@ impl Store for MemStore {
         match files::sync(self.alloc, &mut self.current, &mut self.past, file) {
             Ok(()) => Ok(()),
             Err(Memory) => {
+                self.refused = self.refused.saturating_add(1);
                 self.writes = self.writes.saturating_add(1);
                 Err(Failed)
             }
@@ -310,6 +349,10 @@ impl Store for MemStore {
         ensures counts { MayRaiseRemoves (⟦<MemStore as Store>⟧.counts self.old) (⟦<MemStore as Store>⟧.counts self.new) }
         ensures fails { IsTrue (next_fails (⟦<MemStore as InMemory>⟧.schedule self.old)) → OnOk result ⊥ }
         ensures shown { OnOk result (state_in (⟦<MemStore as InMemory>⟧.shown self.new) file ≡ removed (state_in (⟦<MemStore as InMemory>⟧.shown self.old) file)) }
+        ensures unchanged { OnErr result (⟦<MemStore as InMemory>⟧.shown self.new ≡ ⟦<MemStore as InMemory>⟧.shown self.old) }
+        ensures no_other { OnErr result (IsTrue (next_fails (⟦<MemStore as InMemory>⟧.schedule self.old)) ⊎ Rose (⟦<MemStore as InMemory>⟧.refused self.old) (⟦<MemStore as InMemory>⟧.refused self.new)) }
+        ensures no_refusal { OnOk result (⟦<MemStore as InMemory>⟧.refused self.new ≡ ⟦<MemStore as InMemory>⟧.refused self.old) }
+        ensures others { (g : ℕ) → g ≢ file → state_in (⟦<MemStore as InMemory>⟧.shown self.new) g ≡ state_in (⟦<MemStore as InMemory>⟧.shown self.old) g }
         ensures schedule { ⟦<MemStore as InMemory>⟧.schedule self.new ≡ called (⟦<MemStore as InMemory>⟧.schedule self.old) }
     {
         let fails = next_call_fails(&self.fails, self.fail_from, &mut self.next_call);
@@ -320,6 +363,7 @@ impl Store for MemStore {
         match files::remove(self.alloc, &mut self.current, &mut self.past, file) {
             Ok(()) => Ok(()),
             Err(Memory) => {
+                self.refused = self.refused.saturating_add(1);
                 self.removes = self.removes.saturating_add(1);
                 Err(Failed)
             }
@@ -336,6 +380,7 @@ impl Store for MemStore {
         ensures taken { (⟦<MemStore as Store>⟧.counts self.new).taken ≡ (⟦<MemStore as Store>⟧.counts self.old).taken }
         ensures fails { IsTrue (next_fails (⟦<MemStore as InMemory>⟧.schedule self.old)) → OnOk result ⊥ }
         ensures no_other { OnErr result (IsTrue (next_fails (⟦<MemStore as InMemory>⟧.schedule self.old))) }
+        ensures same { (⟦<MemStore as InMemory>⟧.shown self.new ≡ ⟦<MemStore as InMemory>⟧.shown self.old) × (⟦<MemStore as InMemory>⟧.refused self.new ≡ ⟦<MemStore as InMemory>⟧.refused self.old) }
         ensures schedule { ⟦<MemStore as InMemory>⟧.schedule self.new ≡ called (⟦<MemStore as InMemory>⟧.schedule self.old) }
     {
         let fails = next_call_fails(&self.fails, self.fail_from, &mut self.next_call);

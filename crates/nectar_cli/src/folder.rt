@@ -11,8 +11,8 @@ use std::{fs, io};
 /// The most files that are kept open.
 const MAX_OPEN: usize = 16;
 
-/// A folder: file n is `n.nxt`, n in decimal without leading zeros, and other names aren't looked at. A folder in it with
-/// such a name is no file: it isn't listed, and calls on its number are errors.
+/// A folder: file n is `n.nxt`, n in decimal without leading zeros, and other names aren't looked at. A
+/// folder in it with such a name is no file: it isn't listed, and calls on its number are errors.
 #[derive(Drop)]
 pub struct Folder<'a, R> {
     runtime: &'a R,
@@ -75,7 +75,8 @@ impl<'a, R: AllocGlobal + Files<File = File>> Folder<'a, R> {
         }
     }
 
-    /// Writes the bytes at `at`, and makes the file where it isn't there. No bytes make a shorter file that long too.
+    /// Writes the bytes at `at`, and makes the file where it isn't there. No bytes make a shorter file that
+    /// long too.
     pub fn write(&mut self, number: u64, at: u64, bytes: &[u8]) -> io::Result<()> {
         match self.place(number, true)? {
             Some(place) if bytes.is_empty() => lengthen_shorter(&self.open[place].file, at),
@@ -188,7 +189,8 @@ impl<R> Folder<'_, R> {
 }
 
 impl<R: AllocGlobal + Files<File = File> + Clone + Drop> Folder<'_, R> {
-    /// The least number of a file that is there, at or above `from`. The folder is listed at the first call alone.
+    /// The least number of a file that is there, at or above `from`. The folder is listed at the first call
+    /// alone.
     pub fn next_file(&mut self, from: u64) -> io::Result<Option<u64>>
         ensures { IfOk result (λ next. IfSome next (λ number. from ≤ number)) }
     {

@@ -16,8 +16,8 @@ const MAX_TEXT_LEN: usize = 1_000;
 /// The least byte of a text.
 const MIN_TEXT_BYTE: u8 = 0x20;
 
-/// A text: UTF-8 without a byte below 0x20, of 1,000 bytes at most. The rule is this project's own. Contracts see
-/// it as its bytes. Texts are ordered by their bytes.
+/// A text: UTF-8 without a byte below 0x20, of 1,000 bytes at most. The rule is this project's own. Contracts
+/// see it as its bytes. Texts are ordered by their bytes.
 #[derive(Debug, PartialEq, Eq, PartialOrd, Ord, Hash, Drop)]
 pub struct Txt {
     bytes: Seq<u8>,
@@ -48,8 +48,8 @@ impl Model for Txt {
 }
 
 impl Txt {
-    /// The text with these bytes: `NotText` exactly where they are not UTF-8 or one is below 0x20, else `TooLong`
-    /// exactly where they are more than 1,000.
+    /// The text with these bytes: `NotText` exactly where they are not UTF-8 or one is below 0x20, else
+    /// `TooLong` exactly where they are more than 1,000.
     pub fn new(alloc: Global, bytes: &[u8]) -> Result<Txt, TxtRefusal>
         ensures bytes { IfOk result (λ text. text ≡ bytes.now) }
         ensures text { IfOk result (λ text. IsTxt text) }

@@ -13,8 +13,8 @@ returns-in-Ok-read-clause-committed c ok =
     (outcome_of_committed c.commit.result _ _ c.args.file (c.args.body.now ∷ []) _ c.in-Ok.ensures.file (sym c.is_ok-committed.ensures.value ∙ ok)
     c.commit.ensures.file (c.commit.ensures.committed refl [] (c.in-Ok.ensures.made refl)) (c.in-Ok-image.ensures.image c.args.file))
 
-pub returns-clause-is_log : goal.returns-clause-is_log
-returns-clause-is_log c at is =
+pub returns-in-Err-read-clause-is_log : goal.returns-in-Err-read-clause-is_log
+returns-in-Err-read-clause-is_log c at is =
     is_log_left c.one_reading.ensures.not_both c.args.body.now _ at
     (left_of_run _ _ _ _ _ _ c.in-Ok.ensures.file (c.commit.ensures.crash refl [] (c.in-Ok.ensures.made refl)) c.in-Ok-image.ensures.image)
     (c.in-Err-read.ensures.not_log refl at (same_error c.in-Err-read.refusal _ is))

@@ -1,0 +1,88 @@
+//! Texts of plans over the streams `l (t:text, id:int)` and `r (k:text, v:int)`, with numbers in place of names.
+
+use crate::texts::refused;
+use anyhow::Result;
+use plan_core::{Plan, PlanRefusal, Schemas, type_plan};
+use plan_text::{BindRefusal, NamedPlan, Stream, bind as bind_plan, parse_plan};
+use rows_core::{Column, Kind, Name, Schema, Seq};
+use std::alloc::Global;
+
+/// The plan with numbers, or why there is none.
+pub fn bind(alloc: Global, text: &[u8]) -> Result<String> {
+    let plan = match parse_plan(alloc, text) {
+        Ok(plan) => plan,
+        Err(refusal) => return refused(alloc, refusal),
+    };
+    match bound(alloc, &plan)? {
+        Ok(bound) => Ok(format!(in alloc; "{bound:?}")?),
+        Err(BindRefusal::Unknown(name)) => {
+            let name = std::str::from_utf8(name.bytes())?;
+            Ok(format!(in alloc; "unknown {name}")?)
+        }
+        Err(BindRefusal::IllTyped) => Ok(String::from_str(alloc, "ill typed")?),
+        Err(BindRefusal::Memory) => Ok(String::from_str(alloc, "memory")?),
+    }
+}
+
+/// Whether the plan with numbers has a typing.
+pub fn typing(alloc: Global, text: &[u8]) -> Result<String> {
+    let bound = bound(alloc, &parse_plan(alloc, text)?)??;
+    let answer = match type_plan(alloc, bound, &kinds(alloc)?) {
+        Ok(_) => "typed",
+        Err(PlanRefusal::IllTyped) => "ill typed",
+        Err(_) => "another refusal",
+    };
+    Ok(String::from_str(alloc, answer)?)
+}
+
+/// A stream, kept as the cases need it.
+#[derive(Drop)]
+struct KeptStream {
+    name: Name,
+    schema: Schema,
+}
+
+impl Stream for KeptStream {
+    ghost name_of = { λ stream. stream.name };
+
+    ghost columns_of = { λ stream. stream.schema };
+
+    fn name(&self) -> &Name {
+        &self.name
+    }
+
+    fn schema(&self) -> &Schema {
+        &self.schema
+    }
+}
+
+fn bound(alloc: Global, plan: &NamedPlan) -> Result<Result<Plan, BindRefusal>> {
+    let left = kept(alloc, b"l", b"t", b"id")?;
+    let right = kept(alloc, b"r", b"k", b"v")?;
+    let streams = vec![in alloc; left, right]?;
+    Ok(bind_plan(alloc, plan, streams.as_slice()))
+}
+
+/// The stream of this name with a column of texts and one of numbers.
+fn kept(alloc: Global, name: &[u8], text: &[u8], number: &[u8]) -> Result<KeptStream> {
+    let first = Column {
+        name: Name::new(alloc, text)?,
+        kind: Kind::Text,
+    };
+    let second = Column {
+        name: Name::new(alloc, number)?,
+        kind: Kind::Int,
+    };
+    Ok(KeptStream {
+        name: Name::new(alloc, name)?,
+        schema: Schema::new(vec![in alloc; first, second]?)?,
+    })
+}
+
+fn kinds(alloc: Global) -> Result<Schemas> {
+    let left = Seq::new(vec![in alloc; Kind::Text, Kind::Int]?);
+    let right = Seq::new(vec![in alloc; Kind::Text, Kind::Int]?);
+    Ok(Schemas {
+        kinds: Seq::new(vec![in alloc; left, right]?),
+    })
+}

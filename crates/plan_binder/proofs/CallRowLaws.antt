@@ -1,0 +1,292 @@
+-- A bound plan with a typing has a row for each call.
+use Rattle.std.proofs.Common.{◌≡◌, ◌∙◌, refl, sym, ap, ℕ, Bool, true, false, ◌||◌, cond, List, [], ◌∷◌, ◌++◌, map, slice_get, Option, None, Some, Ok}
+use Rattle.std.proofs.lemmas.Bool.{false≢true, or_from}
+use Rattle.std.specs.Option.{option_and_then, is_none, is_some}
+use Rattle.std.specs.List.{list_any}
+use Rattle.rows_core.specs.declared.schema.Column as schema
+use Rattle.rows_core.specs.Schema.{kinds_of}
+use Rattle.scalar_ops.specs.declared.cell.CellKind.{CellKind}
+use Rattle.scalar_ops.specs.declared.cell.CellKind.TheVariants as kind
+use Rattle.scalar_ops.specs.declared.table.Op.{Op}
+use Rattle.plan_core.specs.PlainExpr as bound
+use Rattle.plan_core.specs.PlainPlan.{PlainPlan, Filter, Project, Group, Join, Concat, Order}
+use Rattle.plan_core.specs.ExpressionKind.{of_both, call_kind, both_truths, choice_kind, expression_kind}
+use Rattle.plan_core.specs.PlanTyping.{Kinds, all_there, is_empty, is_truth, column_kind, column_kind_of, agg_kind, plan_kinds, filter_kinds, project_kinds, group_kinds, join_kinds, concat_kinds, order_kinds}
+use Rattle.plan_grammar.specs.declared.plan.NamedResult.{NamedResult}
+use Rattle.plan_grammar.specs.declared.plan.NamedPair.{NamedPair}
+use Rattle.plan_grammar.specs.declared.plan.NamedKey.{NamedKey}
+use Rattle.plan_grammar.specs.PlainNamed as named
+use Rattle.plan_grammar.specs.PlainNamed.{PlainColumn, PlainTree, From, Where, Select}
+use Rattle.plan_binder.specs.OpRows.{row_for}
+use Rattle.plan_binder.specs.Binding.{Names, Bound, kind_or_int, call1, call2, of_two, of_three, bound_expr, bound_agg, bound_pair, bound_key, place_of, projected, grouped, joined, bound_where, bound_select, bound_distinct, bound_group, bound_join, bound_concat, bound_order, bound_tree, absent_stream, present_or, plan_or_ill_typed, binding}
+use Rattle.plan_binder.specs.CallRows.{has_no_row, bound_kind, lacks_row, test_lacks_row, columns_lack_row, plan_lacks_row}
+use Rattle.plan_binder.proofs.OpRowLaws.{chosen_found}
+use Rattle.plan_core.proofs.ValueKinds.{then_some, map_some, both_some, unless_some, where_some}
+use Rattle.plan_binder.proofs.BoundKinds.{columns_some, bound_kinds}
+
+-- what is refused wherever it is found isn't there
+pub not_there : {A : Type 0} (o : Option A) (lacks : Bool) → ((x : A) → o ≡ Some x → lacks ≡ false) → lacks ≡ true → o ≡ None
+not_there None lacks refused e = refl
+not_there (Some x) lacks refused e = absurd (false≢true (sym (refused x refl) ∙ e))
+
+-- two parts of a list that is all there
+record AreAll {A : Type 0} (o : Option A) (os : List (Option A)) (ys : List A) : Type 0 where
+  first : A
+  others : List A
+  first_there : o ≡ Some first
+  others_there : all_there os ≡ Some others
+  both : ys ≡ first ∷ others
+
+all_cons : {A : Type 0} (o : Option A) (os : List (Option A)) (ys : List A) → all_there (o ∷ os) ≡ Some ys → AreAll o os ys
+all_cons None os ys e = absurd cc
+all_cons (Some x) os ys e = go (all_there os) refl e
+  where
+    go : (p : Option (List _)) → all_there os ≡ p → option_and_then (λ others. Some (x ∷ others)) p ≡ Some ys → AreAll (Some x) os ys
+    go None there h = absurd cc
+    go (Some zs) there h = record { first = x; others = zs; first_there = refl; others_there = there; both = cc }
+
+-- ---- one call
+
+call_row : (op : Op) (ks : List CellKind) (k : CellKind) → call_kind (row_for op (map Some ks)) ks ≡ Some k → has_no_row op (map Some ks) ≡ false
+call_row op ks k typed = ap is_none (chosen_found op ks (ap is_some typed))
+
+call1_row : (kinds : Kinds) (op : Op) (a : bound.PlainExpr) (k : CellKind)
+    → expression_kind kinds (call1 kinds op a) ≡ Some k → has_no_row op (expression_kind kinds a ∷ []) ≡ false
+call1_row kinds op a k typed = go (expression_kind kinds a) typed
+  where
+    go : (o : Option CellKind) → option_and_then (λ j. call_kind (row_for op (o ∷ [])) (j ∷ [])) o ≡ Some k → has_no_row op (o ∷ []) ≡ false
+    go None e = absurd cc
+    go (Some j) e = call_row op (j ∷ []) k e
+
+call2_row : (kinds : Kinds) (op : Op) (a b : bound.PlainExpr) (k : CellKind)
+    → expression_kind kinds (call2 kinds op a b) ≡ Some k → has_no_row op (expression_kind kinds a ∷ expression_kind kinds b ∷ []) ≡ false
+call2_row kinds op a b k typed = go (expression_kind kinds a) (expression_kind kinds b) (unless_some _ _ k typed)
+  where
+    go : (o p : Option CellKind) → of_both (λ j l. call_kind (row_for op (o ∷ p ∷ [])) (j ∷ l ∷ [])) o p ≡ Some k → has_no_row op (o ∷ p ∷ []) ≡ false
+    go (Some j) (Some l) e = call_row op (j ∷ l ∷ []) k e
+    go (Some j) None e = absurd cc
+    go None p e = absurd cc
+
+pub one_call : (kinds : Kinds) (op : Op) (a : bound.PlainExpr)
+    → has_no_row op (expression_kind kinds a ∷ []) ≡ true → expression_kind kinds (call1 kinds op a) ≡ None
+one_call kinds op a = not_there (expression_kind kinds (call1 kinds op a)) (has_no_row op (expression_kind kinds a ∷ [])) (call1_row kinds op a)
+
+pub two_call : (kinds : Kinds) (op : Op) (a b : bound.PlainExpr)
+    → has_no_row op (expression_kind kinds a ∷ expression_kind kinds b ∷ []) ≡ true → expression_kind kinds (call2 kinds op a b) ≡ None
+two_call kinds op a b =
+    not_there (expression_kind kinds (call2 kinds op a b)) (has_no_row op (expression_kind kinds a ∷ expression_kind kinds b ∷ [])) (call2_row kinds op a b)
+
+-- ---- expressions
+
+both_typed : (o p : Option CellKind) (k : CellKind) → both_truths o p ≡ Some k → (j : CellKind) × (l : CellKind) × ((o ≡ Some j) × (p ≡ Some l))
+both_typed (Some kind.Bool) (Some kind.Bool) k e = (kind.Bool, kind.Bool, (refl, refl))
+both_typed _ _ k e = absurd cc
+
+record AllTyped (o p q : Option CellKind) : Type 0 where
+  test : CellKind
+  first : CellKind
+  second : CellKind
+  test_kind : o ≡ Some test
+  first_kind : p ≡ Some first
+  second_kind : q ≡ Some second
+
+choice_typed : (o p q : Option CellKind) (k : CellKind) → choice_kind o p q ≡ Some k → AllTyped o p q
+choice_typed (Some kind.Bool) (Some j) (Some l) k e =
+    record { test = kind.Bool; first = j; second = l; test_kind = refl; first_kind = refl; second_kind = refl }
+choice_typed _ _ _ k e = absurd cc
+
+record AreTwo (make : bound.PlainExpr → bound.PlainExpr → bound.PlainExpr) (o p : Option bound.PlainExpr) (x : bound.PlainExpr) : Type 0 where
+  left : bound.PlainExpr
+  right : bound.PlainExpr
+  left_there : o ≡ Some left
+  right_there : p ≡ Some right
+  gives : make left right ≡ x
+
+two_some : (make : bound.PlainExpr → bound.PlainExpr → bound.PlainExpr) (o p : Option bound.PlainExpr) (x : bound.PlainExpr)
+    → of_two make o p ≡ Some x → AreTwo make o p x
+two_some make (Some y) (Some z) x e = record { left = y; right = z; left_there = refl; right_there = refl; gives = cc }
+two_some make (Some y) None x e = absurd cc
+two_some make None p x e = absurd cc
+
+record AreThree (o p q : Option bound.PlainExpr) (x : bound.PlainExpr) : Type 0 where
+  test : bound.PlainExpr
+  first : bound.PlainExpr
+  second : bound.PlainExpr
+  test_there : o ≡ Some test
+  first_there : p ≡ Some first
+  second_there : q ≡ Some second
+  gives : bound.If test first second ≡ x
+
+three_some : (o p q : Option bound.PlainExpr) (x : bound.PlainExpr) → of_three bound.If o p q ≡ Some x → AreThree o p q x
+three_some (Some t) (Some y) (Some z) x e =
+    record { test = t; first = y; second = z; test_there = refl; first_there = refl; second_there = refl; gives = cc }
+three_some (Some t) (Some y) None x e = absurd cc
+three_some (Some t) None q x e = absurd cc
+three_some None p q x e = absurd cc
+
+module _ (names : Names) (kinds : Kinds) where
+  abbrev HasRows : named.PlainExpr → Type 0
+  HasRows e = (x : bound.PlainExpr) (k : CellKind) → bound_expr names kinds e ≡ Some x → expression_kind kinds x ≡ Some k → lacks_row names kinds e ≡ false
+
+  kind_there : (e : named.PlainExpr) (x : bound.PlainExpr) → bound_expr names kinds e ≡ Some x → expression_kind kinds x ≡ bound_kind names kinds e
+  kind_there e x is = sym (ap (option_and_then (expression_kind kinds)) is)
+
+  of_parts : (a b : named.PlainExpr) → HasRows a → HasRows b → (x y : bound.PlainExpr) (k : CellKind)
+      → bound_expr names kinds a ≡ Some x → bound_expr names kinds b ≡ Some y → both_truths (expression_kind kinds x) (expression_kind kinds y) ≡ Some k
+      → (lacks_row names kinds a || lacks_row names kinds b) ≡ false
+  of_parts a b first second x y k is_x is_y typed =
+      let both = both_typed (expression_kind kinds x) (expression_kind kinds y) k typed in
+      or_from _ _ (first x both.0 is_x both.2.0) (second y both.1 is_y both.2.1)
+
+  typed_rows : (e : named.PlainExpr) → HasRows e
+  typed_rows (named.Column name) x k is typed = refl
+  typed_rows (named.Literal c) x k is typed = refl
+  typed_rows (named.Call1 op a) x k is typed =
+      let arg = map_some (call1 kinds op) (bound_expr names kinds a) x is in
+      let call : expression_kind kinds (call1 kinds op arg.0) ≡ Some k = ap (expression_kind kinds) arg.1.1 ∙ typed in
+      let its = then_some _ (expression_kind kinds arg.0) k call in
+      or_from _ _ (ap (λ o. has_no_row op (o ∷ [])) (sym (kind_there a arg.0 arg.1.0)) ∙ call1_row kinds op arg.0 k call) (typed_rows a arg.0 its.0 arg.1.0 its.1.0)
+  typed_rows (named.Call2 op a b) x k is typed =
+      let args = two_some (call2 kinds op) (bound_expr names kinds a) (bound_expr names kinds b) x is in
+      let call : expression_kind kinds (call2 kinds op args.left args.right) ≡ Some k = ap (expression_kind kinds) args.gives ∙ typed in
+      let its = both_some _ (expression_kind kinds args.left) (expression_kind kinds args.right) k (unless_some _ _ k call) in
+      or_from _ _
+      (or_from _ _
+      ((λ i. has_no_row op (sym (kind_there a args.left args.left_there) i ∷ sym (kind_there b args.right args.right_there) i ∷ []))
+      ∙ call2_row kinds op args.left args.right k call)
+      (typed_rows a args.left its.left args.left_there its.left_there))
+      (typed_rows b args.right its.right args.right_there its.right_there)
+  typed_rows (named.And a b) x k is typed =
+      let parts = two_some bound.And (bound_expr names kinds a) (bound_expr names kinds b) x is in
+      of_parts a b (typed_rows a) (typed_rows b) parts.left parts.right k parts.left_there parts.right_there (ap (expression_kind kinds) parts.gives ∙ typed)
+  typed_rows (named.Or a b) x k is typed =
+      let parts = two_some bound.Or (bound_expr names kinds a) (bound_expr names kinds b) x is in
+      of_parts a b (typed_rows a) (typed_rows b) parts.left parts.right k parts.left_there parts.right_there (ap (expression_kind kinds) parts.gives ∙ typed)
+  typed_rows (named.If c a b) x k is typed =
+      let parts = three_some (bound_expr names kinds c) (bound_expr names kinds a) (bound_expr names kinds b) x is in
+      let its = choice_typed (expression_kind kinds parts.test) (expression_kind kinds parts.first) (expression_kind kinds parts.second) k
+      (ap (expression_kind kinds) parts.gives ∙ typed) in
+      or_from _ _
+      (or_from _ _ (typed_rows c parts.test its.test parts.test_there its.test_kind) (typed_rows a parts.first its.first parts.first_there its.first_kind))
+      (typed_rows b parts.second its.second parts.second_there its.second_kind)
+
+  pub call_inside : (e : named.PlainExpr) (x : bound.PlainExpr) → bound_expr names kinds e ≡ Some x → lacks_row names kinds e ≡ true → expression_kind kinds x ≡ None
+  call_inside e x is = not_there (expression_kind kinds x) (lacks_row names kinds e) (λ k typed. typed_rows e x k is typed)
+
+  columns_rows : (columns : List PlainColumn) (exprs : List bound.PlainExpr) (ks : Kinds)
+      → all_there (map (λ column. bound_expr names kinds column.expr) columns) ≡ Some exprs → all_there (map (column_kind_of kinds) exprs) ≡ Some ks
+      → list_any (λ column. lacks_row names kinds column.expr) columns ≡ false
+  columns_rows [] exprs ks is typed = refl
+  columns_rows (column ∷ columns) exprs ks is typed =
+      let bounds = all_cons (bound_expr names kinds column.expr) (map (λ c. bound_expr names kinds c.expr) columns) exprs is in
+      let typeds = all_cons (column_kind_of kinds bounds.first) (map (column_kind_of kinds) bounds.others) ks
+      (ap (λ (es : List bound.PlainExpr). all_there (map (column_kind_of kinds) es)) (sym bounds.both) ∙ typed) in
+      let its = then_some column_kind (expression_kind kinds bounds.first) typeds.first typeds.first_there in
+      or_from _ _ (typed_rows column.expr bounds.first its.0 bounds.first_there its.1.0)
+      (columns_rows columns bounds.others typeds.others bounds.others_there typeds.others_there)
+
+-- ---- plans
+
+truth_typed : {A : Type 0} (o : Option CellKind) (x y : A) → cond (is_truth o) (Some x) None ≡ Some y → (k : CellKind) × (o ≡ Some k)
+truth_typed (Some k) x y e = (k, refl)
+truth_typed None x y e = absurd cc
+
+module _ (streams : Names) (schemas : List (List schema.Column)) where
+  abbrev lacks : PlainTree → Bool
+  lacks tree = plan_lacks_row streams schemas tree
+
+  abbrev typing : PlainPlan → Option Kinds
+  typing plan = plan_kinds (map kinds_of schemas) plan
+
+  abbrev bound_to : PlainTree → Option Bound
+  bound_to tree = bound_tree streams schemas tree
+
+  abbrev PlanHasRows : PlainTree → Type 0
+  PlanHasRows tree = (b : Bound) (kinds : Kinds) → bound_to tree ≡ Some b → typing b.plan ≡ Some kinds → lacks tree ≡ false
+
+  where_rows : (child : PlainTree) (test : named.PlainExpr) → PlanHasRows child → PlanHasRows (Where child test)
+  where_rows child test below b kinds is typed =
+      let input = then_some (bound_where test) (bound_to child) b is in
+      let e = map_some (λ e. record { plan = Filter input.0.plan e; names = input.0.names; kinds = input.0.kinds }) (bound_expr input.0.names input.0.kinds test) b input.1.1 in
+      let its = then_some (filter_kinds e.0) (typing input.0.plan) kinds (ap (λ (x : Bound). typing x.plan) e.1.1 ∙ typed) in
+      let same = bound_kinds streams schemas child input.0 input.1.0 its.0 its.1.0 in
+      let truth = truth_typed (expression_kind its.0 e.0) its.0 kinds its.1.1 in
+      or_from _ _
+      (ap (test_lacks_row test) input.1.0
+      ∙ typed_rows input.0.names input.0.kinds test e.0 truth.0 e.1.0 (ap (λ (ks : Kinds). expression_kind ks e.0) same ∙ truth.1))
+      (below input.0 its.0 input.1.0 its.1.0)
+
+  select_rows : (child : PlainTree) (columns : List PlainColumn) → PlanHasRows child → PlanHasRows (Select child columns)
+  select_rows child columns below b kinds is typed =
+      let input = then_some (bound_select columns) (bound_to child) b is in
+      let names : Names = map (λ column. column.name) columns in
+      let exprs = then_some (projected input.0 names) (all_there (map (λ column. bound_expr input.0.names input.0.kinds column.expr) columns)) b input.1.1 in
+      let plan = columns_some (Project input.0.plan exprs.0) names (map (λ e. kind_or_int (column_kind_of input.0.kinds e)) exprs.0) b exprs.1.1 in
+      let its = then_some (project_kinds exprs.0) (typing input.0.plan) kinds (ap (λ (x : Bound). typing x.plan) plan ∙ typed) in
+      let same = bound_kinds streams schemas child input.0 input.1.0 its.0 its.1.0 in
+      or_from _ _
+      (ap (columns_lack_row columns) input.1.0
+      ∙ columns_rows input.0.names input.0.kinds columns exprs.0 kinds exprs.1.0
+      (ap (λ (ks : Kinds). all_there (map (column_kind_of ks) exprs.0)) same ∙ unless_some (is_empty exprs.0) (all_there (map (column_kind_of its.0) exprs.0)) kinds its.1.1))
+      (below input.0 its.0 input.1.0 its.1.0)
+
+  distinct_rows : (child : PlainTree) → PlanHasRows child → PlanHasRows (named.Distinct child)
+  distinct_rows child below b kinds is typed =
+      let input = map_some bound_distinct (bound_to child) b is in
+      below input.0 kinds input.1.0 (ap (λ (x : Bound). typing x.plan) input.1.1 ∙ typed)
+
+  group_rows : (child : PlainTree) (keys : Names) (results : List NamedResult) → PlanHasRows child → PlanHasRows (named.Group child keys results)
+  group_rows child keys results below b kinds is typed =
+      let input = then_some (bound_group keys results) (bound_to child) b is in
+      let names : Names = keys ++ map (λ result. result.name) results in
+      let both = both_some (grouped input.0 names) (all_there (map (place_of input.0.names) keys)) (all_there (map (λ result. bound_agg input.0.names result.agg) results)) b input.1.1 in
+      let plan = columns_some (Group input.0.plan both.left both.right) names
+      (map (λ place. kind_or_int (slice_get input.0.kinds place)) both.left ++ map (λ a. kind_or_int (agg_kind input.0.kinds a)) both.right) b both.gives in
+      let its = then_some (group_kinds both.left both.right) (typing input.0.plan) kinds (ap (λ (x : Bound). typing x.plan) plan ∙ typed) in
+      below input.0 its.0 input.1.0 its.1.0
+
+  order_rows : (child : PlainTree) (keys : List NamedKey) → PlanHasRows child → PlanHasRows (named.Order child keys)
+  order_rows child keys below b kinds is typed =
+      let input = then_some (bound_order keys) (bound_to child) b is in
+      let places = map_some (λ places. record { plan = Order input.0.plan places; names = input.0.names; kinds = input.0.kinds }) (all_there (map (bound_key input.0.names) keys)) b input.1.1 in
+      let its = then_some (order_kinds places.0) (typing input.0.plan) kinds (ap (λ (x : Bound). typing x.plan) places.1.1 ∙ typed) in
+      below input.0 its.0 input.1.0 its.1.0
+
+  join_rows : (left right : PlainTree) (on : List NamedPair) → PlanHasRows left → PlanHasRows right → PlanHasRows (named.Join left right on)
+  join_rows left right on first second b kinds is typed =
+      let both = both_some (bound_join on) (bound_to left) (bound_to right) b is in
+      let pairs = then_some (joined both.left both.right) (all_there (map (bound_pair both.left.names both.right.names) on)) b both.gives in
+      let plan = columns_some (Join both.left.plan both.right.plan pairs.0) (both.left.names ++ both.right.names) (both.left.kinds ++ both.right.kinds) b pairs.1.1 in
+      let its = both_some (join_kinds pairs.0) (typing both.left.plan) (typing both.right.plan) kinds (ap (λ (x : Bound). typing x.plan) plan ∙ typed) in
+      or_from _ _ (first both.left its.left both.left_there its.left_there) (second both.right its.right both.right_there its.right_there)
+
+  concat_rows : (left right : PlainTree) → PlanHasRows left → PlanHasRows right → PlanHasRows (named.Concat left right)
+  concat_rows left right first second b kinds is typed =
+      let both = both_some bound_concat (bound_to left) (bound_to right) b is in
+      let plan = where_some true (record { plan = Concat both.left.plan both.right.plan; names = both.left.names; kinds = both.left.kinds }) b both.gives in
+      let its = both_some concat_kinds (typing both.left.plan) (typing both.right.plan) kinds (ap (λ (x : Bound). typing x.plan) plan ∙ typed) in
+      or_from _ _ (first both.left its.left both.left_there its.left_there) (second both.right its.right both.right_there its.right_there)
+
+  plan_rows : (tree : PlainTree) → PlanHasRows tree
+  plan_rows (From stream) = λ b kinds is typed. refl
+  plan_rows (Where child test) = where_rows child test (plan_rows child)
+  plan_rows (Select child columns) = select_rows child columns (plan_rows child)
+  plan_rows (named.Distinct child) = distinct_rows child (plan_rows child)
+  plan_rows (named.Group child keys results) = group_rows child keys results (plan_rows child)
+  plan_rows (named.Join left right on) = join_rows left right on (plan_rows left) (plan_rows right)
+  plan_rows (named.Concat left right) = concat_rows left right (plan_rows left) (plan_rows right)
+  plan_rows (named.Order child keys) = order_rows child keys (plan_rows child)
+
+  bound_plan : (tree : PlainTree) (plan : PlainPlan) → binding streams schemas tree ≡ Ok plan → (b : Bound) × ((bound_to tree ≡ Some b) × (b.plan ≡ plan))
+  bound_plan tree plan is = go (absent_stream streams tree) (bound_to tree) refl is
+    where
+      go : (absent : Option (List ℕ)) (o : Option Bound) → bound_to tree ≡ o → present_or absent (plan_or_ill_typed o) ≡ Ok plan
+          → (b : Bound) × ((bound_to tree ≡ Some b) × (b.plan ≡ plan))
+      go None (Some b) there e = (b, (there, cc))
+      go None None there e = absurd cc
+      go (Some stream) o there e = absurd cc
+
+  pub plan_without_row : (tree : PlainTree) (plan : PlainPlan) → binding streams schemas tree ≡ Ok plan → lacks tree ≡ true → typing plan ≡ None
+  plan_without_row tree plan is =
+      let b = bound_plan tree plan is in
+      not_there (typing plan) (lacks tree) (λ kinds typed. plan_rows tree b.0 kinds b.1.0 (ap typing b.1.1 ∙ typed))

@@ -1,0 +1,6 @@
+pub mod BindingLaws
+pub mod BoundKinds
+pub mod BoundLeaves
+pub mod CallRowLaws
+pub mod OpRowLaws
+pub mod BindingExamples

@@ -1,0 +1,65 @@
+//! Rows of the table of operations.
+ghost use Rattle.std.specs.Prelude.{◌≡◌, ◌<◌, [], ◌∷◌, IfSome};
+ghost use Rattle.std.specs.List.{position};
+ghost use Rattle.scalar_ops.specs.Table.{same_op};
+ghost use Rattle.plan_binder.specs.OpRows.{row_with, first_row, row_for};
+
+use scalar_ops::{CellKind, OPS, Op, OpTable};
+
+/// The row for this operation at an argument of this kind.
+pub fn row_for_one(op: Op, kind: Option<CellKind>) -> u32
+    ensures { result ≡ row_for op (kind ∷ []) }
+{
+    let found = match kind {
+        Some(kind) => row_with(op, &[kind]),
+        None => None,
+    };
+    found.unwrap_or(first_row(op))
+}
+
+/// The row for this operation at arguments of these kinds.
+pub fn row_for_two(op: Op, left: Option<CellKind>, right: Option<CellKind>) -> u32
+    ensures { result ≡ row_for op (left ∷ right ∷ []) }
+{
+    let found = match (left, right) {
+        (Some(left), Some(right)) => row_with(op, &[left, right]),
+        _ => None,
+    };
+    found.unwrap_or(first_row(op))
+}
+
+/// The row with this operation and these kinds.
+#[tactic(auto, using(crate::proofs::OpRowLaws::row_below), unfolding(crate::specs::OpRows::row_with))]
+fn row_with(op: Op, kinds: &[CellKind]) -> Option<u32>
+    ensures { result ≡ row_with op kinds.now }
+{
+    let table = OPS;
+    match table.find(op, kinds) {
+        Some(row) => Some(row as u32),
+        None => None,
+    }
+}
+
+/// The first row with this operation.
+#[tactic(auto, using(crate::proofs::OpRowLaws::first_below), unfolding(crate::specs::OpRows::first_row))]
+fn first_row(op: Op) -> u32
+    ensures { result ≡ first_row op }
+{
+    let table = OPS;
+    match first_in(&table, op) {
+        Some(row) => row as u32,
+        None => 0,
+    }
+}
+
+fn first_in(table: &OpTable<24>, op: Op) -> Option<usize>
+    ensures { result ≡ position (λ row. same_op row.op op) table.now.rows }
+{
+    table.rows.iter().position(|row| same_op(row.op, op))
+}
+
+fn same_op(a: Op, b: Op) -> bool
+    ensures { result ≡ same_op a b }
+{
+    a == b
+}

@@ -1,0 +1,141 @@
+//! The names and kinds of a result's columns.
+ghost use Rattle.std.specs.Prelude.{◌≡◌, ◌++◌, map, slice_get, IfOk};
+ghost use Rattle.rows_core.specs.Schema.{kinds_of};
+ghost use Rattle.plan_core.specs.PlainExpr as bound;
+ghost use Rattle.plan_core.specs.PlanTyping.{column_kind_of, agg_kind};
+ghost use Rattle.plan_binder.specs.Binding.{kind_or_int};
+
+use plan_core::{Agg, Expr, expression_kind};
+use plan_grammar::{NamedColumn, NamedResult};
+use rows_core::{Column, Kind, Memory, Name};
+use scalar_ops::CellKind;
+use std::alloc::Global;
+
+pub fn schema_names(alloc: Global, columns: &[Column]) -> Result<Vec<Name>, Memory>
+    ensures { IfOk result (λ names. names.items ≡ map (λ column. column.name) columns.now) }
+{
+    let mut names = Vec::with_capacity(alloc, columns.len())?;
+    for column in columns {
+        names.push(column.name.try_copy(alloc)?)?;
+    }
+    Ok(names)
+}
+
+pub fn schema_kinds(alloc: Global, columns: &[Column]) -> Result<Vec<Kind>, Memory>
+    ensures { IfOk result (λ kinds. kinds.items ≡ kinds_of columns.now) }
+{
+    Ok(columns.iter().map(|column| column.kind).collect(alloc)?)
+}
+
+pub fn column_names(alloc: Global, columns: &[NamedColumn]) -> Result<Vec<Name>, Memory>
+    ensures { IfOk result (λ names. names.items ≡ map (λ column. column.name) columns.now) }
+{
+    let mut names = Vec::with_capacity(alloc, columns.len())?;
+    for column in columns {
+        names.push(column.name.try_copy(alloc)?)?;
+    }
+    Ok(names)
+}
+
+/// The kinds of these expressions as columns. One that has none counts as a number: typing refuses its plan.
+pub fn expr_kinds(alloc: Global, kinds: &[Kind], exprs: &[Expr]) -> Result<Vec<Kind>, Memory>
+    ensures { IfOk result (λ found. found.items ≡ map (λ e. kind_or_int (column_kind_of kinds.now (bound.expr_of e))) exprs.now) }
+{
+    Ok(
+        exprs
+            .iter()
+            .map(|expr| expr_kind(kinds, expr))
+            .collect(alloc)?,
+    )
+}
+
+fn expr_kind(kinds: &[Kind], expr: &Expr) -> Kind
+    ensures { result ≡ kind_or_int (column_kind_of kinds.now (bound.expr_of expr.now)) }
+{
+    match expression_kind(kinds, expr) {
+        Some(CellKind::Text) => Kind::Text,
+        _ => Kind::Int,
+    }
+}
+
+/// A second list of the same names.
+fn copy_names(alloc: Global, names: &[Name]) -> Result<Vec<Name>, Memory>
+    ensures { IfOk result (λ copies. copies.items ≡ names.now) }
+{
+    let mut copies = Vec::with_capacity(alloc, names.len())?;
+    for name in names {
+        copies.push(name.try_copy(alloc)?)?;
+    }
+    Ok(copies)
+}
+
+/// The names of a group's columns: its keys and then its results.
+pub fn group_names(
+    alloc: Global,
+    keys: &[Name],
+    results: &[NamedResult],
+) -> Result<Vec<Name>, Memory>
+    ensures { IfOk result (λ names. names.items ≡ keys.now ++ map (λ result. result.name) results.now) }
+{
+    let mut names = copy_names(alloc, keys)?;
+    for result in results {
+        names.push(result.name.try_copy(alloc)?)?;
+    }
+    Ok(names)
+}
+
+/// The kinds of a group's columns.
+pub fn group_kinds(
+    alloc: Global,
+    kinds: &[Kind],
+    places: &[u32],
+    aggs: &[Agg],
+) -> Result<Vec<Kind>, Memory>
+    ensures { IfOk result (λ found. found.items
+        ≡ map (λ place. kind_or_int (slice_get kinds.now place)) places.now ++ map (λ agg. kind_or_int (agg_kind kinds.now agg)) aggs.now) }
+{
+    let mut found = place_kinds(alloc, kinds, places)?;
+    let others = agg_kinds(alloc, kinds, aggs)?;
+    found.extend_from_slice(others.as_slice())?;
+    Ok(found)
+}
+
+/// The kinds of the columns at these places.
+fn place_kinds(alloc: Global, kinds: &[Kind], places: &[u32]) -> Result<Vec<Kind>, Memory>
+    ensures { IfOk result (λ found. found.items ≡ map (λ place. kind_or_int (slice_get kinds.now place)) places.now) }
+{
+    Ok(
+        places
+            .iter()
+            .map(|place| place_kind(kinds, *place))
+            .collect(alloc)?,
+    )
+}
+
+fn place_kind(kinds: &[Kind], place: u32) -> Kind
+    ensures { result ≡ kind_or_int (slice_get kinds.now place) }
+{
+    match kinds.get(place as usize) {
+        Some(kind) => *kind,
+        None => Kind::Int,
+    }
+}
+
+/// The kinds of these aggregates.
+fn agg_kinds(alloc: Global, kinds: &[Kind], aggs: &[Agg]) -> Result<Vec<Kind>, Memory>
+    ensures { IfOk result (λ found. found.items ≡ map (λ agg. kind_or_int (agg_kind kinds.now agg)) aggs.now) }
+{
+    Ok(aggs.iter().map(|agg| agg_kind(kinds, *agg)).collect(alloc)?)
+}
+
+#[tactic(auto, using(crate::proofs::BindingLaws::number_or_int))]
+fn agg_kind(kinds: &[Kind], agg: Agg) -> Kind
+    ensures { result ≡ kind_or_int (agg_kind kinds.now agg) }
+{
+    match agg {
+        Agg::Count | Agg::Sum(_) | Agg::Avg(_) => Kind::Int,
+        Agg::Min(column) | Agg::Max(column) | Agg::First(column) | Agg::Last(column) => {
+            place_kind(kinds, column)
+        }
+    }
+}

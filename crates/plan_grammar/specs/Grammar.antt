@@ -1,0 +1,179 @@
+-- The grammar of plans over tokens. What is spelled stands between two places: the tokens from `from` on, up to those of
+-- `rest`. At most `n` levels of nesting may be open within it: each parenthesis, `not` and `-` before an operand is one.
+use Prim.Native.Nat.{suc}
+use Rattle.std.specs.Prelude.{◌≡◌, ℕ, ◌<◌, Bool, if◌then◌else◌, List, [], ◌∷◌, ◌++◌, Option, None, Some, codes, ℤ, pos, neg_ℤ, FitsSigned}
+use Rattle.std.specs.Int.{w64}
+use Rattle.scalar_ops.specs.declared.cell.Cell.TheVariants as cell
+use Rattle.scalar_ops.specs.declared.table.Op.{Op}
+use Rattle.scalar_ops.specs.declared.table.Op.TheVariants as op
+use Rattle.plan_grammar.specs.declared.token.Token.{Token}
+use Rattle.plan_grammar.specs.declared.token.Token.TheVariants.{Name, Word, Number, Text, Mark}
+use Rattle.plan_grammar.specs.declared.token.Mark as the_mark
+use Rattle.plan_grammar.specs.declared.token.Mark.TheVariants as mark
+use Rattle.plan_grammar.specs.declared.token.Word as the_word
+use Rattle.plan_grammar.specs.declared.token.Word.TheVariants as word
+use Rattle.plan_grammar.specs.declared.plan.NamedAgg.{NamedAgg}
+use Rattle.plan_grammar.specs.declared.plan.NamedAgg.TheVariants as agg
+use Rattle.plan_grammar.specs.declared.plan.NamedResult.{NamedResult}
+use Rattle.plan_grammar.specs.declared.plan.NamedPair.{NamedPair}
+use Rattle.plan_grammar.specs.declared.plan.NamedKey.{NamedKey}
+use Rattle.plan_grammar.specs.PlainNamed.{PlainExpr, Column, Literal, Call1, Call2, And, Or, If, PlainColumn, PlainTree, From, Where, Select, Distinct, Group, Join, Concat, Order}
+
+abbrev pub compare_op : the_mark.Mark → Option Op
+compare_op mark.Equal = Some op.Eq
+compare_op mark.NotEqual = Some op.Ne
+compare_op mark.Less = Some op.Lt
+compare_op mark.LessEqual = Some op.Le
+compare_op mark.Greater = Some op.Gt
+compare_op mark.GreaterEqual = Some op.Ge
+compare_op _ = None
+
+-- a `-` between operands may stand directly before a digit
+abbrev pub sum_op : the_mark.Mark → Option Op
+sum_op mark.Plus = Some op.Add
+sum_op mark.Minus = Some op.Sub
+sum_op mark.Sign = Some op.Sub
+sum_op _ = None
+
+abbrev pub mul_op : the_mark.Mark → Option Op
+mul_op mark.Times = Some op.Mul
+mul_op mark.Divide = Some op.Div
+mul_op mark.Rest = Some op.Mod
+mul_op _ = None
+
+-- the functions of one argument, and of two
+abbrev pub call1_op : the_word.Word → Option Op
+call1_op word.Len = Some op.Len
+call1_op word.Abs = Some op.Abs
+call1_op _ = None
+
+abbrev pub call2_op : the_word.Word → Option Op
+call2_op word.Starts = Some op.Starts
+call2_op word.Least = Some op.Least
+call2_op word.Most = Some op.Most
+call2_op _ = None
+
+-- the rules of expressions, the loosest first
+pub data Rule : Type 0 where
+  E : Rule
+  AND : Rule
+  NOT : Rule
+  CMP : Rule
+  SUM : Rule
+  MUL : Rule
+  UN : Rule
+  ATOM : Rule
+
+-- by this rule, and with at most n levels open, the expression stands between `from` and `rest`
+pub data Spells : Rule → ℕ → PlainExpr → List Token → List Token → Type 0 where
+  -- E := AND { or AND }
+  of_and : {n : ℕ} {e : PlainExpr} {from rest : List Token} → Spells AND n e from rest → Spells E n e from rest
+  or : {n : ℕ} {a b : PlainExpr} {from mid rest : List Token} → Spells E n a from (Word word.Or ∷ mid) → Spells AND n b mid rest → Spells E n (Or a b) from rest
+  -- AND := NOT { and NOT }
+  of_not : {n : ℕ} {e : PlainExpr} {from rest : List Token} → Spells NOT n e from rest → Spells AND n e from rest
+  and : {n : ℕ} {a b : PlainExpr} {from mid rest : List Token} → Spells AND n a from (Word word.And ∷ mid) → Spells NOT n b mid rest → Spells AND n (And a b) from rest
+  -- NOT := not NOT | CMP
+  not : {n : ℕ} {a : PlainExpr} {mid rest : List Token} → Spells NOT n a mid rest → Spells NOT (suc n) (Call1 op.Not a) (Word word.Not ∷ mid) rest
+  of_cmp : {n : ℕ} {e : PlainExpr} {from rest : List Token} → Spells CMP n e from rest → Spells NOT n e from rest
+  -- CMP := SUM [ ( = | != | < | <= | > | >= ) SUM ]
+  of_sum : {n : ℕ} {e : PlainExpr} {from rest : List Token} → Spells SUM n e from rest → Spells CMP n e from rest
+  compare : {n : ℕ} {a b : PlainExpr} {from mid rest : List Token} (m : the_mark.Mark) {o : Op} → compare_op m ≡ Some o → Spells SUM n a from (Mark m ∷ mid) → Spells SUM n b mid rest → Spells CMP n (Call2 o a b) from rest
+  -- SUM := MUL { ( + | - ) MUL }
+  of_mul : {n : ℕ} {e : PlainExpr} {from rest : List Token} → Spells MUL n e from rest → Spells SUM n e from rest
+  sum : {n : ℕ} {a b : PlainExpr} {from mid rest : List Token} (m : the_mark.Mark) {o : Op} → sum_op m ≡ Some o → Spells SUM n a from (Mark m ∷ mid) → Spells MUL n b mid rest → Spells SUM n (Call2 o a b) from rest
+  -- MUL := UN { ( * | / | % ) UN }
+  of_un : {n : ℕ} {e : PlainExpr} {from rest : List Token} → Spells UN n e from rest → Spells MUL n e from rest
+  mul : {n : ℕ} {a b : PlainExpr} {from mid rest : List Token} (m : the_mark.Mark) {o : Op} → mul_op m ≡ Some o → Spells MUL n a from (Mark m ∷ mid) → Spells UN n b mid rest → Spells MUL n (Call2 o a b) from rest
+  -- UN := - UN | ATOM
+  neg : {n : ℕ} {a : PlainExpr} {mid rest : List Token} → Spells UN n a mid rest → Spells UN (suc n) (Call1 op.Neg a) (Mark mark.Minus ∷ mid) rest
+  of_atom : {n : ℕ} {e : PlainExpr} {from rest : List Token} → Spells ATOM n e from rest → Spells UN n e from rest
+  -- ATOM := INT | TEXT | true | false | NAME
+  an_int : {n number : ℕ} {rest : List Token} → FitsSigned w64 (pos number) → Spells ATOM n (Literal (cell.Int (pos number))) (Number number ∷ rest) rest
+  a_minus_int : {n number : ℕ} {z : ℤ} {rest : List Token} → z ≡ neg_ℤ (pos number) → FitsSigned w64 z → Spells ATOM n (Literal (cell.Int z)) (Mark mark.Sign ∷ Number number ∷ rest) rest
+  a_text : {n : ℕ} {t : List ℕ} {rest : List Token} → Spells ATOM n (Literal (cell.Text t)) (Text t ∷ rest) rest
+  a_truth : {n : ℕ} {b : Bool} {rest : List Token} → Spells ATOM n (Literal (cell.Bool b)) (Word (if b then word.True else word.False) ∷ rest) rest
+  a_column : {n : ℕ} {name : List ℕ} {rest : List Token} → Spells ATOM n (Column name) (Name name ∷ rest) rest
+  -- | ( E ) | len ( E ) | abs ( E ) | starts ( E , E ) | least ( E , E ) | most ( E , E ) | if ( E , E , E )
+  in_parens : {n : ℕ} {e : PlainExpr} {mid rest : List Token} → Spells E n e mid (Mark mark.Close ∷ rest) → Spells ATOM (suc n) e (Mark mark.Open ∷ mid) rest
+  call1 : {n : ℕ} {a : PlainExpr} {mid rest : List Token} (w : the_word.Word) {o : Op} → call1_op w ≡ Some o → Spells E n a mid (Mark mark.Close ∷ rest) → Spells ATOM (suc n) (Call1 o a) (Word w ∷ Mark mark.Open ∷ mid) rest
+  call2 : {n : ℕ} {a b : PlainExpr} {mid next rest : List Token} (w : the_word.Word) {o : Op} → call2_op w ≡ Some o → Spells E n a mid (Mark mark.Comma ∷ next) → Spells E n b next (Mark mark.Close ∷ rest) → Spells ATOM (suc n) (Call2 o a b) (Word w ∷ Mark mark.Open ∷ mid) rest
+  choice : {n : ℕ} {c a b : PlainExpr} {mid next last rest : List Token} → Spells E n c mid (Mark mark.Comma ∷ next) → Spells E n a next (Mark mark.Comma ∷ last) → Spells E n b last (Mark mark.Close ∷ rest) → Spells ATOM (suc n) (If c a b) (Word word.If ∷ Mark mark.Open ∷ mid) rest
+
+-- what may stand behind an expression in a plan: nothing, a bar, a comma or a parenthesis that closes
+abbrev pub EndsExpr : List Token → Type 0
+EndsExpr [] = Unit {0}
+EndsExpr (Mark mark.Bar ∷ rest) = Unit {0}
+EndsExpr (Mark mark.Comma ∷ rest) = Unit {0}
+EndsExpr (Mark mark.Close ∷ rest) = Unit {0}
+EndsExpr _ = ⊥
+
+-- what may stand behind a plan: nothing, or a parenthesis that closes
+abbrev pub EndsPlan : List Token → Type 0
+EndsPlan [] = Unit {0}
+EndsPlan (Mark mark.Close ∷ rest) = Unit {0}
+EndsPlan _ = ⊥
+
+-- one item or more, with a comma between any two
+abbrev pub Listed : {A : Type 0} → (A → List Token → List Token → Type 0) → List A → List Token → List Token → Type 0
+Listed Item [] from rest = ⊥
+Listed Item (x ∷ []) from rest = Item x from rest
+Listed Item (x ∷ y ∷ more) from rest = (mid : List Token) × Item x from (Mark mark.Comma ∷ mid) × Listed Item (y ∷ more) mid rest
+
+-- NAME
+abbrev pub SpellsName : List ℕ → List Token → List Token → Type 0
+SpellsName name from rest = from ≡ Name name ∷ rest
+
+-- NAME = E
+abbrev pub SpellsColumn : ℕ → PlainColumn → List Token → List Token → Type 0
+SpellsColumn n column from rest = (mid : List Token) × (from ≡ Name column.name ∷ Mark mark.Equal ∷ mid) × Spells E n column.expr mid rest
+
+-- NAME = NAME
+abbrev pub SpellsPair : NamedPair → List Token → List Token → Type 0
+SpellsPair pair from rest = from ≡ Name pair.left ∷ Mark mark.Equal ∷ Name pair.right ∷ rest
+
+-- NAME [desc]
+abbrev pub SpellsKey : NamedKey → List Token → List Token → Type 0
+SpellsKey key from rest = from ≡ Name key.column ∷ (if key.down then Word word.Desc ∷ rest else rest)
+
+-- the names of aggregates are no reserved words
+abbrev pub agg_word : NamedAgg → List ℕ
+agg_word agg.Count = codes "count"
+agg_word (agg.Sum column) = codes "sum"
+agg_word (agg.Min column) = codes "min"
+agg_word (agg.Max column) = codes "max"
+agg_word (agg.First column) = codes "first"
+agg_word (agg.Last column) = codes "last"
+agg_word (agg.Avg column) = codes "avg"
+
+abbrev pub agg_argument : NamedAgg → List Token
+agg_argument agg.Count = []
+agg_argument (agg.Sum column) = Name column ∷ []
+agg_argument (agg.Min column) = Name column ∷ []
+agg_argument (agg.Max column) = Name column ∷ []
+agg_argument (agg.First column) = Name column ∷ []
+agg_argument (agg.Last column) = Name column ∷ []
+agg_argument (agg.Avg column) = Name column ∷ []
+
+-- NAME = AGG, AGG being count ( ) | sum ( NAME ) and so on
+abbrev pub SpellsResult : ℕ → NamedResult → List Token → List Token → Type 0
+SpellsResult n result from rest =
+    (0 < n) × (from ≡ Name result.name ∷ Mark mark.Equal ∷ Name (agg_word result.agg) ∷ Mark mark.Open ∷ (agg_argument result.agg ++ Mark mark.Close ∷ rest))
+
+-- with at most n levels open, the plan stands between `from` and `rest`
+pub data SpellsPlan : ℕ → PlainTree → List Token → List Token → Type 0 where
+  -- PLAN := from NAME { | STAGE }
+  stream : {n : ℕ} {name : List ℕ} {rest : List Token} → SpellsPlan n (From name) (Word word.From ∷ Name name ∷ rest) rest
+  -- STAGE := where E
+  filter : {n : ℕ} {p : PlainTree} {test : PlainExpr} {from mid rest : List Token} → SpellsPlan n p from (Mark mark.Bar ∷ Word word.Where ∷ mid) → Spells E n test mid rest → SpellsPlan n (Where p test) from rest
+  -- | select NAME = E {, NAME = E}
+  select : {n : ℕ} {p : PlainTree} {columns : List PlainColumn} {from mid rest : List Token} → SpellsPlan n p from (Mark mark.Bar ∷ Word word.Select ∷ mid) → Listed (SpellsColumn n) columns mid rest → SpellsPlan n (Select p columns) from rest
+  -- | distinct
+  distinct : {n : ℕ} {p : PlainTree} {from rest : List Token} → SpellsPlan n p from (Mark mark.Bar ∷ Word word.Distinct ∷ rest) → SpellsPlan n (Distinct p) from rest
+  -- | group NAME {, NAME} with NAME = AGG {, NAME = AGG}
+  group : {n : ℕ} {p : PlainTree} {keys : List (List ℕ)} {results : List NamedResult} {from mid rest : List Token} (next : List Token) → SpellsPlan n p from (Mark mark.Bar ∷ Word word.Group ∷ mid) → Listed SpellsName keys mid (Word word.With ∷ next) → Listed (SpellsResult n) results next rest → SpellsPlan n (Group p keys results) from rest
+  -- | join ( PLAN ) on NAME = NAME {, NAME = NAME}
+  join : {n : ℕ} {p q : PlainTree} {on : List NamedPair} {from mid next rest : List Token} → SpellsPlan (suc n) p from (Mark mark.Bar ∷ Word word.Join ∷ Mark mark.Open ∷ mid) → SpellsPlan n q mid (Mark mark.Close ∷ Word word.On ∷ next) → Listed SpellsPair on next rest → SpellsPlan (suc n) (Join p q on) from rest
+  -- | concat ( PLAN )
+  concat : {n : ℕ} {p q : PlainTree} {from mid rest : List Token} → SpellsPlan (suc n) p from (Mark mark.Bar ∷ Word word.Concat ∷ Mark mark.Open ∷ mid) → SpellsPlan n q mid (Mark mark.Close ∷ rest) → SpellsPlan (suc n) (Concat p q) from rest
+  -- | order NAME [desc] {, NAME [desc]}
+  order : {n : ℕ} {p : PlainTree} {keys : List NamedKey} {from mid rest : List Token} → SpellsPlan n p from (Mark mark.Bar ∷ Word word.Order ∷ mid) → Listed SpellsKey keys mid rest → SpellsPlan n (Order p keys) from rest

@@ -1,0 +1,7 @@
+pub mod Token
+pub mod TextTokens
+pub mod PlainNamed
+pub mod Counts
+pub mod Grammar
+pub mod NamedCode
+pub mod Spelled

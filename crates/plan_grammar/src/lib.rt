@@ -1,0 +1,16 @@
+//! The grammar of plans: tokens, expressions and plans with names, and what texts spell them.
+#![tactic(auto)]
+
+pub mod expr;
+pub mod limit;
+pub mod named_plan;
+pub mod operator;
+pub mod plan;
+pub mod token;
+
+pub use expr::NamedExpr;
+pub use limit::PlanLimit;
+pub use named_plan::NamedPlan;
+pub use operator::Operator;
+pub use plan::{NamedAgg, NamedColumn, NamedKey, NamedPair, NamedResult, NamedTree};
+pub use token::{Mark, Token, Word};

@@ -1,0 +1,101 @@
+//! Plans with names.
+ghost use Rattle.std.specs.Prelude.{◌≡◌};
+ghost use Rattle.plan_grammar.specs.Grammar.{agg_word};
+
+use crate::expr::NamedExpr;
+use rows_core::{Name, Seq};
+
+/// A column of a projection, with the name of the result's column.
+#[derive(Debug, Drop)]
+pub struct NamedColumn {
+    pub name: Name,
+    pub expr: NamedExpr,
+}
+
+/// An aggregate of a group, over a column that it names.
+#[derive(Debug, Drop)]
+pub enum NamedAgg {
+    Count,
+    Sum(Name),
+    Min(Name),
+    Max(Name),
+    First(Name),
+    Last(Name),
+    Avg(Name),
+}
+
+/// An aggregate, with the name of the result's column.
+#[derive(Debug, Drop)]
+pub struct NamedResult {
+    pub name: Name,
+    pub agg: NamedAgg,
+}
+
+/// Two columns that must be equal, of the left and of the right input of a join.
+#[derive(Debug, Drop)]
+pub struct NamedPair {
+    pub left: Name,
+    pub right: Name,
+}
+
+/// A key of an order, from the greatest value down where it is `down`.
+#[derive(Debug, Drop)]
+pub struct NamedKey {
+    pub column: Name,
+    pub down: bool,
+}
+
+/// The operators of a plan with names. Contracts see it as `tree_of` says it, without its boxes.
+#[derive(Debug, Drop)]
+pub enum NamedTree {
+    /// The rows of a stream.
+    From {
+        stream: Name,
+    },
+    Where {
+        child: Box<NamedTree>,
+        test: NamedExpr,
+    },
+    Select {
+        child: Box<NamedTree>,
+        columns: Seq<NamedColumn>,
+    },
+    Distinct {
+        child: Box<NamedTree>,
+    },
+    Group {
+        child: Box<NamedTree>,
+        keys: Seq<Name>,
+        results: Seq<NamedResult>,
+    },
+    Join {
+        left: Box<NamedTree>,
+        right: Box<NamedTree>,
+        on: Seq<NamedPair>,
+    },
+    Concat {
+        left: Box<NamedTree>,
+        right: Box<NamedTree>,
+    },
+    Order {
+        child: Box<NamedTree>,
+        keys: Seq<NamedKey>,
+    },
+}
+
+impl NamedAgg {
+    /// The name by which a plan calls the aggregate.
+    pub fn word(&self) -> &[u8]
+        ensures { result.now ≡ agg_word self.now }
+    {
+        match self {
+            NamedAgg::Count => b"count",
+            NamedAgg::Sum(_) => b"sum",
+            NamedAgg::Min(_) => b"min",
+            NamedAgg::Max(_) => b"max",
+            NamedAgg::First(_) => b"first",
+            NamedAgg::Last(_) => b"last",
+            NamedAgg::Avg(_) => b"avg",
+        }
+    }
+}

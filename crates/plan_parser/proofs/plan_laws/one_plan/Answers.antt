@@ -1,0 +1,8 @@
+use Rattle.plan_parser.proofs.OnePlan.{one_plan_of_tokens, one_plan_of_text}
+use Rattle.plan_parser.proofs.plan_laws.one_plan.Goals as goal
+
+pub returns-clause-tokens : goal.returns-clause-tokens
+returns-clause-tokens c = one_plan_of_tokens
+
+pub returns-clause-texts : goal.returns-clause-texts
+returns-clause-texts c = one_plan_of_text

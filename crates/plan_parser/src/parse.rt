@@ -1,0 +1,105 @@
+//! How a whole text is read.
+ghost use Rattle.std.specs.Prelude.{◌≡◌, ◌<◌, ◌≤◌, IfOk, IsErrOf};
+ghost use Rattle.plan_grammar.specs.declared.limit.PlanLimit.{PlanLimit};
+ghost use Rattle.plan_grammar.specs.PlainNamed.{PlainExpr, PlainTree, expr_of, tree_of};
+ghost use Rattle.plan_grammar.specs.Counts.{expr_nodes, IsFirstPassed, IsWithinLimits};
+ghost use Rattle.plan_parser.specs.Reading.{expr_at, inner};
+ghost use Rattle.plan_grammar.specs.Spelled.{SpellsExpr, SpellsText};
+ghost use Rattle.plan_parser.specs.Answer.{MeansWhole, Means, whole_reading, text_reading};
+ghost use Rattle.plan_parser.specs.PlanDraft.{limits};
+ghost use Rattle.plan_parser.specs.PlanReading.{plan_at};
+
+use crate::draft::Draft;
+use crate::parser::Parser;
+use crate::plan_draft::PlanDraft;
+use crate::refusal::TextRefusal;
+use crate::tokenizer::tokens_of;
+use plan_grammar::{NamedExpr, NamedPlan, NamedTree, PlanLimit, Token};
+use std::alloc::Global;
+
+/// How many levels of nesting may be open at once: each parenthesis, `not` and `-` before an operand is one.
+const MAX_LEVELS: u32 = 32;
+
+/// The plan that a text spells, with spaces before, between and behind its tokens: `Syntax` exactly where it spells none,
+/// else `Limit` exactly where the plan as written has more than 40 nodes, more than 8 wide ones or more than 512 expression
+/// nodes, with the first of these. `Memory` may come in place of any of these, where memory was asked for and refused. The
+/// grammar and the limits are this project's own. No text spells two plans, as `one_plan` says; `reading` says the same of
+/// the text by a function of its bytes.
+pub fn parse_plan(alloc: Global, text: &[u8]) -> Result<NamedPlan, TextRefusal>
+    ensures reading { Means (λ plan. plan) result (text_reading text.now) }
+    ensures found { IfOk result (λ plan. SpellsText plan text.now × IsWithinLimits plan) }
+    ensures syntax { IsErrOf result TextRefusal.Syntax → ((plan : PlainTree) → SpellsText plan text.now → ⊥) }
+    ensures limit { (what : PlanLimit) → IsErrOf result (TextRefusal.Limit what) →
+        ((plan : PlainTree) × SpellsText plan text.now × IsFirstPassed what plan) }
+{
+    plan_of_text(alloc, text)
+}
+
+/// The plan that a text is read as.
+fn plan_of_text(alloc: Global, text: &[u8]) -> Result<NamedPlan, TextRefusal>
+    ensures { Means (λ plan. plan) result (text_reading text.now) }
+{
+    let tree = tree_of_text(alloc, text)?;
+    Ok(NamedPlan::new(alloc, tree)?)
+}
+
+/// The operators of the plan that a text spells.
+fn tree_of_text(alloc: Global, text: &[u8]) -> Result<NamedTree, TextRefusal>
+    ensures { Means tree_of result (text_reading text.now) }
+{
+    match tokens_of(alloc, text)? {
+        Some(tokens) => whole_plan(alloc, tokens.as_slice()),
+        None => Err(TextRefusal::Syntax),
+    }
+}
+
+/// The expression that a text spells, with spaces before, between and behind its tokens: `Syntax` exactly where it spells
+/// none, else `Limit` exactly where it has more than 512 nodes. `Memory` may come in place of either, where memory was asked
+/// for and refused. The grammar and the limit are this project's own.
+pub fn parse_expr(alloc: Global, text: &[u8]) -> Result<NamedExpr, TextRefusal>
+    ensures found { IfOk result (λ e. SpellsExpr (expr_of e) text.now × (expr_nodes (expr_of e) ≤ 512)) }
+    ensures syntax { IsErrOf result TextRefusal.Syntax → ((e : PlainExpr) → SpellsExpr e text.now → ⊥) }
+    ensures limit { (what : PlanLimit) → IsErrOf result (TextRefusal.Limit what) →
+        (what ≡ PlanLimit.Exprs) × ((e : PlainExpr) × SpellsExpr e text.now × (512 < expr_nodes e)) }
+{
+    let tokens = match tokens_of(alloc, text) {
+        Ok(Some(tokens)) => tokens,
+        Ok(None) => return Err(TextRefusal::Syntax),
+        Err(_) => return Err(TextRefusal::Memory),
+    };
+    whole_expr(alloc, tokens.as_slice())
+}
+
+/// The expression that the tokens are.
+fn whole_expr(alloc: Global, tokens: &[Token]) -> Result<NamedExpr, TextRefusal>
+    ensures { MeansWhole result (expr_at 512 (inner 512 32) tokens.now) }
+{
+    let mut parser = Parser::new(alloc, tokens);
+    let draft = parser.expr(MAX_LEVELS)?;
+    if !parser.is_at_end() {
+        return Err(TextRefusal::Syntax);
+    }
+    match draft {
+        Draft::Whole { expr, nodes: _ } => Ok(expr),
+        Draft::TooMany => Err(TextRefusal::Limit {
+            what: PlanLimit::Exprs,
+        }),
+    }
+}
+
+/// The plan that the tokens are.
+fn whole_plan(alloc: Global, tokens: &[Token]) -> Result<NamedTree, TextRefusal>
+    ensures { Means tree_of result (whole_reading (plan_at limits 32 tokens.now)) }
+{
+    let mut parser = Parser::new(alloc, tokens);
+    let draft = parser.plan(MAX_LEVELS)?;
+    if !parser.is_at_end() {
+        return Err(TextRefusal::Syntax);
+    }
+    match draft {
+        PlanDraft::Whole { tree, counts: _ } => Ok(tree),
+        PlanDraft::TooMany { counts } => Err(TextRefusal::Limit {
+            what: counts.first_above(),
+        }),
+    }
+}
