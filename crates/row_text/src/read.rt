@@ -37,7 +37,7 @@ pub fn read_row(alloc: Global, line: &[u8], schema: &Schema) -> Result<Row, RowR
         × HasLong row) }
 {
     match fields_of(alloc, schema.columns(), line) {
-        Ok(Some(fields)) => row_of(alloc, fields.as_slice()),
+        Ok(Some(fields)) => row_of(alloc, fields),
         Ok(None) => Err(RowRefusal::NotRow),
         Err(_) => Err(RowRefusal::Memory),
     }
@@ -115,18 +115,18 @@ fn after_comma(bytes: &[u8]) -> Option<&[u8]>
 }
 
 /// The row of these fields; `TooLong` where a text is above 1,000 bytes.
-fn row_of(alloc: Global, fields: &[Field]) -> Result<Row, RowRefusal>
-    requires { AllByRecursion IsLoose (values_of fields.now) }
-    ensures row { IfOk result (λ row. row ≡ values_of fields.now) }
+fn row_of(alloc: Global, fields: Vec<Field>) -> Result<Row, RowRefusal>
+    requires { AllByRecursion IsLoose (values_of fields.items) }
+    ensures row { IfOk result (λ row. row ≡ values_of fields.items) }
     ensures short { IfOk result (λ row. AllByRecursion IsShort row) }
     ensures not_row { IsErrOf result RowRefusal.NotRow → ⊥ }
-    ensures too_long { IsErrOf result RowRefusal.TooLong → HasLong (values_of fields.now) }
+    ensures too_long { IsErrOf result RowRefusal.TooLong → HasLong (values_of fields.items) }
 {
     let Ok(mut values) = Vec::with_capacity(alloc, fields.len()) else {
         return Err(RowRefusal::Memory);
     };
     for field in fields {
-        let value = value_of_field(alloc, field)?;
+        let value = value_of_field(field)?;
         if values.push(value).is_err() {
             return Err(RowRefusal::Memory);
         }
@@ -134,16 +134,17 @@ fn row_of(alloc: Global, fields: &[Field]) -> Result<Row, RowRefusal>
     Ok(Row::new(values))
 }
 
-fn value_of_field(alloc: Global, field: &Field) -> Result<Value, RowRefusal>
-    requires { IsLoose (value_of field.now) }
-    ensures value { IfOk result (λ value. value ≡ value_of field.now) }
+/// The field as a value, which takes its text over.
+fn value_of_field(field: Field) -> Result<Value, RowRefusal>
+    requires { IsLoose (value_of field) }
+    ensures value { IfOk result (λ value. value ≡ value_of field) }
     ensures short { IfOk result (λ value. IsShort value) }
     ensures not_row { IsErrOf result RowRefusal.NotRow → ⊥ }
-    ensures too_long { IsErrOf result RowRefusal.TooLong → IsLong (value_of field.now) }
+    ensures too_long { IsErrOf result RowRefusal.TooLong → IsLong (value_of field) }
 {
     match field {
-        Field::Int(number) => Ok(Value::Int(*number)),
-        Field::Text(text) => match Txt::new(alloc, text.items()) {
+        Field::Int(number) => Ok(Value::Int(number)),
+        Field::Text(text) => match Txt::from_vec(text.into_vec()) {
             Ok(text) => Ok(Value::Text(text)),
             Err(TxtRefusal::NotText) => Err(RowRefusal::NotRow),
             Err(TxtRefusal::TooLong) => Err(RowRefusal::TooLong),
