@@ -1,6 +1,8 @@
 //! A real folder, some files of which are kept open.
-ghost use Rattle.std.specs.Prelude.{◌≡◌, ◌<◌, ◌≤◌, length, IfOk, IfSome, vec_len};
+ghost use Rattle.std.specs.Prelude.{◌≡◌, ◌↔◌, ◌<◌, ◌≤◌, ◌^◌, ◌++◌, ℕ, length, decimal, codes, IsTrue, IfOk};
+ghost use Rattle.std.specs.Prelude.{IfSome, vec_len};
 
+use itoa::Buffer;
 use std::fs::{DirEntry, File, OpenOptions};
 use std::io::ErrorKind;
 use std::os::unix::fs::FileExt;
@@ -319,11 +321,24 @@ fn cut_longer(file: &File, len: u64) -> io::Result<()> {
     Ok(())
 }
 
-// The number of the file with this name.
-fn number_of(name: &str) -> Option<u64> {
-    let digits = name.strip_suffix(".nxt")?;
-    if digits.starts_with('+') || (digits.starts_with('0') && digits.len() > 1) {
+// The number of the file with this name: None exactly where no file has it.
+fn number_of(name: &str) -> Option<u64>
+    ensures { (number : ℕ) → number < 2 ^ 64
+        → ((result ≡ Some number) ↔ (name.now ≡ decimal number ++ codes ".nxt")) }
+{
+    let Some(digits) = name.strip_suffix(".nxt") else {
         return None;
+    };
+    match digits.parse::<u64>() {
+        Ok(number) if is_decimal_of(number, digits) => Some(number),
+        _ => None,
     }
-    digits.parse::<u64>().ok()
+}
+
+// Whether these are the digits of the number, without leading zeros.
+fn is_decimal_of(number: u64, digits: &str) -> bool
+    ensures { IsTrue result ↔ (digits.now ≡ decimal number) }
+{
+    let mut buffer = Buffer::new();
+    buffer.format(number).as_bytes() == digits.as_bytes()
 }
