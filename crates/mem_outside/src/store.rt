@@ -112,6 +112,7 @@ impl MemStore {
         ensures image { IfOk result (λ store. IsImageAt (⟦<MemStore as Store>⟧.view self.now) (⟦<MemStore as Store>⟧.view self.now).moment (⟦<MemStore as Store>⟧.view store).files) }
         ensures counts { IfOk result (λ store. ⟦<MemStore as Store>⟧.counts store ≡ record { reads = 0; writes = 0; removes = 0; taken = 0 }) }
         ensures shown { IfOk result (λ store. ⟦<MemStore as InMemory>⟧.shown store ≡ map (left_of (pick % 2 == 1) (pick / 2 % 2) (pick / 4 % 2 == 1)) (⟦<MemStore as InMemory>⟧.shown self.now)) }
+        ensures files { IfOk result (λ store. (g : ℕ) → (⟦<MemStore as Store>⟧.view store).files g ≡ (left_of (pick % 2 == 1) (pick / 2 % 2) (pick / 4 % 2 == 1) (state_in (⟦<MemStore as InMemory>⟧.shown self.now) g)).bytes) }
         ensures schedule { IfOk result (λ store. ⟦<MemStore as InMemory>⟧.schedule store ≡ record { listed = []; from = None; next = 0 }) }
     {
         let greatest = pick % 2 == 1;
