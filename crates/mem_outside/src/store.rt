@@ -124,21 +124,6 @@ impl MemStore {
     /// greatest length in place of its least, bit 1 makes each byte that may be anything 1 in place of 0, and
     /// bit 2 keeps the removed files that may still be there.
     pub fn image(&self, pick: u64) -> Result<MemStore, Memory>
-<<<<<<< HEAD
-        ensures image { IfOk result
-            (λ store. IsImageAt (⟦<MemStore as Store>⟧.view self.now)
-            (⟦<MemStore as Store>⟧.view self.now).moment (⟦<MemStore as Store>⟧.view store).files) }
-        ensures counts { IfOk result
-            (λ store. ⟦<MemStore as Store>⟧.counts store
-            ≡ record { reads = 0; writes = 0; removes = 0; taken = 0 }) }
-        ensures shown { IfOk result
-            (λ store. ⟦<MemStore as InMemory>⟧.shown store
-            ≡ map (left_of (pick % 2 == 1) (pick / 2 % 2) (pick / 4 % 2 == 1))
-            (⟦<MemStore as InMemory>⟧.shown self.now)) }
-        ensures schedule { IfOk result
-            (λ store. ⟦<MemStore as InMemory>⟧.schedule store
-            ≡ record { listed = []; from = None; next = 0 }) }
-=======
         ensures image { IfOk result
             (λ store. IsImageAt (⟦<MemStore as Store>⟧.view self.now)
             (⟦<MemStore as Store>⟧.view self.now).moment (⟦<MemStore as Store>⟧.view store).files) }
@@ -157,7 +142,6 @@ impl MemStore {
         ensures schedule { IfOk result
             (λ store. ⟦<MemStore as InMemory>⟧.schedule store
             ≡ record { listed = []; from = None; next = 0 }) }
->>>>>>> 21d4929ecbcfb4f7c53c91d296d713e5377b158d
     {
         let greatest = pick % 2 == 1;
         let filler = (pick / 2 % 2) as u8;

@@ -44,11 +44,6 @@ pub fn file_after_a_crash(
     bytes: &[u8],
     pick: u64,
 ) -> Result<FileLeft, Unread>
-<<<<<<< HEAD
-    ensures image { IfOk result
-        (λ left. IsImageAt (⟦<MemStore as Store>⟧.view store.new)
-        (⟦<MemStore as Store>⟧.view store.new).moment (⟦<MemStore as Store>⟧.view left.image).files) }
-=======
     ensures image { IfOk result
         (λ left. IsImageAt (⟦<MemStore as Store>⟧.view store.new)
         (⟦<MemStore as Store>⟧.view store.new).moment (⟦<MemStore as Store>⟧.view left.image).files) }
@@ -58,7 +53,6 @@ pub fn file_after_a_crash(
         → (⟦<MemStore as Store>⟧.view left.image).files g
         ≡ (left_of (pick % 2 == 1) (pick / 2 % 2) (pick / 4 % 2 == 1)
         (state_in (⟦<MemStore as InMemory>⟧.shown store.new) g)).bytes) }
->>>>>>> 21d4929ecbcfb4f7c53c91d296d713e5377b158d
     // What is read is of the image: it tells that its bytes were taken, and the store that none were.
     ensures read { IfOk result
         (λ left. IfOk left.read
@@ -106,27 +100,6 @@ pub fn log_after_a_crash(
     pick: u64,
 ) -> Result<LogLeft, Unread>
     requires size { IsBody body.now }
-<<<<<<< HEAD
-    ensures image { IfOk result
-        (λ left. IsImageAt (⟦<MemStore as Store>⟧.view store.new)
-        (⟦<MemStore as Store>⟧.view store.new).moment (⟦<MemStore as Store>⟧.view left.image).files) }
-    ensures read { IfOk result
-        (λ left. IfOk left.read
-        (λ read. Reads (contents read.items) ((⟦<MemStore as Store>⟧.view left.image).files file))) }
-    ensures taken { IfOk result
-        (λ left. IfOk left.read
-        (λ read. CountsTaken (length ((⟦<MemStore as Store>⟧.view left.image).files file)) none
-        (⟦<MemStore as Store>⟧.counts left.image))) }
-    ensures bodies { IfOk result
-        (λ left. IfOk left.read
-        (λ read. (contents read.items ≡ []) ⊎ (contents read.items ≡ body.now ∷ []))) }
-    ensures committed { IfOk result
-        (λ left. IsTrue left.committed → IfOk left.read (λ read. contents read.items ≡ body.now ∷ [])) }
-    ensures uncommitted { IfOk result
-        (λ left. left.committed ≡ false
-        → Rose (⟦<MemStore as Store>⟧.counts store.old).writes
-        (⟦<MemStore as Store>⟧.counts store.new).writes) }
-=======
     ensures image { IfOk result
         (λ left. IsImageAt (⟦<MemStore as Store>⟧.view store.new)
         (⟦<MemStore as Store>⟧.view store.new).moment (⟦<MemStore as Store>⟧.view left.image).files) }
@@ -152,7 +125,6 @@ pub fn log_after_a_crash(
         (λ left. left.committed ≡ false
         → Rose (⟦<MemStore as Store>⟧.counts store.old).writes
         (⟦<MemStore as Store>⟧.counts store.new).writes) }
->>>>>>> 21d4929ecbcfb4f7c53c91d296d713e5377b158d
     ensures is_log { IfOk result (λ left. (at : ℕ) → IsErrOf left.read (LogRefusal.NotLog at) → ⊥) }
     ensures image_fault { IfOk result
         (λ left. IsErrOf left.read LogRefusal.Fault → Rose 0 (⟦<MemStore as Store>⟧.counts left.image).reads
