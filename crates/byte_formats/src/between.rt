@@ -51,15 +51,16 @@ pub fn u128_between(low: u128, high: u128, bytes: &[u8]) -> Result<(u128, &[u8])
     Ok((number, rest))
 }
 
-/// Where a number that isn't in the range stops, `low` and `high` being the bytes of the least and the greatest.
+/// Where a number that isn't in the range stops, `low` and `high` being the bytes of the least and the
+/// greatest.
 fn outside(low: &[u8], high: &[u8], bytes: &[u8]) -> Unread
     ensures { result ≡ Unread.Left (left_between low.now high.now bytes.now true true) }
 {
     Unread::Left(left_between(low, high, bytes, true, true))
 }
 
-/// How many bytes are left where a number from one to another stops, these being the bytes of the two. `at_low`
-/// says that the bytes before were the least number's, and `at_high` that they were the greatest's.
+/// How many bytes are left where a number from one to another stops, these being the bytes of the two.
+/// `at_low` says that the bytes before were the least number's, and `at_high` that they were the greatest's.
 fn left_between(low: &[u8], high: &[u8], bytes: &[u8], at_low: bool, at_high: bool) -> usize
     ensures { result ≡ left_between low.now high.now bytes.now at_low at_high }
 {

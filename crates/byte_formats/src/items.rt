@@ -14,8 +14,10 @@ pub fn items_at<'a, T: Drop, F: Fn(&'a [u8]) -> Result<(T, &'a [u8]), Unread>>(
     item: F,
 ) -> Result<(Vec<T>, &'a [u8]), Unread>
     requires { F.IsAlwaysCallable item }
-    // Where each call of `item` gives what `read` gives, the items are those that `read` gives one behind the other.
-    ensures { (read : List ℕ → Read T) → ((bytes : _) (r : _) → F.post item bytes r → Gives (λ x. (x.0, x.1.now)) r (read bytes.now))
+    // Where each call of `item` gives what `read` gives, the items are those that `read` gives one behind the
+    // other.
+    ensures { (read : List ℕ → Read T)
+        → ((bytes : _) (r : _) → F.post item bytes r → Gives (λ x. (x.0, x.1.now)) r (read bytes.now))
         → Gives (λ x. (x.0.items, x.1.now)) result (items_at read count bytes.now) }
 {
     let mut items = Vec::new(alloc);

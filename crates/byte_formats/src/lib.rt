@@ -1,6 +1,7 @@
-//! Formats of bytes: what is spelled how, how it is read, and where reading stops. `specs/Format.antt` describes
-//! formats; each reader and writer of a field is told by its format. `proofs/Exact.antt` says what makes a format exact,
-//! and `proofs/Goes.antt` that what begins a spelling, as far as reading can tell, is the front of one.
+//! Formats of bytes: what is spelled how, how it is read, and where reading stops. `specs/Format.antt`
+//! describes formats; each reader and writer of a field is told by its format. `proofs/Exact.antt` says what
+//! makes a format exact, and `proofs/Goes.antt` that what begins a spelling, as far as reading can tell, is
+//! the front of one.
 #![tactic(auto)]
 
 pub mod between;

@@ -1,6 +1,7 @@
 //! Texts.
 ghost use Rattle.std.specs.Prelude.{◌≡◌, ◌≤◌, ◌<◌, if◌then◌else◌, IfOk, Some, None, length};
-ghost use Rattle.byte_formats.specs.Reading.{Gives, text_at, is_text, following, any_following, followers_of, followers_after, left_in_text};
+ghost use Rattle.byte_formats.specs.Reading.{Gives, text_at, is_text, following, any_following, followers_of};
+ghost use Rattle.byte_formats.specs.Reading.{followers_after, left_in_text};
 
 use crate::between::u32_between;
 use crate::unread::Unread;
@@ -71,8 +72,8 @@ fn text_of(alloc: Global, bytes: &[u8]) -> Result<Option<Txt>, Memory>
     }
 }
 
-/// How many bytes are left where a text of `room` bytes stops, `expected` being what follows the byte before. The
-/// rule is Unicode's table of well-formed UTF-8, without the bytes below 0x20.
+/// How many bytes are left where a text of `room` bytes stops, `expected` being what follows the byte before.
+/// The rule is Unicode's table of well-formed UTF-8, without the bytes below 0x20.
 #[tactic(auto, unfolding(crate::specs::Reading::left_in_text))]
 fn left_in_text(expected: Followers, room: usize, bytes: &[u8]) -> usize
     ensures { result ≡ left_in_text expected room bytes.now }
@@ -94,7 +95,8 @@ fn left_in_text(expected: Followers, room: usize, bytes: &[u8]) -> usize
     }
 }
 
-/// What follows a byte that stands where `expected` says what follows; `None` where the byte may not stand there.
+/// What follows a byte that stands where `expected` says what follows; `None` where the byte may not stand
+/// there.
 #[tactic(auto, unfolding(crate::specs::Reading::followers_after))]
 fn followers_after(expected: Followers, byte: u8) -> Option<Followers>
     ensures { result ≡ followers_after expected byte }

@@ -1,6 +1,6 @@
-//! Cases of kept forms: a case a line on standard input, and on standard output a line for each, what it gives. A case is
-//! the word of its subject, a shape (`shapes.rt`) and the bytes of a file in hex. A line that is empty or begins with `#`
-//! is no case.
+//! Cases of kept forms: a case a line on standard input, and on standard output a line for each, what it
+//! gives. A case is the word of its subject, a shape (`shapes.rt`) and the bytes of a file in hex. A line
+//! that is empty or begins with `#` is no case.
 //!
 //! - `file`: the file is read, and its kept form is written again; or where reading stops.
 //! - `prefixes`: whether each prefix of the file stops at its end.

@@ -48,7 +48,8 @@ const ENDS: &[&[u8]] = &[
     b"\x90\x80\x80",
 ];
 
-/// How many bytes are left where reading of a file stops, 0 where bytes are missing; `None` where the file is read.
+/// How many bytes are left where reading of a file stops, 0 where bytes are missing; `None` where the file is
+/// read.
 pub fn left(alloc: Global, bytes: &[u8], shape: &Shape) -> Result<Option<usize>, Memory> {
     match file(alloc, bytes, shape) {
         Ok(rest) if rest.is_empty() => Ok(None),

@@ -1,5 +1,5 @@
-//! Shapes, written as `rows:int,text`, as `groups:text/sum,avg` and as `join:int`: kinds, or the kinds of the keys and
-//! what is kept of each aggregate (`count`, `sum`, `avg`, or the kind of a value).
+//! Shapes, written as `rows:int,text`, as `groups:text/sum,avg` and as `join:int`: kinds, or the kinds of the
+//! keys and what is kept of each aggregate (`count`, `sum`, `avg`, or the kind of a value).
 
 use anyhow::{Context, Result};
 use row_blob::{AccKind, Shape};

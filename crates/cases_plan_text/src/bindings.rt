@@ -1,4 +1,5 @@
-//! Texts of plans over the streams `l (t:text, id:int)` and `r (k:text, v:int)`, with numbers in place of names.
+//! Texts of plans over the streams `l (t:text, id:int)` and `r (k:text, v:int)`, with numbers in place of
+//! names.
 
 use crate::texts::refused;
 use anyhow::Result;

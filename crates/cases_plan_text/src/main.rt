@@ -1,6 +1,6 @@
-//! Cases of the text of plans: a case a line on standard input, and on standard output a line for each, what it gives. A
-//! case is the word of its subject and then a text, in which `{N PART}` stands for N times the part. A line that is empty
-//! or begins with `#` is no case.
+//! Cases of the text of plans: a case a line on standard input, and on standard output a line for each, what
+//! it gives. A case is the word of its subject and then a text, in which `{N PART}` stands for N times the
+//! part. A line that is empty or begins with `#` is no case.
 #![tactic(auto)]
 
 mod bindings;

@@ -1,4 +1,5 @@
-//! The rows that a plan gives. Behind the plan stand its streams: the kinds of each and the lines of its rows.
+//! The rows that a plan gives. Behind the plan stand its streams: the kinds of each and the lines of its
+//! rows.
 ghost use Rattle.std.specs.Prelude.{◌≡◌, map, slice_get, IsSome, IsTrue, IfOk, IfSome};
 ghost use Rattle.rows_core.specs.Value.{kind_of};
 ghost use Rattle.plan_core.specs.PlanTyping.{plan_kinds};

@@ -1,9 +1,10 @@
 //! Expressions and plans, written with each operator behind its parts, as `s0 #0 1 op17 filter`.
 //!
-//! Of expressions: `#0` is a column; a number, `'tea`, `true` and `false` are literals; `op17` is the operation with
-//! that row of the table; `and`, `or` and `if`. Of plans: `s0` is a scan; `filter` takes a plan and a test; `columns2`
-//! a plan and two columns; `distinct`; `group` a plan, the keys as `key1`, and the aggregates, as `count` and `sum2`;
-//! `join` two plans and the pairs, as `on0=1`; `concat`; `order` a plan and the keys, as `up0` and `down1`.
+//! Of expressions: `#0` is a column; a number, `'tea`, `true` and `false` are literals; `op17` is the
+//! operation with that row of the table; `and`, `or` and `if`. Of plans: `s0` is a scan; `filter` takes a
+//! plan and a test; `columns2` a plan and two columns; `distinct`; `group` a plan, the keys as `key1`, and
+//! the aggregates, as `count` and `sum2`; `join` two plans and the pairs, as `on0=1`; `concat`; `order` a
+//! plan and the keys, as `up0` and `down1`.
 
 use anyhow::{Context, Result};
 use plan_core::{Agg, Expr, Plan};

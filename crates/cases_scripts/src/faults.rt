@@ -6,8 +6,8 @@ use anyhow::{Context, Result};
 use mem_outside::MemSink;
 use std::alloc::Global;
 
-/// The exits where the first read fails, the second, and so on, up to the read at the script's end and two that are never
-/// made. What is written is always a front of the answers.
+/// The exits where the first read fails, the second, and so on, up to the read at the script's end and two
+/// that are never made. What is written is always a front of the answers.
 pub fn reads(alloc: Global, arguments: &str) -> Result<String> {
     let (piece, text) = arguments.split_once(' ').context("no script")?;
     let piece = piece.parse::<usize>()?;
@@ -28,8 +28,8 @@ pub fn reads(alloc: Global, arguments: &str) -> Result<String> {
     shown::lines(alloc, &exits)
 }
 
-/// The exits where the first write fails, the second, and so on, up to the seventh. What is written is always a front of
-/// the answers.
+/// The exits where the first write fails, the second, and so on, up to the seventh. What is written is always
+/// a front of the answers.
 pub fn writes(alloc: Global, arguments: &str) -> Result<String> {
     let (piece, text) = arguments.split_once(' ').context("no script")?;
     let piece = piece.parse::<usize>()?;

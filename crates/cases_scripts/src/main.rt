@@ -1,6 +1,6 @@
-//! Cases of scripts: a case a line on standard input, and on standard output a line for each, what it gives. A case is
-//! the word of its subject and then its arguments, of which the last is a script, as `script.rt` reads it. A line that is
-//! empty or begins with `#` is no case.
+//! Cases of scripts: a case a line on standard input, and on standard output a line for each, what it gives.
+//! A case is the word of its subject and then its arguments, of which the last is a script, as `script.rt`
+//! reads it. A line that is empty or begins with `#` is no case.
 #![tactic(auto)]
 
 mod answers;

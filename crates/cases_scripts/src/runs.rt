@@ -9,7 +9,8 @@ use std::alloc::Global;
 use std::io;
 use std::io::Write;
 
-/// The exit and the answers, which are the same where reads give at most 1, at most 1,000 and up to all bytes.
+/// The exit and the answers, which are the same where reads give at most 1, at most 1,000 and up to all
+/// bytes.
 pub fn run(alloc: Global, text: &str) -> Result<String> {
     let script = script::bytes(alloc, text)?;
     let (exit, whole) = outcome(alloc, &script, usize::MAX)?;

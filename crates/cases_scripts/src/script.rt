@@ -1,5 +1,5 @@
-//! A script in one line: `\n`, `\r`, `\t` and `\\` stand for their bytes, and `\{FROM..TO:TEXT}` for the text once for
-//! each number from FROM on and below TO, which stands where the text has `#`.
+//! A script in one line: `\n`, `\r`, `\t` and `\\` stand for their bytes, and `\{FROM..TO:TEXT}` for the text
+//! once for each number from FROM on and below TO, which stands where the text has `#`.
 
 use anyhow::{Context, Result};
 use std::alloc::Global;

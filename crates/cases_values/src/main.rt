@@ -1,6 +1,6 @@
-//! Cases of names, texts, values, rows and row lines: a case a line on standard input, and on standard output a line
-//! for each, what it gives. A case is the word of its subject and then its arguments; behind a word with `-hex` the
-//! arguments stand in hex. A line that is empty or begins with `#` is no case.
+//! Cases of names, texts, values, rows and row lines: a case a line on standard input, and on standard output
+//! a line for each, what it gives. A case is the word of its subject and then its arguments; behind a word
+//! with `-hex` the arguments stand in hex. A line that is empty or begins with `#` is no case.
 #![tactic(auto)]
 
 mod names;

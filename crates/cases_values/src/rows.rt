@@ -21,7 +21,8 @@ pub fn same(alloc: Global, bytes: &[u8]) -> Result<String> {
     Ok(format!(in alloc; "{answer}, values: {count}")?)
 }
 
-/// How two rows stand by the keys that are written first, as `+0` and `-1` behind commas; `by` stands before them.
+/// How two rows stand by the keys that are written first, as `+0` and `-1` behind commas; `by` stands before
+/// them.
 pub fn order(alloc: Global, bytes: &[u8]) -> Result<String> {
     let (keys, rows) = std::str::from_utf8(bytes)?
         .split_once(' ')

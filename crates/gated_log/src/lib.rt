@@ -1,5 +1,5 @@
-//! A log of bodies in one file. Each body stands behind a gate that is opened after the body is stable, so that a crash
-//! leaves the bodies without the new one or with it.
+//! A log of bodies in one file. Each body stands behind a gate that is opened after the body is stable, so
+//! that a crash leaves the bodies without the new one or with it.
 #![tactic(auto)]
 
 pub mod log;

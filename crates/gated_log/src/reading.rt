@@ -1,5 +1,6 @@
 //! What bytes read as.
-ghost use Rattle.std.specs.Prelude.{◌≡◌, ◌≢◌, ◌+◌, ◌^◌, ◌<◌, ◌≤◌, ◌++◌, ℕ, List, length, take, IfOk, IsErrOf, MatchOption};
+ghost use Rattle.std.specs.Prelude.{◌≡◌, ◌≢◌, ◌+◌, ◌^◌, ◌<◌, ◌≤◌, ◌++◌, ℕ, List, length, take, IfOk, IsErrOf};
+ghost use Rattle.std.specs.Prelude.{MatchOption};
 ghost use Rattle.std.specs.List.{All};
 ghost use Rattle.gated_log.specs.Logs.{header, front, spelled, contents, IsBody, NoBody, Reads, StopsAt};
 
@@ -83,7 +84,8 @@ fn parse_blocks(alloc: Global, bytes: &[u8]) -> Result<Parsed, LogRefusal>
 
 // The body at the front of these bytes, and what stands behind it.
 fn first_body(bytes: &[u8]) -> Option<(&[u8], &[u8])>
-    ensures { MatchOption result (NoBody bytes.now) (λ parts. IsBody parts.0.now × (bytes.now ≡ spelled parts.0.now ++ parts.1.now)) }
+    ensures { MatchOption result (NoBody bytes.now)
+        (λ parts. IsBody parts.0.now × (bytes.now ≡ spelled parts.0.now ++ parts.1.now)) }
 {
     match bytes {
         [a, b, c, d, more @ ..] => {

@@ -2,6 +2,7 @@ pub mod Laws
 pub mod Loosening
 pub mod Moments
 pub mod Outcomes
+pub mod Refused
 pub mod Schedule
 pub mod Shown
 pub mod Sound

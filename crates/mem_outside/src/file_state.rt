@@ -1,15 +1,17 @@
 //! One file of a store in memory, with what a crash may leave of it.
-ghost use Rattle.std.specs.Prelude.{◌≡◌, ℕ, ◌+◌, ◌^◌, ◌<◌, Bool, [], ◌∷◌, length, max, take, map, List, Option, Some, IfOk, OnOk};
+ghost use Rattle.std.specs.Prelude.{◌≡◌, ℕ, ◌+◌, ◌^◌, ◌<◌, Bool, [], ◌∷◌, length, max, take, map, List};
+ghost use Rattle.std.specs.Prelude.{Option, Some, IfOk, OnOk};
 ghost use Rattle.outside_traits.specs.Calls.{overlaid};
-ghost use Rattle.mem_outside.specs.Outcomes.{freed, freed_byte, settled, absent, written, shortened, synced, removed, kept, filled, first_or, left_of, stable_file};
+ghost use Rattle.mem_outside.specs.Outcomes.{freed, freed_byte, settled, absent, written, shortened, synced};
+ghost use Rattle.mem_outside.specs.Outcomes.{removed, kept, filled, first_or, left_of, stable_file};
 
 use rows_core::Memory;
 use std::alloc::Global;
 use std::marker::Model;
 use std::rc::Rc;
 
-/// What a crash may leave of a file. Of the first bytes some are fixed and the others may be anything; all of these
-/// are there, and any bytes may follow up to the greatest length.
+/// What a crash may leave of a file. Of the first bytes some are fixed and the others may be anything; all of
+/// these are there, and any bytes may follow up to the greatest length.
 #[derive(Drop)]
 pub struct Loosened {
     fixed: Rc<Vec<Option<u8>>>,
@@ -24,8 +26,9 @@ impl Model for Loosened {
     ghost view = { λ l. record { fixed = l.fixed.value.items; longest = l.longest } };
 }
 
-/// A file as it reads, with what a crash may leave of it, and of removed files of its number. Copies share their bytes, so
-/// that a file which a call leaves alone is kept at each moment for the cost of a few pointers.
+/// A file as it reads, with what a crash may leave of it, and of removed files of its number. Copies share
+/// their bytes, so that a file which a call leaves alone is kept at each moment for the cost of a few
+/// pointers.
 #[derive(Drop)]
 pub struct FileState {
     number: u64,
@@ -40,7 +43,13 @@ impl Model for FileState {
 
     ghost Value = { Shown };
 
-    ghost view = { λ s. record { number = s.number; there = s.there; bytes = s.bytes.value.items; loose = s.loose; gone = s.gone.value.items } };
+    ghost view = { λ s. record {
+      number = s.number;
+      there = s.there;
+      bytes = s.bytes.value.items;
+      loose = s.loose;
+      gone = s.gone.value.items;
+    } };
 }
 
 impl Loosened {
@@ -92,7 +101,11 @@ impl Loosened {
     // Bytes from `at` on may be anything, and may be there.
     fn freed(&self, alloc: Global, at: u64, len: usize) -> Result<Loosened, Memory>
         requires { at + len < 2 ^ 64 }
-        ensures { IfOk result (λ loose. loose ≡ record { fixed = freed at len self.now.fixed; longest = max self.now.longest (at + len) }) }
+        ensures { IfOk result
+            (λ loose. loose ≡ record {
+              fixed = freed at len self.now.fixed;
+              longest = max self.now.longest (at + len);
+            }) }
     {
         Ok(Loosened {
             fixed: Rc::new(alloc, freed(alloc, &self.fixed, at, len as u64)?)?,
@@ -163,7 +176,8 @@ impl FileState {
         })
     }
 
-    /// The file after a crash that leaves one of its outcomes, or one of the last file of its number that was removed.
+    /// The file after a crash that leaves one of its outcomes, or one of the last file of its number that was
+    /// removed.
     pub fn left(
         &self,
         alloc: Global,
@@ -286,7 +300,11 @@ impl FileState {
     }
 }
 
-fn pushed_in_front(alloc: Global, loose: Loosened, gone: &[Loosened]) -> Result<Vec<Loosened>, Memory>
+fn pushed_in_front(
+    alloc: Global,
+    loose: Loosened,
+    gone: &[Loosened],
+) -> Result<Vec<Loosened>, Memory>
     ensures { IfOk result (λ all. all.items ≡ loose ∷ gone.now) }
 {
     let mut all = Vec::new(alloc);

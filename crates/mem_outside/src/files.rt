@@ -1,8 +1,11 @@
 //! The files of a store in memory, and their states at past moments.
-ghost use Rattle.std.specs.Prelude.{◌≡◌, ◌↔◌, ℕ, ◌+◌, ◌^◌, ◌<◌, ◌≤◌, ◌≢◌, map, Bool, true, false, ◌++◌, [], ◌∷◌, length, take, IsTrue, IfOk, OnOk, OnErr, MatchOption, IfSome, IsSomeAnd};
+ghost use Rattle.std.specs.Prelude.{◌≡◌, ◌↔◌, ℕ, ◌+◌, ◌^◌, ◌<◌, ◌≤◌, ◌≢◌, map, Bool, true, false, ◌++◌, []};
+ghost use Rattle.std.specs.Prelude.{◌∷◌, length, take, IsTrue, IfOk, OnOk, OnErr, MatchOption, IfSome};
+ghost use Rattle.std.specs.Prelude.{IsSomeAnd};
 ghost use Rattle.std.specs.List.{list_all};
 ghost use Rattle.outside_traits.specs.Calls.{Passes, Acts, Torn, Shortened, Same, Gone, NextIs};
-ghost use Rattle.mem_outside.specs.Outcomes.{absent, is_sound, state_in, with_file, written, shortened, synced, removed, kept, left_of, stable_file};
+ghost use Rattle.mem_outside.specs.Outcomes.{absent, is_sound, state_in, with_file, written, shortened};
+ghost use Rattle.mem_outside.specs.Outcomes.{synced, removed, kept, left_of, stable_file};
 ghost use Rattle.mem_outside.specs.Moments.{view_of};
 
 use crate::file_state::FileState;
@@ -12,7 +15,8 @@ use std::mem;
 
 // The entry of the file of this number.
 fn entry_of(files: &[FileState], file: u64) -> Option<&FileState>
-    ensures { MatchOption result (state_in files.now file ≡ absent file) (λ state. state.now ≡ state_in files.now file) }
+    ensures { MatchOption result (state_in files.now file ≡ absent file)
+        (λ state. state.now ≡ state_in files.now file) }
 {
     for state in files {
         if state.number() == file {
@@ -107,10 +111,13 @@ pub(crate) fn write(
     requires sound { IsTrue (list_all is_sound current.old.items) }
     requires room { at + length bytes.now < 2 ^ 64 }
     ensures sound { IsTrue (list_all is_sound current.new.items) }
-    ensures state { OnOk result (state_in current.new.items file ≡ written at bytes.now done (state_in current.old.items file)) }
-    ensures others { OnOk result ((g : ℕ) → g ≢ file → state_in current.new.items g ≡ state_in current.old.items g) }
+    ensures state { OnOk result
+        (state_in current.new.items file ≡ written at bytes.now done (state_in current.old.items file)) }
+    ensures others { OnOk result
+        ((g : ℕ) → g ≢ file → state_in current.new.items g ≡ state_in current.old.items g) }
     ensures stays { OnErr result (current.new.items ≡ current.old.items) }
-    ensures acts { Acts file (Torn at (length bytes.now)) (view_of past.old.items current.old.items) (view_of past.new.items current.new.items) }
+    ensures acts { Acts file (Torn at (length bytes.now)) (view_of past.old.items current.old.items)
+        (view_of past.new.items current.new.items) }
 {
     let state = state_in(alloc, current, file)?;
     let next = state.written(alloc, at, bytes, done)?;
@@ -129,10 +136,13 @@ pub(crate) fn cut(
 ) -> Result<(), Memory>
     requires sound { IsTrue (list_all is_sound current.old.items) }
     ensures sound { IsTrue (list_all is_sound current.new.items) }
-    ensures state { OnOk result (state_in current.new.items file ≡ shortened len done (state_in current.old.items file)) }
-    ensures others { OnOk result ((g : ℕ) → g ≢ file → state_in current.new.items g ≡ state_in current.old.items g) }
+    ensures state { OnOk result
+        (state_in current.new.items file ≡ shortened len done (state_in current.old.items file)) }
+    ensures others { OnOk result
+        ((g : ℕ) → g ≢ file → state_in current.new.items g ≡ state_in current.old.items g) }
     ensures stays { OnErr result (current.new.items ≡ current.old.items) }
-    ensures acts { Acts file (Shortened len) (view_of past.old.items current.old.items) (view_of past.new.items current.new.items) }
+    ensures acts { Acts file (Shortened len) (view_of past.old.items current.old.items)
+        (view_of past.new.items current.new.items) }
 {
     let state = state_in(alloc, current, file)?;
     let next = state.shortened(alloc, len, done)?;
@@ -150,11 +160,13 @@ pub(crate) fn sync(
     requires sound { IsTrue (list_all is_sound current.old.items) }
     ensures sound { IsTrue (list_all is_sound current.new.items) }
     ensures state { OnOk result (state_in current.new.items file ≡ synced (state_in current.old.items file)) }
-    ensures others { OnOk result ((g : ℕ) → g ≢ file → state_in current.new.items g ≡ kept false (state_in current.old.items g)) }
+    ensures others { OnOk result
+        ((g : ℕ) → g ≢ file → state_in current.new.items g ≡ kept false (state_in current.old.items g)) }
     ensures stays { OnErr result (current.new.items ≡ current.old.items) }
     ensures all_gone { OnOk result ((g : ℕ) → (state_in current.new.items g).gone ≡ []) }
     ensures there { (state_in current.new.items file).there ≡ (state_in current.old.items file).there }
-    ensures acts { Acts file Same (view_of past.old.items current.old.items) (view_of past.new.items current.new.items) }
+    ensures acts { Acts file Same (view_of past.old.items current.old.items)
+        (view_of past.new.items current.new.items) }
 {
     let state = state_in(alloc, current, file)?;
     let next = state.synced(alloc)?;
@@ -171,10 +183,13 @@ pub(crate) fn remove(
 ) -> Result<(), Memory>
     requires sound { IsTrue (list_all is_sound current.old.items) }
     ensures sound { IsTrue (list_all is_sound current.new.items) }
-    ensures state { OnOk result (state_in current.new.items file ≡ removed (state_in current.old.items file)) }
-    ensures others { OnOk result ((g : ℕ) → g ≢ file → state_in current.new.items g ≡ state_in current.old.items g) }
+    ensures state { OnOk result
+        (state_in current.new.items file ≡ removed (state_in current.old.items file)) }
+    ensures others { OnOk result
+        ((g : ℕ) → g ≢ file → state_in current.new.items g ≡ state_in current.old.items g) }
     ensures stays { OnErr result (current.new.items ≡ current.old.items) }
-    ensures acts { Acts file Gone (view_of past.old.items current.old.items) (view_of past.new.items current.new.items) }
+    ensures acts { Acts file Gone (view_of past.old.items current.old.items)
+        (view_of past.new.items current.new.items) }
 {
     let state = state_in(alloc, current, file)?;
     let next = state.removed(alloc)?;
@@ -196,8 +211,10 @@ pub(crate) fn next_from(files: &[FileState], from: u64) -> Option<u64>
 
 // The lesser of a number that is there, at or above `from`, and the one that was found so far.
 fn nearer(files: &[FileState], from: u64, number: u64, next: Option<u64>) -> Option<u64>
-    ensures found { IfSome next (λ n. (from ≤ n) × ((state_in files.now n).there ≡ true)) → IfSome result (λ n. (from ≤ n) × ((state_in files.now n).there ≡ true)) }
-    ensures least { from ≤ number → (state_in files.now number).there ≡ true → IsSomeAnd result (λ n. n ≤ number) }
+    ensures found { IfSome next (λ n. (from ≤ n) × ((state_in files.now n).there ≡ true))
+        → IfSome result (λ n. (from ≤ n) × ((state_in files.now n).there ≡ true)) }
+    ensures least { from ≤ number → (state_in files.now number).there ≡ true
+        → IsSomeAnd result (λ n. n ≤ number) }
     ensures lower { IfSome next (λ m. IsSomeAnd result (λ n. n ≤ m)) }
 {
     match next {
@@ -237,9 +254,11 @@ pub(crate) fn put(
     requires sound { IsTrue (list_all is_sound current.old.items) }
     ensures sound { IsTrue (list_all is_sound current.new.items) }
     ensures state { OnOk result (state_in current.new.items file ≡ stable_file file bytes.now) }
-    ensures stays { OnErr result ((current.new.items ≡ current.old.items) × (past.new.items ≡ past.old.items)) }
+    ensures stays { OnErr result
+        ((current.new.items ≡ current.old.items) × (past.new.items ≡ past.old.items)) }
     ensures others { (g : ℕ) → g ≢ file → state_in current.new.items g ≡ state_in current.old.items g }
-    ensures time { Passes (view_of past.old.items current.old.items) (view_of past.new.items current.new.items) }
+    ensures time { Passes (view_of past.old.items current.old.items)
+        (view_of past.new.items current.new.items) }
 {
     let state = FileState::stable(alloc, file, bytes)?;
     change(alloc, current, past, state, true)?;

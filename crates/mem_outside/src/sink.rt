@@ -1,5 +1,6 @@
 //! A sink in memory.
-ghost use Rattle.std.specs.Prelude.{◌≡◌, ℕ, ◌<◌, ◌≤◌, [], take, length, None, Some, IsTrue, IfOk, OnOk, OnErr};
+ghost use Rattle.std.specs.Prelude.{◌≡◌, ℕ, ◌<◌, ◌≤◌, [], take, length, None, Some, IsTrue, IfOk, OnOk};
+ghost use Rattle.std.specs.Prelude.{OnErr};
 ghost use Rattle.std.specs.Io.KnownBytes.{Appends, Keeps};
 ghost use Rattle.outside_traits.specs.Counts.{Rose};
 ghost use Rattle.mem_outside.specs.Schedule.{next_fails, from_call};
@@ -10,9 +11,9 @@ use outside_traits::{Failed, Sink};
 use std::alloc::Global;
 use std::marker::Model;
 
-/// A sink in memory, which takes all that it is given. Its writes are numbered from 0; a write fails where its number is
-/// listed, where it is at or above that of `fail_from`, or where it finds no memory. Contracts see the bytes that were
-/// written, which writes fail, and how many have failed.
+/// A sink in memory, which takes all that it is given. Its writes are numbered from 0; a write fails where
+/// its number is listed, where it is at or above that of `fail_from`, or where it finds no memory. Contracts
+/// see the bytes that were written, which writes fail, and how many have failed.
 #[derive(Drop)]
 pub struct MemSink {
     written: Vec<u8>,
@@ -80,10 +81,15 @@ impl Sink for MemSink {
         requires { 0 < length bytes.now }
         ensures some { IfOk result (λ n. 0 < n) }
         ensures bound { IfOk result (λ n. n ≤ length bytes.now) }
-        ensures bytes { IfOk result (λ n. Appends (⟦<MemSink as Sink>⟧.written self.old) (⟦<MemSink as Sink>⟧.written self.new) (take n bytes.now)) }
-        ensures failed { OnErr result (Keeps (⟦<MemSink as Sink>⟧.written self.old) (⟦<MemSink as Sink>⟧.written self.new)) }
-        ensures cause { OnErr result (Rose (⟦<MemSink as Sink>⟧.faults self.old) (⟦<MemSink as Sink>⟧.faults self.new)) }
-        ensures no_fault { OnOk result (⟦<MemSink as Sink>⟧.faults self.new ≡ ⟦<MemSink as Sink>⟧.faults self.old) }
+        ensures bytes { IfOk result
+            (λ n. Appends (⟦<MemSink as Sink>⟧.written self.old) (⟦<MemSink as Sink>⟧.written self.new)
+            (take n bytes.now)) }
+        ensures failed { OnErr result
+            (Keeps (⟦<MemSink as Sink>⟧.written self.old) (⟦<MemSink as Sink>⟧.written self.new)) }
+        ensures cause { OnErr result
+            (Rose (⟦<MemSink as Sink>⟧.faults self.old) (⟦<MemSink as Sink>⟧.faults self.new)) }
+        ensures no_fault { OnOk result
+            (⟦<MemSink as Sink>⟧.faults self.new ≡ ⟦<MemSink as Sink>⟧.faults self.old) }
         ensures counts { ⟦<MemSink as Sink>⟧.faults self.old ≤ ⟦<MemSink as Sink>⟧.faults self.new }
         ensures fails { IsTrue (next_fails self.old.schedule) → OnOk result ⊥ }
         ensures all { IfOk result (λ n. n ≡ length bytes.now) }

@@ -1,5 +1,6 @@
 //! A source in memory.
-ghost use Rattle.std.specs.Prelude.{◌≡◌, ◌↔◌, ℕ, ◌<◌, ◌≤◌, min, take, length, None, Some, IsTrue, IsErr, IfOk, OnOk, OnErr};
+ghost use Rattle.std.specs.Prelude.{◌≡◌, ◌↔◌, ℕ, ◌<◌, ◌≤◌, min, take, length, None, Some, IsTrue, IsErr};
+ghost use Rattle.std.specs.Prelude.{IfOk, OnOk, OnErr};
 ghost use Rattle.std.specs.Io.KnownBytes.{Consumes, IsAtEnd};
 ghost use Rattle.outside_traits.specs.Counts.{Rose};
 ghost use Rattle.outside_traits.specs.Bytes.{KeepsOrForgets};
@@ -10,9 +11,9 @@ use crate::schedule::next_call_fails;
 use outside_traits::{Failed, Source};
 use std::marker::Model;
 
-/// A source in memory, which gives its bytes in pieces. Its reads are numbered from 0; a read fails exactly where its
-/// number is listed. Contracts see the bytes that are left, the piece's length, the list with the number of the next
-/// read, and how many reads have failed.
+/// A source in memory, which gives its bytes in pieces. Its reads are numbered from 0; a read fails exactly
+/// where its number is listed. Contracts see the bytes that are left, the piece's length, the list with the
+/// number of the next read, and how many reads have failed.
 #[derive(Drop)]
 pub struct MemSource {
     bytes: Vec<u8>,
@@ -69,11 +70,16 @@ impl Source for MemSource {
     fn read(&mut self, buf: &mut [u8]) -> Result<usize, Failed>
         requires { 0 < length buf.old }
         ensures bound { IfOk result (λ n. n ≤ length buf.new) }
-        ensures bytes { IfOk result (λ n. Consumes (⟦<MemSource as Source>⟧.left self.old) (⟦<MemSource as Source>⟧.left self.new) (take n buf.new)) }
+        ensures bytes { IfOk result
+            (λ n. Consumes (⟦<MemSource as Source>⟧.left self.old) (⟦<MemSource as Source>⟧.left self.new)
+            (take n buf.new)) }
         ensures end { IfOk result (λ n. n ≡ 0 → IsAtEnd (⟦<MemSource as Source>⟧.left self.new)) }
-        ensures failed { OnErr result (KeepsOrForgets (⟦<MemSource as Source>⟧.left self.old) (⟦<MemSource as Source>⟧.left self.new)) }
-        ensures cause { OnErr result (Rose (⟦<MemSource as Source>⟧.faults self.old) (⟦<MemSource as Source>⟧.faults self.new)) }
-        ensures no_fault { OnOk result (⟦<MemSource as Source>⟧.faults self.new ≡ ⟦<MemSource as Source>⟧.faults self.old) }
+        ensures failed { OnErr result
+            (KeepsOrForgets (⟦<MemSource as Source>⟧.left self.old) (⟦<MemSource as Source>⟧.left self.new)) }
+        ensures cause { OnErr result
+            (Rose (⟦<MemSource as Source>⟧.faults self.old) (⟦<MemSource as Source>⟧.faults self.new)) }
+        ensures no_fault { OnOk result
+            (⟦<MemSource as Source>⟧.faults self.new ≡ ⟦<MemSource as Source>⟧.faults self.old) }
         ensures counts { ⟦<MemSource as Source>⟧.faults self.old ≤ ⟦<MemSource as Source>⟧.faults self.new }
         ensures fails { IsErr result ↔ IsTrue (next_fails self.old.schedule) }
         ensures piece { IfOk result (λ n. n ≡ next_piece self.old (length buf.old)) }

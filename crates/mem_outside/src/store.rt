@@ -1,11 +1,15 @@
 //! A store in memory.
-ghost use Rattle.std.specs.Prelude.{◌≡◌, ◌≢◌, ◌⊎◌, ℕ, ◌+◌, ◌^◌, ◌-◌, ◌/◌, ◌%◌, ◌==◌, ◌<◌, ◌≤◌, true, false, List, [], length, take, map, min, None, IsTrue, IfOk, IfSome, OnOk, OnErr};
+ghost use Rattle.std.specs.Prelude.{◌≡◌, ◌≢◌, ◌⊎◌, ℕ, ◌+◌, ◌^◌, ◌-◌, ◌/◌, ◌%◌, ◌==◌, ◌<◌, ◌≤◌, true, false};
+ghost use Rattle.std.specs.Prelude.{List, [], length, take, map, min, None, IsTrue, IfOk, IfSome, OnOk};
+ghost use Rattle.std.specs.Prelude.{OnErr};
 ghost use Rattle.std.specs.List.{list_all};
 ghost use Rattle.mem_outside.specs.Shown.{Shown};
-ghost use Rattle.mem_outside.specs.Outcomes.{is_sound, state_in, stable_file, written, shortened, synced, removed, left_of};
+ghost use Rattle.mem_outside.specs.Outcomes.{is_sound, state_in, stable_file, written, shortened, synced};
+ghost use Rattle.mem_outside.specs.Outcomes.{removed, kept, left_of};
 ghost use Rattle.mem_outside.specs.Moments.{view_of};
 ghost use Rattle.mem_outside.specs.Laws.{state_reads, state_absent};
 ghost use Rattle.mem_outside.specs.Schedule.{Schedule, next_fails, called, from_call};
+ghost use Rattle.mem_outside.specs.Refused.{LeavesFailed};
 ghost use Rattle.outside_traits.specs.Counts.{Rose};
 ghost use Rattle.outside_traits.specs.View.{Counts, Now, Only, IsImageAt};
 ghost use Rattle.outside_traits.specs.Calls.{
@@ -16,6 +20,7 @@ ghost use Rattle.outside_traits.specs.Calls.{
   Gone,
   Acts,
   Idles,
+  Passes,
   StayGone,
   NextIs,
   IsRead,
@@ -32,8 +37,9 @@ use outside_traits::{Failed, Store};
 use rows_core::{Memory, Seq};
 use std::alloc::Global;
 
-/// A store in memory, which keeps what a crash may have left at each moment. Its calls are numbered from 0; a call
-/// fails where its number is listed, where it is at or above that of `fail_from`, or where it finds no memory.
+/// A store in memory, which keeps what a crash may have left at each moment. Its calls are numbered from 0; a
+/// call fails where its number is listed, where it is at or above that of `fail_from`, or where it finds no
+/// memory.
 #[derive(Drop)]
 pub struct MemStore {
     alloc: Global,
@@ -46,6 +52,7 @@ pub struct MemStore {
     writes: u64,
     removes: u64,
     taken: u64,
+    refused: u64,
     ghost sound: { IsTrue (list_all is_sound current.items) },
 }
 
@@ -54,9 +61,12 @@ impl MemStore {
     pub fn new(alloc: Global, fails: Vec<u64>) -> MemStore
         ensures files { (file : ℕ) → (⟦<MemStore as Store>⟧.view result).files file ≡ [] }
         ensures there { (file : ℕ) → (⟦<MemStore as Store>⟧.view result).there file ≡ false }
-        ensures counts { ⟦<MemStore as Store>⟧.counts result ≡ record { reads = 0; writes = 0; removes = 0; taken = 0 } }
+        ensures counts { ⟦<MemStore as Store>⟧.counts result
+            ≡ record { reads = 0; writes = 0; removes = 0; taken = 0 } }
         ensures shown { ⟦<MemStore as InMemory>⟧.shown result ≡ [] }
-        ensures schedule { ⟦<MemStore as InMemory>⟧.schedule result ≡ record { listed = fails.items; from = None; next = 0 } }
+        ensures refused { ⟦<MemStore as InMemory>⟧.refused result ≡ 0 }
+        ensures schedule { ⟦<MemStore as InMemory>⟧.schedule result
+            ≡ record { listed = fails.items; from = None; next = 0 } }
     {
         MemStore {
             alloc,
@@ -69,6 +79,7 @@ impl MemStore {
             writes: 0,
             removes: 0,
             taken: 0,
+            refused: 0,
         }
     }
 
@@ -77,33 +88,60 @@ impl MemStore {
         ensures view { Idles (⟦<MemStore as Store>⟧.view self.old) (⟦<MemStore as Store>⟧.view self.new) }
         ensures counts { ⟦<MemStore as Store>⟧.counts self.new ≡ ⟦<MemStore as Store>⟧.counts self.old }
         ensures shown { ⟦<MemStore as InMemory>⟧.shown self.new ≡ ⟦<MemStore as InMemory>⟧.shown self.old }
-        ensures schedule { ⟦<MemStore as InMemory>⟧.schedule self.new ≡ from_call call (⟦<MemStore as InMemory>⟧.schedule self.old) }
+        ensures refused { ⟦<MemStore as InMemory>⟧.refused self.new
+            ≡ ⟦<MemStore as InMemory>⟧.refused self.old }
+        ensures schedule { ⟦<MemStore as InMemory>⟧.schedule self.new
+            ≡ from_call call (⟦<MemStore as InMemory>⟧.schedule self.old) }
     {
         self.fail_from = Some(call);
     }
 
-    /// Makes the file be there with these bytes, which are stable. It is no call of the store and doesn't fail as one.
+    /// Makes the file be there with these bytes, which are stable. It is no call of the store and doesn't
+    /// fail as one.
     pub fn put(&mut self, file: u64, bytes: &[u8]) -> Result<(), Memory>
         ensures bytes { OnOk result ((⟦<MemStore as Store>⟧.view self.new).files file ≡ bytes.now) }
         ensures there { OnOk result ((⟦<MemStore as Store>⟧.view self.new).there file ≡ true) }
         ensures stable { OnOk result (Only bytes.now (Now (⟦<MemStore as Store>⟧.view self.new) file)) }
-        ensures others { (g : ℕ) → g ≢ file → (⟦<MemStore as Store>⟧.view self.new).files g ≡ (⟦<MemStore as Store>⟧.view self.old).files g }
+        ensures others { (g : ℕ) → g ≢ file
+            → state_in (⟦<MemStore as InMemory>⟧.shown self.new) g
+            ≡ state_in (⟦<MemStore as InMemory>⟧.shown self.old) g }
+        ensures time { Passes (⟦<MemStore as Store>⟧.view self.old) (⟦<MemStore as Store>⟧.view self.new) }
+        // Nothing changes where it finds no memory.
+        ensures memory { OnErr result
+            ((⟦<MemStore as InMemory>⟧.shown self.new ≡ ⟦<MemStore as InMemory>⟧.shown self.old)
+            × ((⟦<MemStore as Store>⟧.view self.new).moment ≡ (⟦<MemStore as Store>⟧.view self.old).moment)) }
         ensures counts { ⟦<MemStore as Store>⟧.counts self.new ≡ ⟦<MemStore as Store>⟧.counts self.old }
-        ensures shown { OnOk result (state_in (⟦<MemStore as InMemory>⟧.shown self.new) file ≡ stable_file file bytes.now) }
-        ensures schedule { ⟦<MemStore as InMemory>⟧.schedule self.new ≡ ⟦<MemStore as InMemory>⟧.schedule self.old }
+        ensures shown { OnOk result
+            (state_in (⟦<MemStore as InMemory>⟧.shown self.new) file ≡ stable_file file bytes.now) }
+        ensures schedule { ⟦<MemStore as InMemory>⟧.schedule self.new
+            ≡ ⟦<MemStore as InMemory>⟧.schedule self.old }
     {
         files::put(self.alloc, &mut self.current, &mut self.past, file, bytes)?;
         Ok(())
     }
 
-    /// The store after a crash now, without faults: one of the images. Bit 0 of `pick` takes each file's greatest length
-    /// in place of its least, bit 1 makes each byte that may be anything 1 in place of 0, and bit 2 keeps the removed
-    /// files that may still be there.
+    /// The store after a crash now, without faults: one of the images. Bit 0 of `pick` takes each file's
+    /// greatest length in place of its least, bit 1 makes each byte that may be anything 1 in place of 0, and
+    /// bit 2 keeps the removed files that may still be there.
     pub fn image(&self, pick: u64) -> Result<MemStore, Memory>
-        ensures image { IfOk result (λ store. IsImageAt (⟦<MemStore as Store>⟧.view self.now) (⟦<MemStore as Store>⟧.view self.now).moment (⟦<MemStore as Store>⟧.view store).files) }
-        ensures counts { IfOk result (λ store. ⟦<MemStore as Store>⟧.counts store ≡ record { reads = 0; writes = 0; removes = 0; taken = 0 }) }
-        ensures shown { IfOk result (λ store. ⟦<MemStore as InMemory>⟧.shown store ≡ map (left_of (pick % 2 == 1) (pick / 2 % 2) (pick / 4 % 2 == 1)) (⟦<MemStore as InMemory>⟧.shown self.now)) }
-        ensures schedule { IfOk result (λ store. ⟦<MemStore as InMemory>⟧.schedule store ≡ record { listed = []; from = None; next = 0 }) }
+        ensures image { IfOk result
+            (λ store. IsImageAt (⟦<MemStore as Store>⟧.view self.now)
+            (⟦<MemStore as Store>⟧.view self.now).moment (⟦<MemStore as Store>⟧.view store).files) }
+        ensures counts { IfOk result
+            (λ store. ⟦<MemStore as Store>⟧.counts store
+            ≡ record { reads = 0; writes = 0; removes = 0; taken = 0 }) }
+        ensures shown { IfOk result
+            (λ store. ⟦<MemStore as InMemory>⟧.shown store
+            ≡ map (left_of (pick % 2 == 1) (pick / 2 % 2) (pick / 4 % 2 == 1))
+            (⟦<MemStore as InMemory>⟧.shown self.now)) }
+        ensures files { IfOk result
+            (λ store. (g : ℕ)
+            → (⟦<MemStore as Store>⟧.view store).files g
+            ≡ (left_of (pick % 2 == 1) (pick / 2 % 2) (pick / 4 % 2 == 1)
+            (state_in (⟦<MemStore as InMemory>⟧.shown self.now) g)).bytes) }
+        ensures schedule { IfOk result
+            (λ store. ⟦<MemStore as InMemory>⟧.schedule store
+            ≡ record { listed = []; from = None; next = 0 }) }
     {
         let greatest = pick % 2 == 1;
         let filler = (pick / 2 % 2) as u8;
@@ -120,6 +158,7 @@ impl MemStore {
             writes: 0,
             removes: 0,
             taken: 0,
+            refused: 0,
         })
     }
 
@@ -138,12 +177,17 @@ pub trait InMemory {
 
     // Which calls fail.
     ghost schedule: { Self → Schedule };
+
+    // How many calls have found no memory. The count stands still at the greatest u64.
+    ghost refused: { Self → ℕ };
 }
 
 impl InMemory for MemStore {
     ghost shown = { λ s. s.current.items };
 
     ghost schedule = { λ s. record { listed = s.fails.items; from = s.fail_from; next = s.next_call } };
+
+    ghost refused = { λ s. s.refused };
 }
 
 impl Store for MemStore {
@@ -151,7 +195,12 @@ impl Store for MemStore {
 
     ghost view = { λ s. view_of s.past.items s.current.items };
 
-    ghost counts = { λ s. record { reads = s.reads; writes = s.writes; removes = s.removes; taken = s.taken } };
+    ghost counts = { λ s. record {
+      reads = s.reads;
+      writes = s.writes;
+      removes = s.removes;
+      taken = s.taken;
+    } };
 
     ghost reads_outcome = { λ s file. state_reads s.past.items s.current.items s.sound file };
 
@@ -159,13 +208,21 @@ impl Store for MemStore {
 
     fn attach(&mut self, _folder: &str) -> Result<(), Failed>
         ensures idles { Idles (⟦<MemStore as Store>⟧.view self.old) (⟦<MemStore as Store>⟧.view self.new) }
-        ensures cause { OnErr result (Rose (⟦<MemStore as Store>⟧.counts self.old).reads (⟦<MemStore as Store>⟧.counts self.new).reads) }
-        ensures no_fault { OnOk result ((⟦<MemStore as Store>⟧.counts self.new).reads ≡ (⟦<MemStore as Store>⟧.counts self.old).reads) }
-        ensures counts { MayRaiseReads (⟦<MemStore as Store>⟧.counts self.old) (⟦<MemStore as Store>⟧.counts self.new) }
-        ensures taken { (⟦<MemStore as Store>⟧.counts self.new).taken ≡ (⟦<MemStore as Store>⟧.counts self.old).taken }
+        ensures cause { OnErr result
+            (Rose (⟦<MemStore as Store>⟧.counts self.old).reads
+            (⟦<MemStore as Store>⟧.counts self.new).reads) }
+        ensures no_fault { OnOk result
+            ((⟦<MemStore as Store>⟧.counts self.new).reads ≡ (⟦<MemStore as Store>⟧.counts self.old).reads) }
+        ensures counts { MayRaiseReads (⟦<MemStore as Store>⟧.counts self.old)
+            (⟦<MemStore as Store>⟧.counts self.new) }
+        ensures taken { (⟦<MemStore as Store>⟧.counts self.new).taken
+            ≡ (⟦<MemStore as Store>⟧.counts self.old).taken }
         ensures fails { IsTrue (next_fails (⟦<MemStore as InMemory>⟧.schedule self.old)) → OnOk result ⊥ }
         ensures no_other { OnErr result (IsTrue (next_fails (⟦<MemStore as InMemory>⟧.schedule self.old))) }
-        ensures schedule { ⟦<MemStore as InMemory>⟧.schedule self.new ≡ called (⟦<MemStore as InMemory>⟧.schedule self.old) }
+        ensures same { (⟦<MemStore as InMemory>⟧.shown self.new ≡ ⟦<MemStore as InMemory>⟧.shown self.old)
+            × (⟦<MemStore as InMemory>⟧.refused self.new ≡ ⟦<MemStore as InMemory>⟧.refused self.old) }
+        ensures schedule { ⟦<MemStore as InMemory>⟧.schedule self.new
+            ≡ called (⟦<MemStore as InMemory>⟧.schedule self.old) }
     {
         let fails = next_call_fails(&self.fails, self.fail_from, &mut self.next_call);
         if fails {
@@ -176,15 +233,24 @@ impl Store for MemStore {
     }
 
     fn size(&mut self, file: u64) -> Result<u64, Failed>
-        ensures size { IfOk result (λ size. size ≡ length ((⟦<MemStore as Store>⟧.view self.old).files file)) }
+        ensures size { IfOk result
+            (λ size. size ≡ length ((⟦<MemStore as Store>⟧.view self.old).files file)) }
         ensures idles { Idles (⟦<MemStore as Store>⟧.view self.old) (⟦<MemStore as Store>⟧.view self.new) }
-        ensures cause { OnErr result (Rose (⟦<MemStore as Store>⟧.counts self.old).reads (⟦<MemStore as Store>⟧.counts self.new).reads) }
-        ensures no_fault { OnOk result ((⟦<MemStore as Store>⟧.counts self.new).reads ≡ (⟦<MemStore as Store>⟧.counts self.old).reads) }
-        ensures counts { MayRaiseReads (⟦<MemStore as Store>⟧.counts self.old) (⟦<MemStore as Store>⟧.counts self.new) }
-        ensures taken { (⟦<MemStore as Store>⟧.counts self.new).taken ≡ (⟦<MemStore as Store>⟧.counts self.old).taken }
+        ensures cause { OnErr result
+            (Rose (⟦<MemStore as Store>⟧.counts self.old).reads
+            (⟦<MemStore as Store>⟧.counts self.new).reads) }
+        ensures no_fault { OnOk result
+            ((⟦<MemStore as Store>⟧.counts self.new).reads ≡ (⟦<MemStore as Store>⟧.counts self.old).reads) }
+        ensures counts { MayRaiseReads (⟦<MemStore as Store>⟧.counts self.old)
+            (⟦<MemStore as Store>⟧.counts self.new) }
+        ensures taken { (⟦<MemStore as Store>⟧.counts self.new).taken
+            ≡ (⟦<MemStore as Store>⟧.counts self.old).taken }
         ensures fails { IsTrue (next_fails (⟦<MemStore as InMemory>⟧.schedule self.old)) → OnOk result ⊥ }
         ensures no_other { OnErr result (IsTrue (next_fails (⟦<MemStore as InMemory>⟧.schedule self.old))) }
-        ensures schedule { ⟦<MemStore as InMemory>⟧.schedule self.new ≡ called (⟦<MemStore as InMemory>⟧.schedule self.old) }
+        ensures same { (⟦<MemStore as InMemory>⟧.shown self.new ≡ ⟦<MemStore as InMemory>⟧.shown self.old)
+            × (⟦<MemStore as InMemory>⟧.refused self.new ≡ ⟦<MemStore as InMemory>⟧.refused self.old) }
+        ensures schedule { ⟦<MemStore as InMemory>⟧.schedule self.new
+            ≡ called (⟦<MemStore as InMemory>⟧.schedule self.old) }
     {
         let fails = next_call_fails(&self.fails, self.fail_from, &mut self.next_call);
         if fails {
@@ -196,16 +262,27 @@ impl Store for MemStore {
 
     fn read(&mut self, file: u64, at: u64, buf: &mut [u8]) -> Result<usize, Failed>
         ensures bound { IfOk result (λ n. n ≤ length buf.new) }
-        ensures bytes { IfOk result (λ n. IsRead ((⟦<MemStore as Store>⟧.view self.old).files file) at (length buf.old) n buf.new) }
+        ensures bytes { IfOk result
+            (λ n. IsRead ((⟦<MemStore as Store>⟧.view self.old).files file) at (length buf.old) n buf.new) }
         ensures idles { Idles (⟦<MemStore as Store>⟧.view self.old) (⟦<MemStore as Store>⟧.view self.new) }
-        ensures cause { OnErr result (Rose (⟦<MemStore as Store>⟧.counts self.old).reads (⟦<MemStore as Store>⟧.counts self.new).reads) }
-        ensures no_fault { OnOk result ((⟦<MemStore as Store>⟧.counts self.new).reads ≡ (⟦<MemStore as Store>⟧.counts self.old).reads) }
-        ensures counts { MayRaiseReads (⟦<MemStore as Store>⟧.counts self.old) (⟦<MemStore as Store>⟧.counts self.new) }
-        ensures taken { IfOk result (λ n. CountsTaken n (⟦<MemStore as Store>⟧.counts self.old) (⟦<MemStore as Store>⟧.counts self.new)) }
-        ensures none_taken { OnErr result ((⟦<MemStore as Store>⟧.counts self.new).taken ≡ (⟦<MemStore as Store>⟧.counts self.old).taken) }
+        ensures cause { OnErr result
+            (Rose (⟦<MemStore as Store>⟧.counts self.old).reads
+            (⟦<MemStore as Store>⟧.counts self.new).reads) }
+        ensures no_fault { OnOk result
+            ((⟦<MemStore as Store>⟧.counts self.new).reads ≡ (⟦<MemStore as Store>⟧.counts self.old).reads) }
+        ensures counts { MayRaiseReads (⟦<MemStore as Store>⟧.counts self.old)
+            (⟦<MemStore as Store>⟧.counts self.new) }
+        ensures taken { IfOk result
+            (λ n. CountsTaken n (⟦<MemStore as Store>⟧.counts self.old)
+            (⟦<MemStore as Store>⟧.counts self.new)) }
+        ensures none_taken { OnErr result
+            ((⟦<MemStore as Store>⟧.counts self.new).taken ≡ (⟦<MemStore as Store>⟧.counts self.old).taken) }
         ensures fails { IsTrue (next_fails (⟦<MemStore as InMemory>⟧.schedule self.old)) → OnOk result ⊥ }
         ensures no_other { OnErr result (IsTrue (next_fails (⟦<MemStore as InMemory>⟧.schedule self.old))) }
-        ensures schedule { ⟦<MemStore as InMemory>⟧.schedule self.new ≡ called (⟦<MemStore as InMemory>⟧.schedule self.old) }
+        ensures same { (⟦<MemStore as InMemory>⟧.shown self.new ≡ ⟦<MemStore as InMemory>⟧.shown self.old)
+            × (⟦<MemStore as InMemory>⟧.refused self.new ≡ ⟦<MemStore as InMemory>⟧.refused self.old) }
+        ensures schedule { ⟦<MemStore as InMemory>⟧.schedule self.new
+            ≡ called (⟦<MemStore as InMemory>⟧.schedule self.old) }
     {
         let fails = next_call_fails(&self.fails, self.fail_from, &mut self.next_call);
         if fails {
@@ -219,15 +296,36 @@ impl Store for MemStore {
 
     fn write(&mut self, file: u64, at: u64, bytes: &[u8]) -> Result<(), Failed>
         requires { at + length bytes.now < 2 ^ 64 }
-        ensures written { OnOk result ((⟦<MemStore as Store>⟧.view self.new).files file ≡ overlaid ((⟦<MemStore as Store>⟧.view self.old).files file) at bytes.now) }
+        ensures written { OnOk result
+            ((⟦<MemStore as Store>⟧.view self.new).files file
+            ≡ overlaid ((⟦<MemStore as Store>⟧.view self.old).files file) at bytes.now) }
         ensures there { OnOk result ((⟦<MemStore as Store>⟧.view self.new).there file ≡ true) }
-        ensures acts { Acts file (Torn at (length bytes.now)) (⟦<MemStore as Store>⟧.view self.old) (⟦<MemStore as Store>⟧.view self.new) }
-        ensures cause { OnErr result (Rose (⟦<MemStore as Store>⟧.counts self.old).writes (⟦<MemStore as Store>⟧.counts self.new).writes) }
-        ensures no_fault { OnOk result ((⟦<MemStore as Store>⟧.counts self.new).writes ≡ (⟦<MemStore as Store>⟧.counts self.old).writes) }
-        ensures counts { MayRaiseWrites (⟦<MemStore as Store>⟧.counts self.old) (⟦<MemStore as Store>⟧.counts self.new) }
+        ensures acts { Acts file (Torn at (length bytes.now)) (⟦<MemStore as Store>⟧.view self.old)
+            (⟦<MemStore as Store>⟧.view self.new) }
+        ensures cause { OnErr result
+            (Rose (⟦<MemStore as Store>⟧.counts self.old).writes
+            (⟦<MemStore as Store>⟧.counts self.new).writes) }
+        ensures no_fault { OnOk result
+            ((⟦<MemStore as Store>⟧.counts self.new).writes
+            ≡ (⟦<MemStore as Store>⟧.counts self.old).writes) }
+        ensures counts { MayRaiseWrites (⟦<MemStore as Store>⟧.counts self.old)
+            (⟦<MemStore as Store>⟧.counts self.new) }
         ensures fails { IsTrue (next_fails (⟦<MemStore as InMemory>⟧.schedule self.old)) → OnOk result ⊥ }
-        ensures shown { OnOk result (state_in (⟦<MemStore as InMemory>⟧.shown self.new) file ≡ written at bytes.now true (state_in (⟦<MemStore as InMemory>⟧.shown self.old) file)) }
-        ensures schedule { ⟦<MemStore as InMemory>⟧.schedule self.new ≡ called (⟦<MemStore as InMemory>⟧.schedule self.old) }
+        ensures shown { OnOk result
+            (state_in (⟦<MemStore as InMemory>⟧.shown self.new) file
+            ≡ written at bytes.now true (state_in (⟦<MemStore as InMemory>⟧.shown self.old) file)) }
+        ensures tried { OnErr result
+            (LeavesFailed (next_fails (⟦<MemStore as InMemory>⟧.schedule self.old))
+            (written at bytes.now false) file (⟦<MemStore as InMemory>⟧.shown self.old)
+            (⟦<MemStore as InMemory>⟧.shown self.new) (⟦<MemStore as InMemory>⟧.refused self.old)
+            (⟦<MemStore as InMemory>⟧.refused self.new)) }
+        ensures no_refusal { OnOk result
+            (⟦<MemStore as InMemory>⟧.refused self.new ≡ ⟦<MemStore as InMemory>⟧.refused self.old) }
+        ensures others { (g : ℕ) → g ≢ file
+            → state_in (⟦<MemStore as InMemory>⟧.shown self.new) g
+            ≡ state_in (⟦<MemStore as InMemory>⟧.shown self.old) g }
+        ensures schedule { ⟦<MemStore as InMemory>⟧.schedule self.new
+            ≡ called (⟦<MemStore as InMemory>⟧.schedule self.old) }
     {
         let fails = next_call_fails(&self.fails, self.fail_from, &mut self.next_call);
         match files::write(
@@ -240,7 +338,12 @@ impl Store for MemStore {
             !fails,
         ) {
             Ok(()) if !fails => Ok(()),
-            _ => {
+            Ok(()) => {
+                self.writes = self.writes.saturating_add(1);
+                Err(Failed)
+            }
+            Err(Memory) => {
+                self.refused = self.refused.saturating_add(1);
                 self.writes = self.writes.saturating_add(1);
                 Err(Failed)
             }
@@ -248,16 +351,41 @@ impl Store for MemStore {
     }
 
     fn cut(&mut self, file: u64, len: u64) -> Result<(), Failed>
-        ensures cut { OnOk result ((⟦<MemStore as Store>⟧.view self.new).files file ≡ take len ((⟦<MemStore as Store>⟧.view self.old).files file)) }
-        ensures failed { OnErr result (((⟦<MemStore as Store>⟧.view self.new).files file ≡ (⟦<MemStore as Store>⟧.view self.old).files file) ⊎ ((⟦<MemStore as Store>⟧.view self.new).files file ≡ take len ((⟦<MemStore as Store>⟧.view self.old).files file))) }
-        ensures there { (⟦<MemStore as Store>⟧.view self.new).there file ≡ (⟦<MemStore as Store>⟧.view self.old).there file }
-        ensures acts { Acts file (Shortened len) (⟦<MemStore as Store>⟧.view self.old) (⟦<MemStore as Store>⟧.view self.new) }
-        ensures cause { OnErr result (Rose (⟦<MemStore as Store>⟧.counts self.old).writes (⟦<MemStore as Store>⟧.counts self.new).writes) }
-        ensures no_fault { OnOk result ((⟦<MemStore as Store>⟧.counts self.new).writes ≡ (⟦<MemStore as Store>⟧.counts self.old).writes) }
-        ensures counts { MayRaiseWrites (⟦<MemStore as Store>⟧.counts self.old) (⟦<MemStore as Store>⟧.counts self.new) }
+        ensures cut { OnOk result
+            ((⟦<MemStore as Store>⟧.view self.new).files file
+            ≡ take len ((⟦<MemStore as Store>⟧.view self.old).files file)) }
+        ensures failed { OnErr result
+            (((⟦<MemStore as Store>⟧.view self.new).files file
+            ≡ (⟦<MemStore as Store>⟧.view self.old).files file)
+            ⊎ ((⟦<MemStore as Store>⟧.view self.new).files file
+            ≡ take len ((⟦<MemStore as Store>⟧.view self.old).files file))) }
+        ensures there { (⟦<MemStore as Store>⟧.view self.new).there file
+            ≡ (⟦<MemStore as Store>⟧.view self.old).there file }
+        ensures acts { Acts file (Shortened len) (⟦<MemStore as Store>⟧.view self.old)
+            (⟦<MemStore as Store>⟧.view self.new) }
+        ensures cause { OnErr result
+            (Rose (⟦<MemStore as Store>⟧.counts self.old).writes
+            (⟦<MemStore as Store>⟧.counts self.new).writes) }
+        ensures no_fault { OnOk result
+            ((⟦<MemStore as Store>⟧.counts self.new).writes
+            ≡ (⟦<MemStore as Store>⟧.counts self.old).writes) }
+        ensures counts { MayRaiseWrites (⟦<MemStore as Store>⟧.counts self.old)
+            (⟦<MemStore as Store>⟧.counts self.new) }
         ensures fails { IsTrue (next_fails (⟦<MemStore as InMemory>⟧.schedule self.old)) → OnOk result ⊥ }
-        ensures shown { OnOk result (state_in (⟦<MemStore as InMemory>⟧.shown self.new) file ≡ shortened len true (state_in (⟦<MemStore as InMemory>⟧.shown self.old) file)) }
-        ensures schedule { ⟦<MemStore as InMemory>⟧.schedule self.new ≡ called (⟦<MemStore as InMemory>⟧.schedule self.old) }
+        ensures shown { OnOk result
+            (state_in (⟦<MemStore as InMemory>⟧.shown self.new) file
+            ≡ shortened len true (state_in (⟦<MemStore as InMemory>⟧.shown self.old) file)) }
+        ensures tried { OnErr result
+            (LeavesFailed (next_fails (⟦<MemStore as InMemory>⟧.schedule self.old)) (shortened len false) file
+            (⟦<MemStore as InMemory>⟧.shown self.old) (⟦<MemStore as InMemory>⟧.shown self.new)
+            (⟦<MemStore as InMemory>⟧.refused self.old) (⟦<MemStore as InMemory>⟧.refused self.new)) }
+        ensures no_refusal { OnOk result
+            (⟦<MemStore as InMemory>⟧.refused self.new ≡ ⟦<MemStore as InMemory>⟧.refused self.old) }
+        ensures others { (g : ℕ) → g ≢ file
+            → state_in (⟦<MemStore as InMemory>⟧.shown self.new) g
+            ≡ state_in (⟦<MemStore as InMemory>⟧.shown self.old) g }
+        ensures schedule { ⟦<MemStore as InMemory>⟧.schedule self.new
+            ≡ called (⟦<MemStore as InMemory>⟧.schedule self.old) }
     {
         let fails = next_call_fails(&self.fails, self.fail_from, &mut self.next_call);
         match files::cut(
@@ -269,7 +397,12 @@ impl Store for MemStore {
             !fails,
         ) {
             Ok(()) if !fails => Ok(()),
-            _ => {
+            Ok(()) => {
+                self.writes = self.writes.saturating_add(1);
+                Err(Failed)
+            }
+            Err(Memory) => {
+                self.refused = self.refused.saturating_add(1);
                 self.writes = self.writes.saturating_add(1);
                 Err(Failed)
             }
@@ -277,16 +410,39 @@ impl Store for MemStore {
     }
 
     fn sync(&mut self, file: u64) -> Result<(), Failed>
-        ensures stable { OnOk result (Only ((⟦<MemStore as Store>⟧.view self.old).files file) (Now (⟦<MemStore as Store>⟧.view self.new) file)) }
+        ensures stable { OnOk result
+            (Only ((⟦<MemStore as Store>⟧.view self.old).files file)
+            (Now (⟦<MemStore as Store>⟧.view self.new) file)) }
         ensures removals { OnOk result (StayGone (⟦<MemStore as Store>⟧.view self.new)) }
-        ensures there { (⟦<MemStore as Store>⟧.view self.new).there file ≡ (⟦<MemStore as Store>⟧.view self.old).there file }
-        ensures acts { Acts file Same (⟦<MemStore as Store>⟧.view self.old) (⟦<MemStore as Store>⟧.view self.new) }
-        ensures cause { OnErr result (Rose (⟦<MemStore as Store>⟧.counts self.old).writes (⟦<MemStore as Store>⟧.counts self.new).writes) }
-        ensures no_fault { OnOk result ((⟦<MemStore as Store>⟧.counts self.new).writes ≡ (⟦<MemStore as Store>⟧.counts self.old).writes) }
-        ensures counts { MayRaiseWrites (⟦<MemStore as Store>⟧.counts self.old) (⟦<MemStore as Store>⟧.counts self.new) }
+        ensures there { (⟦<MemStore as Store>⟧.view self.new).there file
+            ≡ (⟦<MemStore as Store>⟧.view self.old).there file }
+        ensures acts { Acts file Same (⟦<MemStore as Store>⟧.view self.old)
+            (⟦<MemStore as Store>⟧.view self.new) }
+        ensures cause { OnErr result
+            (Rose (⟦<MemStore as Store>⟧.counts self.old).writes
+            (⟦<MemStore as Store>⟧.counts self.new).writes) }
+        ensures no_fault { OnOk result
+            ((⟦<MemStore as Store>⟧.counts self.new).writes
+            ≡ (⟦<MemStore as Store>⟧.counts self.old).writes) }
+        ensures counts { MayRaiseWrites (⟦<MemStore as Store>⟧.counts self.old)
+            (⟦<MemStore as Store>⟧.counts self.new) }
         ensures fails { IsTrue (next_fails (⟦<MemStore as InMemory>⟧.schedule self.old)) → OnOk result ⊥ }
-        ensures shown { OnOk result (state_in (⟦<MemStore as InMemory>⟧.shown self.new) file ≡ synced (state_in (⟦<MemStore as InMemory>⟧.shown self.old) file)) }
-        ensures schedule { ⟦<MemStore as InMemory>⟧.schedule self.new ≡ called (⟦<MemStore as InMemory>⟧.schedule self.old) }
+        ensures shown { OnOk result
+            (state_in (⟦<MemStore as InMemory>⟧.shown self.new) file
+            ≡ synced (state_in (⟦<MemStore as InMemory>⟧.shown self.old) file)) }
+        ensures unchanged { OnErr result
+            (⟦<MemStore as InMemory>⟧.shown self.new ≡ ⟦<MemStore as InMemory>⟧.shown self.old) }
+        ensures no_other { OnErr result
+            (IsTrue (next_fails (⟦<MemStore as InMemory>⟧.schedule self.old))
+            ⊎ Rose (⟦<MemStore as InMemory>⟧.refused self.old) (⟦<MemStore as InMemory>⟧.refused self.new)) }
+        ensures no_refusal { OnOk result
+            (⟦<MemStore as InMemory>⟧.refused self.new ≡ ⟦<MemStore as InMemory>⟧.refused self.old) }
+        ensures others { OnOk result
+            ((g : ℕ) → g ≢ file
+            → state_in (⟦<MemStore as InMemory>⟧.shown self.new) g
+            ≡ kept false (state_in (⟦<MemStore as InMemory>⟧.shown self.old) g)) }
+        ensures schedule { ⟦<MemStore as InMemory>⟧.schedule self.new
+            ≡ called (⟦<MemStore as InMemory>⟧.schedule self.old) }
     {
         let fails = next_call_fails(&self.fails, self.fail_from, &mut self.next_call);
         if fails {
@@ -296,6 +452,7 @@ impl Store for MemStore {
         match files::sync(self.alloc, &mut self.current, &mut self.past, file) {
             Ok(()) => Ok(()),
             Err(Memory) => {
+                self.refused = self.refused.saturating_add(1);
                 self.writes = self.writes.saturating_add(1);
                 Err(Failed)
             }
@@ -304,13 +461,32 @@ impl Store for MemStore {
 
     fn remove(&mut self, file: u64) -> Result<(), Failed>
         ensures removed { OnOk result ((⟦<MemStore as Store>⟧.view self.new).there file ≡ false) }
-        ensures acts { Acts file Gone (⟦<MemStore as Store>⟧.view self.old) (⟦<MemStore as Store>⟧.view self.new) }
-        ensures cause { OnErr result (Rose (⟦<MemStore as Store>⟧.counts self.old).removes (⟦<MemStore as Store>⟧.counts self.new).removes) }
-        ensures no_fault { OnOk result ((⟦<MemStore as Store>⟧.counts self.new).removes ≡ (⟦<MemStore as Store>⟧.counts self.old).removes) }
-        ensures counts { MayRaiseRemoves (⟦<MemStore as Store>⟧.counts self.old) (⟦<MemStore as Store>⟧.counts self.new) }
+        ensures acts { Acts file Gone (⟦<MemStore as Store>⟧.view self.old)
+            (⟦<MemStore as Store>⟧.view self.new) }
+        ensures cause { OnErr result
+            (Rose (⟦<MemStore as Store>⟧.counts self.old).removes
+            (⟦<MemStore as Store>⟧.counts self.new).removes) }
+        ensures no_fault { OnOk result
+            ((⟦<MemStore as Store>⟧.counts self.new).removes
+            ≡ (⟦<MemStore as Store>⟧.counts self.old).removes) }
+        ensures counts { MayRaiseRemoves (⟦<MemStore as Store>⟧.counts self.old)
+            (⟦<MemStore as Store>⟧.counts self.new) }
         ensures fails { IsTrue (next_fails (⟦<MemStore as InMemory>⟧.schedule self.old)) → OnOk result ⊥ }
-        ensures shown { OnOk result (state_in (⟦<MemStore as InMemory>⟧.shown self.new) file ≡ removed (state_in (⟦<MemStore as InMemory>⟧.shown self.old) file)) }
-        ensures schedule { ⟦<MemStore as InMemory>⟧.schedule self.new ≡ called (⟦<MemStore as InMemory>⟧.schedule self.old) }
+        ensures shown { OnOk result
+            (state_in (⟦<MemStore as InMemory>⟧.shown self.new) file
+            ≡ removed (state_in (⟦<MemStore as InMemory>⟧.shown self.old) file)) }
+        ensures unchanged { OnErr result
+            (⟦<MemStore as InMemory>⟧.shown self.new ≡ ⟦<MemStore as InMemory>⟧.shown self.old) }
+        ensures no_other { OnErr result
+            (IsTrue (next_fails (⟦<MemStore as InMemory>⟧.schedule self.old))
+            ⊎ Rose (⟦<MemStore as InMemory>⟧.refused self.old) (⟦<MemStore as InMemory>⟧.refused self.new)) }
+        ensures no_refusal { OnOk result
+            (⟦<MemStore as InMemory>⟧.refused self.new ≡ ⟦<MemStore as InMemory>⟧.refused self.old) }
+        ensures others { (g : ℕ) → g ≢ file
+            → state_in (⟦<MemStore as InMemory>⟧.shown self.new) g
+            ≡ state_in (⟦<MemStore as InMemory>⟧.shown self.old) g }
+        ensures schedule { ⟦<MemStore as InMemory>⟧.schedule self.new
+            ≡ called (⟦<MemStore as InMemory>⟧.schedule self.old) }
     {
         let fails = next_call_fails(&self.fails, self.fail_from, &mut self.next_call);
         if fails {
@@ -320,6 +496,7 @@ impl Store for MemStore {
         match files::remove(self.alloc, &mut self.current, &mut self.past, file) {
             Ok(()) => Ok(()),
             Err(Memory) => {
+                self.refused = self.refused.saturating_add(1);
                 self.removes = self.removes.saturating_add(1);
                 Err(Failed)
             }
@@ -330,13 +507,21 @@ impl Store for MemStore {
         ensures bound { IfOk result (λ next. IfSome next (λ file. from ≤ file)) }
         ensures next { IfOk result (NextIs (⟦<MemStore as Store>⟧.view self.old).there from) }
         ensures idles { Idles (⟦<MemStore as Store>⟧.view self.old) (⟦<MemStore as Store>⟧.view self.new) }
-        ensures cause { OnErr result (Rose (⟦<MemStore as Store>⟧.counts self.old).reads (⟦<MemStore as Store>⟧.counts self.new).reads) }
-        ensures no_fault { OnOk result ((⟦<MemStore as Store>⟧.counts self.new).reads ≡ (⟦<MemStore as Store>⟧.counts self.old).reads) }
-        ensures counts { MayRaiseReads (⟦<MemStore as Store>⟧.counts self.old) (⟦<MemStore as Store>⟧.counts self.new) }
-        ensures taken { (⟦<MemStore as Store>⟧.counts self.new).taken ≡ (⟦<MemStore as Store>⟧.counts self.old).taken }
+        ensures cause { OnErr result
+            (Rose (⟦<MemStore as Store>⟧.counts self.old).reads
+            (⟦<MemStore as Store>⟧.counts self.new).reads) }
+        ensures no_fault { OnOk result
+            ((⟦<MemStore as Store>⟧.counts self.new).reads ≡ (⟦<MemStore as Store>⟧.counts self.old).reads) }
+        ensures counts { MayRaiseReads (⟦<MemStore as Store>⟧.counts self.old)
+            (⟦<MemStore as Store>⟧.counts self.new) }
+        ensures taken { (⟦<MemStore as Store>⟧.counts self.new).taken
+            ≡ (⟦<MemStore as Store>⟧.counts self.old).taken }
         ensures fails { IsTrue (next_fails (⟦<MemStore as InMemory>⟧.schedule self.old)) → OnOk result ⊥ }
         ensures no_other { OnErr result (IsTrue (next_fails (⟦<MemStore as InMemory>⟧.schedule self.old))) }
-        ensures schedule { ⟦<MemStore as InMemory>⟧.schedule self.new ≡ called (⟦<MemStore as InMemory>⟧.schedule self.old) }
+        ensures same { (⟦<MemStore as InMemory>⟧.shown self.new ≡ ⟦<MemStore as InMemory>⟧.shown self.old)
+            × (⟦<MemStore as InMemory>⟧.refused self.new ≡ ⟦<MemStore as InMemory>⟧.refused self.old) }
+        ensures schedule { ⟦<MemStore as InMemory>⟧.schedule self.new
+            ≡ called (⟦<MemStore as InMemory>⟧.schedule self.old) }
     {
         let fails = next_call_fails(&self.fails, self.fail_from, &mut self.next_call);
         if fails {

@@ -1,6 +1,8 @@
 //! A real folder, some files of which are kept open.
-ghost use Rattle.std.specs.Prelude.{◌≡◌, ◌<◌, ◌≤◌, length, IfOk, IfSome, vec_len};
+ghost use Rattle.std.specs.Prelude.{◌≡◌, ◌↔◌, ◌<◌, ◌≤◌, ◌^◌, ◌++◌, ℕ, length, decimal, codes, IsTrue, IfOk};
+ghost use Rattle.std.specs.Prelude.{IfSome, vec_len};
 
+use itoa::Buffer;
 use std::fs::{DirEntry, File, OpenOptions};
 use std::io::ErrorKind;
 use std::os::unix::fs::FileExt;
@@ -11,8 +13,8 @@ use std::{fs, io};
 /// The most files that are kept open.
 const MAX_OPEN: usize = 16;
 
-/// A folder: file n is `n.nxt`, n in decimal without leading zeros, and other names aren't looked at. A folder in it with
-/// such a name is no file: it isn't listed, and calls on its number are errors.
+/// A folder: file n is `n.nxt`, n in decimal without leading zeros, and other names aren't looked at. A
+/// folder in it with such a name is no file: it isn't listed, and calls on its number are errors.
 #[derive(Drop)]
 pub struct Folder<'a, R> {
     runtime: &'a R,
@@ -75,7 +77,8 @@ impl<'a, R: AllocGlobal + Files<File = File>> Folder<'a, R> {
         }
     }
 
-    /// Writes the bytes at `at`, and makes the file where it isn't there. No bytes make a shorter file that long too.
+    /// Writes the bytes at `at`, and makes the file where it isn't there. No bytes make a shorter file that
+    /// long too.
     pub fn write(&mut self, number: u64, at: u64, bytes: &[u8]) -> io::Result<()> {
         match self.place(number, true)? {
             Some(place) if bytes.is_empty() => lengthen_shorter(&self.open[place].file, at),
@@ -188,7 +191,8 @@ impl<R> Folder<'_, R> {
 }
 
 impl<R: AllocGlobal + Files<File = File> + Clone + Drop> Folder<'_, R> {
-    /// The least number of a file that is there, at or above `from`. The folder is listed at the first call alone.
+    /// The least number of a file that is there, at or above `from`. The folder is listed at the first call
+    /// alone.
     pub fn next_file(&mut self, from: u64) -> io::Result<Option<u64>>
         ensures { IfOk result (λ next. IfSome next (λ number. from ≤ number)) }
     {
@@ -317,11 +321,24 @@ fn cut_longer(file: &File, len: u64) -> io::Result<()> {
     Ok(())
 }
 
-// The number of the file with this name.
-fn number_of(name: &str) -> Option<u64> {
-    let digits = name.strip_suffix(".nxt")?;
-    if digits.starts_with('+') || (digits.starts_with('0') && digits.len() > 1) {
+// The number of the file with this name: None exactly where no file has it.
+fn number_of(name: &str) -> Option<u64>
+    ensures { (number : ℕ) → number < 2 ^ 64
+        → ((result ≡ Some number) ↔ (name.now ≡ decimal number ++ codes ".nxt")) }
+{
+    let Some(digits) = name.strip_suffix(".nxt") else {
         return None;
+    };
+    match digits.parse::<u64>() {
+        Ok(number) if is_decimal_of(number, digits) => Some(number),
+        _ => None,
     }
-    digits.parse::<u64>().ok()
+}
+
+// Whether these are the digits of the number, without leading zeros.
+fn is_decimal_of(number: u64, digits: &str) -> bool
+    ensures { IsTrue result ↔ (digits.now ≡ decimal number) }
+{
+    let mut buffer = Buffer::new();
+    buffer.format(number).as_bytes() == digits.as_bytes()
 }

@@ -37,7 +37,12 @@ impl<R: AllocGlobal + Files<File = File> + Clone + Drop> Store for FolderStore<'
 
     ghost view = { λ _. untold };
 
-    ghost counts = { λ s. record { reads = s.read_faults; writes = s.write_faults; removes = s.remove_faults; taken = s.taken } };
+    ghost counts = { λ s. record {
+      reads = s.read_faults;
+      writes = s.write_faults;
+      removes = s.remove_faults;
+      taken = s.taken;
+    } };
 
     ghost reads_outcome = { λ s file. tt };
 

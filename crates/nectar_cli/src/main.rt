@@ -53,7 +53,8 @@ where
 
 // The words of the command line behind the program's own name.
 fn words_of<'a>(alloc: Global, arguments: &'a [String]) -> Result<Vec<&'a str>, AllocError>
-    ensures { IfOk result (λ words. map (λ word. word.now) words.items ≡ map string_bytes (drop 1 arguments.now)) }
+    ensures { IfOk result
+        (λ words. map (λ word. word.now) words.items ≡ map string_bytes (drop 1 arguments.now)) }
 {
     match arguments {
         [_, rest @ ..] => texts_of(alloc, rest),

@@ -40,9 +40,9 @@ module _ (r0 r1 : Lines) (s0 s1 : State) (w0 w1 : Option (List ℕ)) (f0 f1 : �
   TakenSoFar-more r2 s2 w2 f2 count fits serves = record {
     bound = omega (arith, fits, so_far.bound, length-take (length piece - at) (drop at piece), length-drop at piece);
     serving = λ start served begun before serving.
-      subst (λ rest. Serving start r2 s2 (served ++ take (at + count) piece) rest begun (with_sink before w2 f2)) (rest_next count)
-      (subst (λ t. Serving start r2 s2 t (drop count part) begun (with_sink before w2 f2)) (append_assoc served (take at piece) (take count part) ∙ ap (λ t. served ++ t) (taken_next piece at count))
-      (serves start (served ++ take at piece) begun before (at_part start served begun before serving)));
+        subst (λ rest. Serving start r2 s2 (served ++ take (at + count) piece) rest begun (with_sink before w2 f2)) (rest_next count)
+        (subst (λ t. Serving start r2 s2 t (drop count part) begun (with_sink before w2 f2)) (append_assoc served (take at piece) (take count part) ∙ ap (λ t. served ++ t) (taken_next piece at count))
+        (serves start (served ++ take at piece) begun before (at_part start served begun before serving)));
   }
 
   -- the bytes are those of the piece, whichever part of them is served

@@ -120,9 +120,9 @@ module _ (start : State) (reader : Lines) (session : State) (served rest : List 
         took = at.consumed;
         within = within;
         answered = inl (
-          subst (λ t. AnsweredInPart start (items t) begun (with_sink now written' sink_faults')) (append_assoc served (take count rest) (drop count rest) ∙ ap (λ t. served ++ t) (take-append-drop count rest))
-          (AnsweredInPart-command start reader session served begun now at.progress (take count rest) given ended (with_sink now written' sink_faults') (drop count rest) sent)
-        );
+            subst (λ t. AnsweredInPart start (items t) begun (with_sink now written' sink_faults')) (append_assoc served (take count rest) (drop count rest) ∙ ap (λ t. served ++ t) (take-append-drop count rest))
+            (AnsweredInPart-command start reader session served begun now at.progress (take count rest) given ended (with_sink now written' sink_faults') (drop count rest) sent)
+            );
       },
       Rose-since begun.sink_faults now.sink_faults sink_faults' at.progress.counts sent.rose,
     )

@@ -1,4 +1,5 @@
-//! The whole program as one call: from the words of the command line and the script's bytes to the answers' bytes.
+//! The whole program as one call: from the words of the command line and the script's bytes to the answers'
+//! bytes.
 #![tactic(auto)]
 
 pub mod exit;

@@ -21,11 +21,11 @@ const MAX_SCRIPT_LEN: usize = 1_073_741_824;
 /// The most bytes of one read.
 const PIECE_LEN: usize = 65_536;
 
-/// Runs the program on the words of the command line, without its own name. The script comes from the source, and each
-/// command's answer goes to the sink before the next command is performed.
+/// Runs the program on the words of the command line, without its own name. The script comes from the source,
+/// and each command's answer goes to the sink before the next command is performed.
 ///
-/// The words are one, the folder: not empty, and not beginning with `-`. The state lives in memory and begins empty; the
-/// store isn't called yet.
+/// The words are one, the folder: not empty, and not beginning with `-`. The state lives in memory and begins
+/// empty; the store isn't called yet.
 pub fn nectar<S: Source, K: Sink, D: Store>(
     alloc: Global,
     words: &[&str],
@@ -35,7 +35,8 @@ pub fn nectar<S: Source, K: Sink, D: Store>(
 ) -> Exit
     // Other words end the run before anything is touched, and so may want of memory.
     ensures usage { (result ≡ Exit.Usage) ↔ (AreAccepted words.now → ⊥) }
-    ensures untouched { (result ≡ Exit.Usage) ⊎ (result ≡ Exit.Memory) → (source.new ≡ source.old) × (sink.new ≡ sink.old) }
+    ensures untouched { (result ≡ Exit.Usage) ⊎ (result ≡ Exit.Memory) → (source.new ≡ source.old)
+        × (sink.new ≡ sink.old) }
     ensures store { store.new ≡ store.old }
 
     // The whole script was taken, and its commands are answered.
@@ -70,7 +71,9 @@ pub fn nectar<S: Source, K: Sink, D: Store>(
 
 // All the memory that a run needs but for its rows.
 fn begin(alloc: Global) -> Result<(Server, Vec<u8>), Memory>
-    ensures server { IfOk result (λ begun. (outside : Outside) → Serving empty_state begun.0.reader begun.0.session [] [] outside outside) }
+    ensures server { IfOk result
+        (λ begun. (outside : Outside)
+        → Serving empty_state begun.0.reader begun.0.session [] [] outside outside) }
     ensures piece { IfOk result (λ begun. 0 < length begun.1.items) }
 {
     let server = Server::new(alloc)?;
@@ -87,9 +90,12 @@ fn serve<S: Source, K: Sink>(
 ) -> Exit
     requires room { 0 < length piece.old }
     ensures { (start : State)
-        → Serving start server.reader server.session [] [] (shown (S.left source.old) (K.written sink.old) (S.faults source.old) (K.faults sink.old)) (shown (S.left source.old) (K.written sink.old) (S.faults source.old) (K.faults sink.old))
-        → Ends start result (shown (S.left source.old) (K.written sink.old) (S.faults source.old) (K.faults sink.old))
-            (shown (S.left source.new) (K.written sink.new) (S.faults source.new) (K.faults sink.new)) }
+        → Serving start server.reader server.session [] []
+        (shown (S.left source.old) (K.written sink.old) (S.faults source.old) (K.faults sink.old))
+        (shown (S.left source.old) (K.written sink.old) (S.faults source.old) (K.faults sink.old))
+        → Ends start result
+        (shown (S.left source.old) (K.written sink.old) (S.faults source.old) (K.faults sink.old))
+        (shown (S.left source.new) (K.written sink.new) (S.faults source.new) (K.faults sink.new)) }
 {
     let mut taken = 0;
     for _ in 0..=MAX_SCRIPT_LEN {
@@ -109,7 +115,8 @@ fn serve<S: Source, K: Sink>(
     unreachable!()
 }
 
-// Reads the next piece of the script, and answers the commands that end in it. A piece of 0 bytes is the script's end.
+// Reads the next piece of the script, and answers the commands that end in it. A piece of 0 bytes is the
+// script's end.
 fn serve_piece<S: Source, K: Sink>(
     server: Server,
     piece: &mut [u8],
@@ -120,13 +127,17 @@ fn serve_piece<S: Source, K: Sink>(
     ensures bound { IfOk result (λ next. next.1 ≤ length piece.old) }
     ensures end { IfOk result (λ next. next.1 ≡ 0 → IsAtEnd (S.left source.new)) }
     ensures ok { IfOk result (λ next. (start : State) (served : List ℕ) (begun : Outside)
-        → Serving start server.reader server.session served [] begun (shown (S.left source.old) (K.written sink.old) (S.faults source.old) (K.faults sink.old))
+        → Serving start server.reader server.session served [] begun
+        (shown (S.left source.old) (K.written sink.old) (S.faults source.old) (K.faults sink.old))
         → (more : List ℕ) × (length more ≡ next.1)
-        × Serving start next.0.reader next.0.session (served ++ more) [] begun (shown (S.left source.new) (K.written sink.new) (S.faults source.new) (K.faults sink.new))) }
+        × Serving start next.0.reader next.0.session (served ++ more) [] begun
+        (shown (S.left source.new) (K.written sink.new) (S.faults source.new) (K.faults sink.new))) }
     ensures err { IfErr result (λ exit. (start : State) (served : List ℕ) (begun : Outside)
-        → Serving start server.reader server.session served [] begun (shown (S.left source.old) (K.written sink.old) (S.faults source.old) (K.faults sink.old))
+        → Serving start server.reader server.session served [] begun
+        (shown (S.left source.old) (K.written sink.old) (S.faults source.old) (K.faults sink.old))
         → length served + length piece.old ≤ longest_script
-        → Ends start exit begun (shown (S.left source.new) (K.written sink.new) (S.faults source.new) (K.faults sink.new))) }
+        → Ends start exit begun
+        (shown (S.left source.new) (K.written sink.new) (S.faults source.new) (K.faults sink.new))) }
 {
     match source.read(piece) {
         Ok(count) => match server.take(&piece[..count], sink) {
@@ -140,9 +151,11 @@ fn serve_piece<S: Source, K: Sink>(
 // As many bytes were taken as a script may have: the run ends where there is one more, which isn't served.
 fn serve_limit<S: Source, K: Sink>(server: Server, source: &mut S, sink: &mut K) -> Exit
     ensures { (start : State) (served : List ℕ) (begun : Outside)
-        → Serving start server.reader server.session served [] begun (shown (S.left source.old) (K.written sink.old) (S.faults source.old) (K.faults sink.old))
+        → Serving start server.reader server.session served [] begun
+        (shown (S.left source.old) (K.written sink.old) (S.faults source.old) (K.faults sink.old))
         → length served ≡ longest_script
-        → Ends start result begun (shown (S.left source.new) (K.written sink.new) (S.faults source.new) (K.faults sink.new)) }
+        → Ends start result begun
+        (shown (S.left source.new) (K.written sink.new) (S.faults source.new) (K.faults sink.new)) }
 {
     let mut byte = [0];
     match source.read(&mut byte) {

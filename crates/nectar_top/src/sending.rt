@@ -1,5 +1,6 @@
 //! Answers on their way to the sink.
-ghost use Rattle.std.specs.Prelude.{◌≡◌, ◌<◌, ◌≤◌, ◌++◌, List, All, false, ℕ, length, OnOk, OnErr, vec_capacity, vec_len};
+ghost use Rattle.std.specs.Prelude.{◌≡◌, ◌<◌, ◌≤◌, ◌++◌, List, All, false, ℕ, length, OnOk, OnErr};
+ghost use Rattle.std.specs.Prelude.{vec_capacity, vec_len};
 ghost use Rattle.std.specs.Io.KnownBytes.{Appends};
 ghost use Rattle.outside_traits.specs.Counts.{Rose};
 ghost use Rattle.script_text.specs.Answer.{IsShort, answer_lines, answer_text};
@@ -17,7 +18,8 @@ pub fn send<K: Sink>(answer: &Answer, room: &mut Vec<u8>, sink: &mut K) -> Resul
     requires short { All IsShort (answer_lines false answer.now) }
     ensures room { vec_capacity room.old ≤ vec_capacity room.new }
     ensures ok { OnOk result (Appends (K.written sink.old) (K.written sink.new) (answer_text answer.now)) }
-    ensures err { OnErr result (SentInPart (K.written sink.old) (K.written sink.new) (answer_text answer.now)) }
+    ensures err { OnErr result
+        (SentInPart (K.written sink.old) (K.written sink.new) (answer_text answer.now)) }
     ensures cause { OnErr result (Rose (K.faults sink.old) (K.faults sink.new)) }
     ensures counts { K.faults sink.old ≤ K.faults sink.new }
 {

@@ -1,5 +1,6 @@
 //! What serves a script: the reader of its commands, the session, and the room for a line of an answer.
-ghost use Rattle.std.specs.Prelude.{◌≡◌, ℕ, ◌<◌, ◌≤◌, List, All, false, [], ◌++◌, length, take, drop, IfOk, IfErr, vec_capacity};
+ghost use Rattle.std.specs.Prelude.{◌≡◌, ℕ, ◌<◌, ◌≤◌, List, All, false, [], ◌++◌, length, take, drop, IfOk};
+ghost use Rattle.std.specs.Prelude.{IfErr, vec_capacity};
 ghost use Rattle.std.specs.Io.KnownBytes.{IsAtEnd};
 ghost use Rattle.script_text.specs.Answer.{IsShort, answer_lines};
 ghost use Rattle.script_text.specs.Script.{IsWholeItem};
@@ -18,7 +19,8 @@ use script_text::{Answer, Item, Lines, refusal_is_short};
 use session::Session;
 use std::alloc::Global;
 
-/// What serves a script, command by command. Each call takes it by value, and gives it back where the run goes on.
+/// What serves a script, command by command. Each call takes it by value, and gives it back where the run
+/// goes on.
 #[derive(Drop)]
 pub struct Server {
     pub reader: Lines,
@@ -30,7 +32,9 @@ pub struct Server {
 impl Server {
     /// The empty state, with all the memory that answers will need.
     pub fn new(alloc: Global) -> Result<Server, Memory>
-        ensures { IfOk result (λ server. (begun : Outside) → Serving empty_state server.reader server.session [] [] begun begun) }
+        ensures { IfOk result
+            (λ server. (begun : Outside)
+            → Serving empty_state server.reader server.session [] [] begun begun) }
     {
         Ok(Server {
             reader: Lines::new(alloc)?,
@@ -42,10 +46,13 @@ impl Server {
     /// Takes a piece of the script that the source gave, and answers the commands that end in it.
     pub fn take<K: Sink>(self, piece: &[u8], sink: &mut K) -> Result<Server, Exit>
         ensures ok { IfOk result (λ server. (start : State) (served : List ℕ) (begun before : Outside)
-            → Serving start self.reader self.session served piece.now begun (with_sink before (K.written sink.old) (K.faults sink.old))
-            → Serving start server.reader server.session (served ++ piece.now) [] begun (with_sink before (K.written sink.new) (K.faults sink.new))) }
+            → Serving start self.reader self.session served piece.now begun
+            (with_sink before (K.written sink.old) (K.faults sink.old))
+            → Serving start server.reader server.session (served ++ piece.now) [] begun
+            (with_sink before (K.written sink.new) (K.faults sink.new))) }
         ensures err { IfErr result (λ exit. (start : State) (served : List ℕ) (begun before : Outside)
-            → Serving start self.reader self.session served piece.now begun (with_sink before (K.written sink.old) (K.faults sink.old))
+            → Serving start self.reader self.session served piece.now begun
+            (with_sink before (K.written sink.old) (K.faults sink.old))
             → length (served ++ piece.now) ≤ longest_script
             → Ends start exit begun (with_sink before (K.written sink.new) (K.faults sink.new))) }
     {
@@ -66,7 +73,8 @@ impl Server {
     /// The script ends here: answers the command that it leaves unfinished.
     pub fn end<K: Sink>(self, sink: &mut K) -> Exit
         ensures { (start : State) (served : List ℕ) (begun before : Outside)
-            → Serving start self.reader self.session served [] begun (with_sink before (K.written sink.old) (K.faults sink.old))
+            → Serving start self.reader self.session served [] begun
+            (with_sink before (K.written sink.old) (K.faults sink.old))
             → IsAtEnd before.left → length served ≤ longest_script
             → Ends start result begun (with_sink before (K.written sink.new) (K.faults sink.new)) }
     {
@@ -89,10 +97,13 @@ impl Server {
         requires { 0 < length piece.now }
         ensures bound { IfOk result (λ next. (0 < next.1) × (next.1 ≤ length piece.now)) }
         ensures ok { IfOk result (λ next. (start : State) (served : List ℕ) (begun before : Outside)
-            → Serving start self.reader self.session served piece.now begun (with_sink before (K.written sink.old) (K.faults sink.old))
-            → Serving start next.0.reader next.0.session (served ++ take next.1 piece.now) (drop next.1 piece.now) begun (with_sink before (K.written sink.new) (K.faults sink.new))) }
+            → Serving start self.reader self.session served piece.now begun
+            (with_sink before (K.written sink.old) (K.faults sink.old))
+            → Serving start next.0.reader next.0.session (served ++ take next.1 piece.now)
+            (drop next.1 piece.now) begun (with_sink before (K.written sink.new) (K.faults sink.new))) }
         ensures err { IfErr result (λ exit. (start : State) (served : List ℕ) (begun before : Outside)
-            → Serving start self.reader self.session served piece.now begun (with_sink before (K.written sink.old) (K.faults sink.old))
+            → Serving start self.reader self.session served piece.now begun
+            (with_sink before (K.written sink.old) (K.faults sink.old))
             → length (served ++ piece.now) ≤ longest_script
             → Ends start exit begun (with_sink before (K.written sink.new) (K.faults sink.new))) }
     {
@@ -137,9 +148,11 @@ fn answer<K: Sink>(
     requires whole { IsWholeItem item }
     ensures room { vec_capacity room.old ≤ vec_capacity room.new }
     ensures ok { IfOk result (λ next. (old : State) (before : Outside) → StandsFor session old
-        → Sends old item next (with_sink before (K.written sink.old) (K.faults sink.old)) (with_sink before (K.written sink.new) (K.faults sink.new))) }
+        → Sends old item next (with_sink before (K.written sink.old) (K.faults sink.old))
+        (with_sink before (K.written sink.new) (K.faults sink.new))) }
     ensures err { IfErr result (λ exit. (old : State) (before : Outside) → StandsFor session old
-        → Fails exit old item (with_sink before (K.written sink.old) (K.faults sink.old)) (with_sink before (K.written sink.new) (K.faults sink.new))) }
+        → Fails exit old item (with_sink before (K.written sink.old) (K.faults sink.old))
+        (with_sink before (K.written sink.new) (K.faults sink.new))) }
 {
     let (session, answer) = perform(session, item);
     match send(&answer, room, sink) {

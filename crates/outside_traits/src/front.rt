@@ -36,15 +36,16 @@ impl From<AllocError> for Unread {
     }
 }
 
-/// The file's first `len` bytes, or all where it is shorter. `Fault` comes only where the store failed in a size or
-/// read. The bytes that are given are taken, once, and none after a refusal.
+/// The file's first `len` bytes, or all where it is shorter. `Fault` comes only where the store failed in a
+/// size or read. The bytes that are given are taken, once, and none after a refusal.
 pub fn read_front<D: Store>(
     alloc: Global,
     store: &mut D,
     file: u64,
     len: u64,
 ) -> Result<Vec<u8>, Unread>
-    ensures bytes { IsTrue D.tells → IfOk result (λ bytes. bytes.items ≡ take len ((D.view store.old).files file)) }
+    ensures bytes { IsTrue D.tells
+        → IfOk result (λ bytes. bytes.items ≡ take len ((D.view store.old).files file)) }
     ensures length { IfOk result (λ bytes. length bytes.items ≤ len) }
     // No file has more bytes than a u64 counts, so the greatest one as `len` reads all.
     ensures fits { IsTrue D.tells → OnOk result (length ((D.view store.old).files file) < 2 ^ 64) }
@@ -53,7 +54,8 @@ pub fn read_front<D: Store>(
     ensures memory { IsErrOf result Unread.Memory → (D.counts store.new).reads ≡ (D.counts store.old).reads }
     ensures idles { Idles (D.view store.old) (D.view store.new) }
     ensures counts { MayRaiseReads (D.counts store.old) (D.counts store.new) }
-    ensures taken { IfOk result (λ bytes. CountsTaken (length bytes.items) (D.counts store.old) (D.counts store.new)) }
+    ensures taken { IfOk result
+        (λ bytes. CountsTaken (length bytes.items) (D.counts store.old) (D.counts store.new)) }
     ensures none_taken { OnErr result ((D.counts store.new).taken ≡ (D.counts store.old).taken) }
 {
     let size = store.size(file)?;

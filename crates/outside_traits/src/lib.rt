@@ -1,5 +1,6 @@
-//! What lies outside of the program, as traits: where the script comes from, where the answers go and where the files
-//! lie. What an object holds is told to contracts where its type knows it, and each failed call is counted.
+//! What lies outside of the program, as traits: where the script comes from, where the answers go and where
+//! the files lie. What an object holds is told to contracts where its type knows it, and each failed call is
+//! counted.
 #![tactic(auto)]
 
 pub mod failed;

@@ -1,5 +1,6 @@
 //! Where the answers go.
-ghost use Rattle.std.specs.Prelude.{◌≡◌, ℕ, ◌<◌, ◌≤◌, List, Option, take, length, IfOk, OnOk, OnErr, IfSome, IfNone};
+ghost use Rattle.std.specs.Prelude.{◌≡◌, ℕ, ◌<◌, ◌≤◌, List, Option, take, length, IfOk, OnOk, OnErr, IfSome};
+ghost use Rattle.std.specs.Prelude.{IfNone};
 ghost use Rattle.std.specs.Io.KnownBytes.{Appends, Keeps};
 ghost use Rattle.outside_traits.specs.Counts.{Rose};
 
@@ -11,11 +12,12 @@ pub trait Sink {
     // The bytes that were written, where the sink tells them.
     ghost written: { Self → Option (List ℕ) };
 
-    // How many writes have failed. A failed write alone raises the count, which stands still at the greatest u64.
+    // How many writes have failed. A failed write alone raises the count, which stands still at the greatest
+    // u64.
     ghost faults: { Self → ℕ };
 
-    /// Appends the first n bytes at `Ok(n)`, and at least one. A sink that takes none answers `Failed`. After `Failed`
-    /// what was written is as before.
+    /// Appends the first n bytes at `Ok(n)`, and at least one. A sink that takes none answers `Failed`. After
+    /// `Failed` what was written is as before.
     fn write(&mut self, bytes: &[u8]) -> Result<usize, Failed>
         requires { 0 < length bytes.now }
         ensures some { IfOk result (λ n. 0 < n) }
@@ -64,7 +66,8 @@ impl<W: Write> Sink for WriterSink<W> {
 fn write_uninterrupted<W: Write>(writer: &mut W, bytes: &[u8]) -> Option<usize>
     ensures some { IfSome result (λ n. 0 < n) }
     ensures bound { IfSome result (λ n. n ≤ length bytes.now) }
-    ensures bytes { IfSome result (λ n. Appends (W.contents writer.old) (W.contents writer.new) (take n bytes.now)) }
+    ensures bytes { IfSome result
+        (λ n. Appends (W.contents writer.old) (W.contents writer.new) (take n bytes.now)) }
     ensures failed { IfNone result (Keeps (W.contents writer.old) (W.contents writer.new)) }
 {
     for _ in 0..u64::MAX {

@@ -1,5 +1,6 @@
 //! Where a script comes from.
-ghost use Rattle.std.specs.Prelude.{◌≡◌, ℕ, ◌<◌, ◌≤◌, List, Option, take, length, IfOk, OnOk, OnErr, IfSome, IfNone};
+ghost use Rattle.std.specs.Prelude.{◌≡◌, ℕ, ◌<◌, ◌≤◌, List, Option, take, length, IfOk, OnOk, OnErr, IfSome};
+ghost use Rattle.std.specs.Prelude.{IfNone};
 ghost use Rattle.std.specs.Io.KnownBytes.{Consumes, IsAtEnd, Keeps};
 ghost use Rattle.outside_traits.specs.Counts.{Rose};
 ghost use Rattle.outside_traits.specs.Bytes.{KeepsOrForgets};
@@ -12,11 +13,12 @@ pub trait Source {
     // The bytes that reads will give from here on, where the source tells them.
     ghost left: { Self → Option (List ℕ) };
 
-    // How many reads have failed. A failed read alone raises the count, which stands still at the greatest u64.
+    // How many reads have failed. A failed read alone raises the count, which stands still at the greatest
+    // u64.
     ghost faults: { Self → ℕ };
 
-    /// Puts the next n bytes in front of `buf` at `Ok(n)`, and 0 bytes at the end of the input alone. After `Failed`
-    /// what is left is as before, or isn't told any longer.
+    /// Puts the next n bytes in front of `buf` at `Ok(n)`, and 0 bytes at the end of the input alone. After
+    /// `Failed` what is left is as before, or isn't told any longer.
     fn read(&mut self, buf: &mut [u8]) -> Result<usize, Failed>
         requires { 0 < length buf.old }
         ensures bound { IfOk result (λ n. n ≤ length buf.new) }
@@ -28,7 +30,8 @@ pub trait Source {
         ensures counts { faults self.old ≤ faults self.new };
 }
 
-/// A source over a reader of std, which tells what that reader tells. A read that was interrupted is made again.
+/// A source over a reader of std, which tells what that reader tells. A read that was interrupted is made
+/// again.
 #[derive(Drop)]
 pub struct ReaderSource<R> {
     reader: R,
@@ -64,7 +67,8 @@ impl<R: Read> Source for ReaderSource<R> {
 fn read_uninterrupted<R: Read>(reader: &mut R, buf: &mut [u8]) -> Option<usize>
     requires { 0 < length buf.old }
     ensures bound { IfSome result (λ n. n ≤ length buf.new) }
-    ensures bytes { IfSome result (λ n. Consumes (R.remaining reader.old) (R.remaining reader.new) (take n buf.new)) }
+    ensures bytes { IfSome result
+        (λ n. Consumes (R.remaining reader.old) (R.remaining reader.new) (take n buf.new)) }
     ensures end { IfSome result (λ n. n ≡ 0 → IsAtEnd (R.remaining reader.new)) }
     ensures failed { IfNone result (Keeps (R.remaining reader.old) (R.remaining reader.new)) }
 {

@@ -72,7 +72,8 @@ fn bind_operands(
     right: &NamedExpr,
 ) -> Result<Expr, BindRefusal>
     ensures { Resolves bound.expr_of result (of_two (operated kinds.now operator)
-        (bound_expr names.now kinds.now (expr_of left.now)) (bound_expr names.now kinds.now (expr_of right.now))) }
+        (bound_expr names.now kinds.now (expr_of left.now))
+        (bound_expr names.now kinds.now (expr_of right.now))) }
 {
     let left = bind_expr(alloc, names, kinds, left)?;
     let right = bind_expr(alloc, names, kinds, right)?;
@@ -86,7 +87,8 @@ fn operate(
     left: Expr,
     right: Expr,
 ) -> Result<Expr, Memory>
-    ensures { IfOk result (λ e. bound.expr_of e ≡ operated kinds.now operator (bound.expr_of left) (bound.expr_of right)) }
+    ensures { IfOk result
+        (λ e. bound.expr_of e ≡ operated kinds.now operator (bound.expr_of left) (bound.expr_of right)) }
 {
     match operator {
         Operator::Call(op) => {
@@ -114,8 +116,10 @@ fn bind_choice(
     first: &NamedExpr,
     last: &NamedExpr,
 ) -> Result<Expr, BindRefusal>
-    ensures { Resolves bound.expr_of result (of_three bound.If (bound_expr names.now kinds.now (expr_of test.now))
-        (bound_expr names.now kinds.now (expr_of first.now)) (bound_expr names.now kinds.now (expr_of last.now))) }
+    ensures { Resolves bound.expr_of result
+        (of_three bound.If (bound_expr names.now kinds.now (expr_of test.now))
+        (bound_expr names.now kinds.now (expr_of first.now))
+        (bound_expr names.now kinds.now (expr_of last.now))) }
 {
     let test = bind_expr(alloc, names, kinds, test)?;
     let first = bind_expr(alloc, names, kinds, first)?;
@@ -124,7 +128,8 @@ fn bind_choice(
 }
 
 fn choose(alloc: Global, test: Expr, first: Expr, last: Expr) -> Result<Expr, Memory>
-    ensures { IfOk result (λ e. bound.expr_of e ≡ bound.If (bound.expr_of test) (bound.expr_of first) (bound.expr_of last)) }
+    ensures { IfOk result
+        (λ e. bound.expr_of e ≡ bound.If (bound.expr_of test) (bound.expr_of first) (bound.expr_of last)) }
 {
     let test = Box::new(alloc, test)?;
     let first = Box::new(alloc, first)?;

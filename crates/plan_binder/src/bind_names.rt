@@ -11,7 +11,8 @@ use plan_grammar::{NamedAgg, NamedKey, NamedPair, NamedResult};
 use rows_core::{Key, Name};
 use std::alloc::Global;
 
-/// The place of a name, counted from 0. A place above 4,294,967,295 is want of memory: no list of names is that long.
+/// The place of a name, counted from 0. A place above 4,294,967,295 is want of memory: no list of names is
+/// that long.
 pub fn place_of(names: &[Name], name: &[u8]) -> Result<u32, BindRefusal>
     ensures { Resolves (λ place. place) result (place_of names.now name.now) }
 {
@@ -121,7 +122,8 @@ pub fn bind_aggs(
     names: &[Name],
     results: &[NamedResult],
 ) -> Result<Vec<Agg>, BindRefusal>
-    ensures { Resolves items_of result (all_there (map (λ result. bound_agg names.now result.agg) results.now)) }
+    ensures { Resolves items_of result
+        (all_there (map (λ result. bound_agg names.now result.agg) results.now)) }
 {
     let mut found = Vec::with_capacity(alloc, results.len())?;
     for result in results {

@@ -19,13 +19,14 @@ use plan_grammar::{NamedPlan, NamedTree};
 use rows_core::Name;
 use std::alloc::Global;
 
-/// The plan over these streams, with numbers in place of names: a stream's is its place among the streams, a column's its
-/// place among the columns of its operator's input. `Unknown` exactly where a stream isn't there, the first from the left;
-/// else `IllTyped` exactly where a column isn't there, or two of the columns of a `select`, a `group` or a `join` have one
-/// name. A call is of the row of `OPS` that has its operation and its arguments' kinds; where none has them it is of the
-/// operation's first row, and the plan has no typing (`plans_without_a_row_have_no_typing`). The rules are this project's
-/// own. `Memory` where memory was asked for and refused, or a place is above 4,294,967,295: no list is that long. Names may
-/// repeat: the first one counts.
+/// The plan over these streams, with numbers in place of names: a stream's is its place among the streams, a
+/// column's its place among the columns of its operator's input. `Unknown` exactly where a stream isn't
+/// there, the first from the left; else `IllTyped` exactly where a column isn't there, or two of the columns
+/// of a `select`, a `group` or a `join` have one name. A call is of the row of `OPS` that has its operation
+/// and its arguments' kinds; where none has them it is of the operation's first row, and the plan has no
+/// typing (`plans_without_a_row_have_no_typing`). The rules are this project's own. `Memory` where memory was
+/// asked for and refused, or a place is above 4,294,967,295: no list is that long. Names may repeat: the
+/// first one counts.
 pub fn bind<S: Stream>(alloc: Global, plan: &NamedPlan, streams: &[S]) -> Result<Plan, BindRefusal>
     ensures { Binds result (binding (map S.name_of streams.now) (map S.columns_of streams.now) plan.now) }
 {
@@ -37,7 +38,8 @@ pub fn bind<S: Stream>(alloc: Global, plan: &NamedPlan, streams: &[S]) -> Result
 
 /// The first of the names that no stream has.
 fn first_absent<'a, S: Stream>(streams: &[S], names: &'a [Name]) -> Option<&'a Name>
-    ensures { option_map (λ name. name.now) result ≡ find (λ name. not (is_there (map S.name_of streams.now) name)) names.now }
+    ensures { option_map (λ name. name.now) result
+        ≡ find (λ name. not (is_there (map S.name_of streams.now) name)) names.now }
 {
     names
         .iter()
@@ -59,7 +61,8 @@ fn bound_tree<S: Stream>(
     streams: &[S],
     tree: &NamedTree,
 ) -> Result<Bound, BindRefusal>
-    ensures { Resolves bound_of result (bound_tree (map S.name_of streams.now) (map S.columns_of streams.now) (tree_of tree.now)) }
+    ensures { Resolves bound_of result
+        (bound_tree (map S.name_of streams.now) (map S.columns_of streams.now) (tree_of tree.now)) }
 {
     match tree {
         NamedTree::From { stream } => bind_from(alloc, streams, stream),

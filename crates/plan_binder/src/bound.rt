@@ -1,4 +1,5 @@
-//! Operators with numbers in place of names. Of each the names are resolved first, and then it is put onto its inputs.
+//! Operators with numbers in place of names. Of each the names are resolved first, and then it is put onto
+//! its inputs.
 ghost use Rattle.std.specs.Prelude.{◌≡◌, Some, map, IfOk};
 ghost use Rattle.std.specs.Option.{option_and_then};
 ghost use Rattle.rows_core.specs.Schema.{kinds_of};
@@ -6,7 +7,9 @@ ghost use Rattle.plan_core.specs.PlanTyping.{all_there};
 ghost use Rattle.plan_core.specs.PlainExpr as bound;
 ghost use Rattle.plan_core.specs.PlainPlan.{plan_of, Scan, Filter, Order};
 ghost use Rattle.plan_grammar.specs.PlainNamed.{expr_of, column_of};
-ghost use Rattle.plan_binder.specs.Binding.{bound_expr, with_columns, projected, grouped, joined, bound_from, bound_where, bound_select, bound_distinct, bound_group, bound_join, bound_concat, bound_order};
+ghost use Rattle.plan_binder.specs.Binding.{bound_expr, with_columns, projected, grouped, joined, bound_from};
+ghost use Rattle.plan_binder.specs.Binding.{bound_where, bound_select, bound_distinct, bound_group};
+ghost use Rattle.plan_binder.specs.Binding.{bound_join, bound_concat, bound_order};
 ghost use Rattle.plan_binder.specs.BoundPlan.{bound_of};
 ghost use Rattle.plan_binder.specs.Resolves.{Resolves};
 
@@ -50,7 +53,8 @@ pub fn bind_from<S: Stream>(
     streams: &[S],
     stream: &Name,
 ) -> Result<Bound, BindRefusal>
-    ensures { Resolves bound_of result (bound_from (map S.name_of streams.now) (map S.columns_of streams.now) stream.now) }
+    ensures { Resolves bound_of result
+        (bound_from (map S.name_of streams.now) (map S.columns_of streams.now) stream.now) }
 {
     let Some(place) = stream_place(streams, stream.bytes()) else {
         return Err(BindRefusal::IllTyped);
@@ -65,7 +69,13 @@ pub fn bind_from<S: Stream>(
 }
 
 fn scan(alloc: Global, number: u32, schema: &Schema) -> Result<Bound, Memory>
-    ensures { IfOk result (λ b. bound_of b ≡ record { plan = Scan number; names = map (λ column. column.name) schema.now; kinds = kinds_of schema.now }) }
+    ensures { IfOk result
+        (λ b. bound_of b
+        ≡ record {
+          plan = Scan number;
+          names = map (λ column. column.name) schema.now;
+          kinds = kinds_of schema.now;
+        }) }
 {
     let names = schema_names(alloc, schema.columns())?;
     let kinds = schema_kinds(alloc, schema.columns())?;
@@ -85,7 +95,9 @@ pub fn bind_where(alloc: Global, input: Bound, test: &NamedExpr) -> Result<Bound
 }
 
 fn filter(alloc: Global, input: Bound, test: Expr) -> Result<Bound, Memory>
-    ensures { IfOk result (λ b. bound_of b ≡ record (bound_of input) { plan = Filter (plan_of input.plan) (bound.expr_of test) }) }
+    ensures { IfOk result
+        (λ b. bound_of b
+        ≡ record (bound_of input) { plan = Filter (plan_of input.plan) (bound.expr_of test) }) }
 {
     let child = Box::new(alloc, input.plan)?;
     Ok(Bound {
@@ -107,7 +119,8 @@ pub fn bind_select(
 }
 
 fn select(alloc: Global, input: Bound, columns: &[NamedColumn]) -> Result<Bound, BindRefusal>
-    ensures { Resolves bound_of result (option_and_then (projected (bound_of input) (map (λ column. column.name) columns.now))
+    ensures { Resolves bound_of result
+        (option_and_then (projected (bound_of input) (map (λ column. column.name) columns.now))
         (all_there (map (λ column. bound_expr input.names input.kinds (expr_of column.expr)) columns.now))) }
 {
     let exprs = bind_exprs(alloc, input.names.items(), input.kinds.items(), columns)?;
@@ -122,7 +135,8 @@ fn project(
     exprs: Vec<Expr>,
     names: Vec<Name>,
 ) -> Result<Bound, BindRefusal>
-    ensures { Resolves bound_of result (projected (bound_of input) names.items (map bound.expr_of exprs.items)) }
+    ensures { Resolves bound_of result
+        (projected (bound_of input) names.items (map bound.expr_of exprs.items)) }
 {
     let kinds = expr_kinds(alloc, input.kinds.items(), exprs.as_slice())?;
     let child = Box::new(alloc, input.plan)?;
@@ -222,7 +236,8 @@ pub fn bind_order(alloc: Global, input: Bound, keys: &[NamedKey]) -> Result<Boun
 }
 
 fn order(alloc: Global, input: Bound, keys: Vec<Key>) -> Result<Bound, Memory>
-    ensures { IfOk result (λ b. bound_of b ≡ record (bound_of input) { plan = Order (plan_of input.plan) keys.items }) }
+    ensures { IfOk result
+        (λ b. bound_of b ≡ record (bound_of input) { plan = Order (plan_of input.plan) keys.items }) }
 {
     let child = Box::new(alloc, input.plan)?;
     let keys = Seq::new(keys);

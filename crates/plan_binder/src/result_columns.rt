@@ -39,7 +39,9 @@ pub fn column_names(alloc: Global, columns: &[NamedColumn]) -> Result<Vec<Name>,
 
 /// The kinds of these expressions as columns. One that has none counts as a number: typing refuses its plan.
 pub fn expr_kinds(alloc: Global, kinds: &[Kind], exprs: &[Expr]) -> Result<Vec<Kind>, Memory>
-    ensures { IfOk result (λ found. found.items ≡ map (λ e. kind_or_int (column_kind_of kinds.now (bound.expr_of e))) exprs.now) }
+    ensures { IfOk result
+        (λ found. found.items
+        ≡ map (λ e. kind_or_int (column_kind_of kinds.now (bound.expr_of e))) exprs.now) }
 {
     Ok(
         exprs
@@ -92,7 +94,8 @@ pub fn group_kinds(
     aggs: &[Agg],
 ) -> Result<Vec<Kind>, Memory>
     ensures { IfOk result (λ found. found.items
-        ≡ map (λ place. kind_or_int (slice_get kinds.now place)) places.now ++ map (λ agg. kind_or_int (agg_kind kinds.now agg)) aggs.now) }
+        ≡ map (λ place. kind_or_int (slice_get kinds.now place)) places.now ++ map
+        (λ agg. kind_or_int (agg_kind kinds.now agg)) aggs.now) }
 {
     let mut found = place_kinds(alloc, kinds, places)?;
     let others = agg_kinds(alloc, kinds, aggs)?;
@@ -102,7 +105,8 @@ pub fn group_kinds(
 
 /// The kinds of the columns at these places.
 fn place_kinds(alloc: Global, kinds: &[Kind], places: &[u32]) -> Result<Vec<Kind>, Memory>
-    ensures { IfOk result (λ found. found.items ≡ map (λ place. kind_or_int (slice_get kinds.now place)) places.now) }
+    ensures { IfOk result
+        (λ found. found.items ≡ map (λ place. kind_or_int (slice_get kinds.now place)) places.now) }
 {
     Ok(
         places
@@ -123,7 +127,8 @@ fn place_kind(kinds: &[Kind], place: u32) -> Kind
 
 /// The kinds of these aggregates.
 fn agg_kinds(alloc: Global, kinds: &[Kind], aggs: &[Agg]) -> Result<Vec<Kind>, Memory>
-    ensures { IfOk result (λ found. found.items ≡ map (λ agg. kind_or_int (agg_kind kinds.now agg)) aggs.now) }
+    ensures { IfOk result
+        (λ found. found.items ≡ map (λ agg. kind_or_int (agg_kind kinds.now agg)) aggs.now) }
 {
     Ok(aggs.iter().map(|agg| agg_kind(kinds, *agg)).collect(alloc)?)
 }

@@ -16,3 +16,6 @@ project_kinds_of kinds columns some = rw (length-map columns expr_of, some) (ap 
 
 pub project_kinds_of_none : (kinds : Kinds) (columns : List Expr) → (length columns == 0) ≡ true → project_kinds (map expr_of columns) kinds ≡ None
 project_kinds_of_none kinds columns none = rw (length-map columns expr_of, none) refl
+
+-- those two
+pub ruleset kinds_of_project = (project_kinds_of, project_kinds_of_none)

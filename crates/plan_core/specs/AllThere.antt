@@ -35,3 +35,6 @@ found_none f items index d found there gives so_far = so_far ∙ rw (drop_more i
 pub found_end : {A B : Type 0} (f : A → Option B) (items : List A) (index : ℕ) (found : List B)
     → length items ≤ index → HasFound f items index found → all_there (map f items) ≡ Some found
 found_end f items index found end so_far = so_far ∙ rw (drop_all index items end) (ap Some (append-nil found))
+
+-- those four, for a function that collects so
+pub ruleset found = (found_start, found_more, found_none, found_end)

@@ -15,8 +15,8 @@ use rows_core::{Memory, Overflow, Row, Value};
 use scalar_ops::{Cell, apply};
 use std::alloc::Global;
 
-/// The value of an expression at a row: `Overflow` exactly where its meaning is an overflow. Of `and`, `or` and `if` only
-/// the part that is needed is evaluated.
+/// The value of an expression at a row: `Overflow` exactly where its meaning is an overflow. Of `and`, `or`
+/// and `if` only the part that is needed is evaluated.
 pub fn ev(alloc: Global, e: &Expr, row: &Row) -> Result<Cell, EvRefusal>
     requires { IsTyped (map kind_of row.now) (expr_of e.now) }
     ensures meaning { Means result (expression_value (expr_of e.now) row.now) }

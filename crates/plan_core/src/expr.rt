@@ -27,7 +27,8 @@ pub enum Expr {
     And(Box<Expr>, Box<Expr>),
     /// Its second part is evaluated only where the first is false.
     Or(Box<Expr>, Box<Expr>),
-    /// A test, its value where the test is true, and its value where it is false. Only one of the two is evaluated.
+    /// A test, its value where the test is true, and its value where it is false. Only one of the two is
+    /// evaluated.
     If(Box<Expr>, Box<Expr>, Box<Expr>),
 }
 

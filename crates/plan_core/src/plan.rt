@@ -1,15 +1,16 @@
 //! Plans.
 ghost use Rattle.std.specs.Prelude.{◌≡◌, ◌++◌, ◌↔◌, map, IfOk, OnOk, IsTrue};
 ghost use Rattle.plan_core.specs.PlainExpr.{expr_of};
-ghost use Rattle.plan_core.specs.PlainPlan.{plan_of, leaves, Scan, Filter, Project, Distinct, Group, Join, Concat, Order};
+ghost use Rattle.plan_core.specs.PlainPlan.{plan_of, leaves, Scan, Filter, Project, Distinct, Group, Join};
+ghost use Rattle.plan_core.specs.PlainPlan.{Concat, Order};
 
 use crate::agg::Agg;
 use crate::expr::Expr;
 use rows_core::{Key, Memory, Seq};
 use std::alloc::Global;
 
-/// A query. Its leaves are its scans, from the left; columns and streams are counted from 0. Contracts see it as
-/// `plan_of` says it, without its boxes.
+/// A query. Its leaves are its scans, from the left; columns and streams are counted from 0. Contracts see it
+/// as `plan_of` says it, without its boxes.
 #[derive(Debug, Drop)]
 pub enum Plan {
     /// The rows of a stream.

@@ -5,7 +5,10 @@ ghost use Rattle.std.specs.Option.{option_map};
 ghost use Rattle.std.specs.Cmp.Lexicographic.{pointwise};
 ghost use Rattle.plan_core.specs.PlainExpr.{expr_of};
 ghost use Rattle.plan_core.specs.PlainPlan.{plan_of, Scan};
-ghost use Rattle.plan_core.specs.PlanTyping.{same_kind, column_kind, is_truth, all_there, number_kind, agg_kind, are_one_kind, pair_agrees, filter_kinds, project_kinds, group_kinds, join_kinds, concat_kinds, order_kinds, column_kind_of, is_above_limit};
+ghost use Rattle.plan_core.specs.PlanTyping.{same_kind, column_kind, is_truth, all_there, number_kind};
+ghost use Rattle.plan_core.specs.PlanTyping.{agg_kind, are_one_kind, pair_agrees, filter_kinds};
+ghost use Rattle.plan_core.specs.PlanTyping.{project_kinds, group_kinds, join_kinds, concat_kinds};
+ghost use Rattle.plan_core.specs.PlanTyping.{order_kinds, column_kind_of, is_above_limit};
 ghost use Rattle.plan_core.specs.Typing.{typing_with, IsTypingOf};
 
 use crate::agg::Agg;
@@ -50,13 +53,19 @@ pub fn typing_of(
             None => Ok(None),
         },
         Plan::Join { left, right, on } => {
-            match (typing_of(alloc, schemas, left)?, typing_of(alloc, schemas, right)?) {
+            match (
+                typing_of(alloc, schemas, left)?,
+                typing_of(alloc, schemas, right)?,
+            ) {
                 (Some(left), Some(right)) => join_typing(left, &right, on.items()),
                 _ => Ok(None),
             }
         }
         Plan::Concat { left, right } => {
-            match (typing_of(alloc, schemas, left)?, typing_of(alloc, schemas, right)?) {
+            match (
+                typing_of(alloc, schemas, left)?,
+                typing_of(alloc, schemas, right)?,
+            ) {
                 (Some(left), Some(right)) => Ok(concat_typing(left, &right)),
                 _ => Ok(None),
             }
@@ -89,7 +98,7 @@ fn filter_typing(child: Typing, test: &Expr) -> Option<Typing>
     }
 }
 
-#[tactic(auto, using(crate::proofs::PlanLaws::project_kinds_of, crate::proofs::PlanLaws::project_kinds_of_none))]
+#[tactic(auto, using(crate::proofs::PlanLaws::kinds_of_project))]
 fn project_typing(alloc: Global, child: &Typing, columns: &[Expr]) -> Result<Option<Typing>, Memory>
     ensures { IfOk result (λ typing. typing
         ≡ option_map (typing_with (is_above_limit (length columns.now) || child.now.too_many))
@@ -135,8 +144,8 @@ fn group_typing(
 
 fn join_typing(left: Typing, right: &Typing, on: &[(u32, u32)]) -> Result<Option<Typing>, Memory>
     ensures { IfOk result (λ typing. typing
-        ≡ option_map (typing_with (is_above_limit (length left.kinds + length right.now.kinds) || is_above_limit (length on.now)
-        || left.too_many || right.now.too_many))
+        ≡ option_map (typing_with (is_above_limit (length left.kinds + length right.now.kinds)
+        || is_above_limit (length on.now) || left.too_many || right.now.too_many))
         (join_kinds on.now left.kinds right.now.kinds)) }
 {
     if on.is_empty() || !all_agree(left.kinds.items(), right.kinds.items(), on) {
@@ -155,7 +164,8 @@ fn join_typing(left: Typing, right: &Typing, on: &[(u32, u32)]) -> Result<Option
 }
 
 fn concat_typing(left: Typing, right: &Typing) -> Option<Typing>
-    ensures { result ≡ option_map (typing_with (left.too_many || right.now.too_many)) (concat_kinds left.kinds right.now.kinds) }
+    ensures { result ≡ option_map (typing_with (left.too_many || right.now.too_many))
+        (concat_kinds left.kinds right.now.kinds) }
 {
     if !are_same_kinds(left.kinds.items(), right.kinds.items()) {
         return None;
@@ -168,7 +178,8 @@ fn concat_typing(left: Typing, right: &Typing) -> Option<Typing>
 }
 
 fn order_typing(child: Typing, keys: &[Key]) -> Option<Typing>
-    ensures { result ≡ option_map (typing_with (is_above_limit (length keys.now) || child.too_many)) (order_kinds keys.now child.kinds) }
+    ensures { result ≡ option_map (typing_with (is_above_limit (length keys.now) || child.too_many))
+        (order_kinds keys.now child.kinds) }
 {
     if keys.is_empty() || !all_within(child.kinds.items().len(), keys) {
         return None;
@@ -181,13 +192,14 @@ fn order_typing(child: Typing, keys: &[Key]) -> Option<Typing>
 }
 
 /// The kinds of these columns, where each has one.
-#[tactic(auto, using(crate::specs::AllThere::found_start, crate::specs::AllThere::found_more, crate::specs::AllThere::found_none, crate::specs::AllThere::found_end))]
+#[tactic(auto, using(crate::specs::AllThere::found))]
 fn column_kinds(
     alloc: Global,
     kinds: &[Kind],
     columns: &[Expr],
 ) -> Result<Option<Vec<Kind>>, Memory>
-    ensures { IfOk result (λ r. option_map (λ v. v.items) r ≡ all_there (map (λ e. column_kind_of kinds.now (expr_of e)) columns.now)) }
+    ensures { IfOk result (λ r. option_map (λ v. v.items) r
+        ≡ all_there (map (λ e. column_kind_of kinds.now (expr_of e)) columns.now)) }
 {
     let mut found = Vec::with_capacity(alloc, columns.len())?;
     for column in columns {
@@ -200,9 +212,10 @@ fn column_kinds(
 }
 
 /// The kinds of these keys, where each column is there.
-#[tactic(auto, using(crate::specs::AllThere::found_start, crate::specs::AllThere::found_more, crate::specs::AllThere::found_none, crate::specs::AllThere::found_end))]
+#[tactic(auto, using(crate::specs::AllThere::found))]
 fn key_kinds(alloc: Global, kinds: &[Kind], keys: &[u32]) -> Result<Option<Vec<Kind>>, Memory>
-    ensures { IfOk result (λ r. option_map (λ v. v.items) r ≡ all_there (map (slice_get kinds.now) keys.now)) }
+    ensures { IfOk result (λ r. option_map (λ v. v.items) r
+        ≡ all_there (map (slice_get kinds.now) keys.now)) }
 {
     let mut found = Vec::with_capacity(alloc, keys.len())?;
     for key in keys {
@@ -215,7 +228,7 @@ fn key_kinds(alloc: Global, kinds: &[Kind], keys: &[u32]) -> Result<Option<Vec<K
 }
 
 /// The kinds of these aggregates, where each has one.
-#[tactic(auto, using(crate::specs::AllThere::found_start, crate::specs::AllThere::found_more, crate::specs::AllThere::found_none, crate::specs::AllThere::found_end))]
+#[tactic(auto, using(crate::specs::AllThere::found))]
 fn agg_kinds(alloc: Global, kinds: &[Kind], aggs: &[Agg]) -> Result<Option<Vec<Kind>>, Memory>
     ensures { IfOk result (λ r. option_map (λ v. v.items) r ≡ all_there (map (agg_kind kinds.now) aggs.now)) }
 {

@@ -14,7 +14,8 @@ use rows_core::{Kind, Seq};
 use std::alloc::Global;
 use std::marker::Model;
 
-/// A plan that has a typing, with the kinds of its columns and the streams of its leaves. Contracts see the three.
+/// A plan that has a typing, with the kinds of its columns and the streams of its leaves. Contracts see the
+/// three.
 #[derive(Debug, Drop)]
 pub struct Typed {
     plan: Plan,
@@ -31,16 +32,19 @@ impl Model for Typed {
 
     ghost coded = { typed_code };
 
-    ghost view = { λ typed. record { plan = plan_of typed.plan; kinds = typed.kinds; leaves = typed.leaves } };
+    ghost view = { λ typed.
+        record { plan = plan_of typed.plan; kinds = typed.kinds; leaves = typed.leaves } };
 
-    ghost invariant = { λ typed. IsTypedPlan (record { plan = plan_of typed.plan; kinds = typed.kinds; leaves = typed.leaves }) };
+    ghost invariant = { λ typed. IsTypedPlan
+        (record { plan = plan_of typed.plan; kinds = typed.kinds; leaves = typed.leaves }) };
 }
 
-/// The typing of a plan over these streams: `Unknown` exactly where a stream isn't there, the first from the left; else
-/// `IllTyped` exactly where the plan has no typing; else `TooMany` exactly where some operator's rows have more than 32
-/// columns, an order more than 32 keys or a join more than 32 pairs.
+/// The typing of a plan over these streams: `Unknown` exactly where a stream isn't there, the first from the
+/// left; else `IllTyped` exactly where the plan has no typing; else `TooMany` exactly where some operator's
+/// rows have more than 32 columns, an order more than 32 keys or a join more than 32 pairs.
 pub fn type_plan(alloc: Global, plan: Plan, schemas: &Schemas) -> Result<Typed, PlanRefusal>
-    ensures typing { MeansTyping (λ typed. typed.kinds) result (plan_typing schemas.now.kinds (plan_of plan)) }
+    ensures typing { MeansTyping (λ typed. typed.kinds) result
+        (plan_typing schemas.now.kinds (plan_of plan)) }
     ensures plan { IfOk result (λ typed. typed.plan ≡ plan_of plan) }
     ensures leaves { IfOk result (λ typed. typed.leaves ≡ leaves (plan_of plan)) }
 {

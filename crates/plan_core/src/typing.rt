@@ -2,13 +2,15 @@
 ghost use Rattle.std.specs.Prelude.{◌≡◌, [], ◌∷◌, slice_get};
 ghost use Rattle.scalar_ops.specs.Meaning.{op_at, row_at};
 ghost use Rattle.plan_core.specs.PlainExpr.{expr_of};
-ghost use Rattle.plan_core.specs.ExpressionKind.{expression_kind, call_kind, cell_kind_of, same_cell_kind, is_division, is_divisor, both_truths, choice_kind};
+ghost use Rattle.plan_core.specs.ExpressionKind.{expression_kind, call_kind, cell_kind_of, same_cell_kind};
+ghost use Rattle.plan_core.specs.ExpressionKind.{is_division, is_divisor, both_truths, choice_kind};
 
 use crate::expr::Expr;
 use rows_core::Kind;
 use scalar_ops::{Args, Cell, CellKind, OPS, Op, OpRow, OpTable};
 
-/// The kind of an expression over columns of these kinds; `None` exactly where it has no typing. It takes no memory.
+/// The kind of an expression over columns of these kinds; `None` exactly where it has no typing. It takes no
+/// memory.
 pub fn expression_kind(kinds: &[Kind], e: &Expr) -> Option<CellKind>
     ensures { result ≡ expression_kind kinds.now (expr_of e.now) }
 {

@@ -1,18 +1,21 @@
 //! Groups and their aggregates.
-ghost use Rattle.std.specs.Prelude.{◌≡◌, ◌<◌, ◌*◌, ◌^◌, ◌-◌, ◌≤ℤ◌, ◌+ℤ◌, neg_ℤ, pos, FitsSigned, [], ◌∷◌, ◌++◌, map, All, length, if◌then◌else◌, OnOk, Contains, IfOk, IsErrOf};
+ghost use Rattle.std.specs.Prelude.{◌≡◌, ◌<◌, ◌*◌, ◌^◌, ◌-◌, ◌≤ℤ◌, ◌+ℤ◌, neg_ℤ, pos, FitsSigned, [], ◌∷◌};
+ghost use Rattle.std.specs.Prelude.{◌++◌, map, All, length, if◌then◌else◌, OnOk, Contains, IfOk, IsErrOf};
 ghost use Rattle.std.specs.Int.{w128};
 ghost use Rattle.scalar_ops.specs.Division.{floor_div};
 ghost use Rattle.rows_core.specs.Value.{row_eq};
 ghost use Rattle.plan_core.specs.Columns.{column_of, columns_of};
-ghost use Rattle.plan_core.specs.Aggregate.{values_of, number_of, exact_sum, whole_value, lesser, greater, least_value, greatest_value, first_value, last_value, aggregate_value};
+ghost use Rattle.plan_core.specs.Aggregate.{values_of, number_of, exact_sum, whole_value, lesser, greater};
+ghost use Rattle.plan_core.specs.Aggregate.{least_value, greatest_value, first_value, last_value};
+ghost use Rattle.plan_core.specs.Aggregate.{aggregate_value};
 ghost use Rattle.plan_core.specs.ExpressionValue.{all_of};
 ghost use Rattle.plan_core.specs.Group.{keys_of, members_of, group_row, group_rows};
 ghost use Rattle.plan_core.specs.Answer.{Means};
 ghost use Rattle.plan_evaluator.specs.Evaluation.{aggregate_values};
 
-use plan_laws::keys_of_groups;
 use crate::operators::{distinct_rows, joined_row, push_row, push_value};
 use plan_core::{Agg, EvRefusal};
+use plan_laws::keys_of_groups;
 use rows_core::{Memory, Row, Seq, Value};
 use std::alloc::Global;
 
@@ -110,7 +113,8 @@ fn put_member(
     key: &Row,
     members: &mut Vec<Row>,
 ) -> Result<(), Memory>
-    ensures { OnOk result (members.new.items ≡ members.old.items ++ (if row_eq key.now (columns_of keys.now row.now) then row.now ∷ [] else [])) }
+    ensures { OnOk result (members.new.items ≡ members.old.items ++
+        (if row_eq key.now (columns_of keys.now row.now) then row.now ∷ [] else [])) }
 {
     if *key != columns_of(alloc, row, keys)? {
         return Ok(());

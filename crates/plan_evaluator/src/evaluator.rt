@@ -9,13 +9,14 @@ use crate::aggregate::group_rows;
 use crate::operators::{
     copy_rows, distinct_rows, filter_rows, join_rows, order_rows, project_rows,
 };
-use plan_laws::typed_plans_give_typed_rows;
 use plan_core::{EvRefusal, Plan};
+use plan_laws::typed_plans_give_typed_rows;
 use rows_core::{Memory, Row, Seq};
 use std::alloc::Global;
 
-/// The meaning of a plan on one list of rows for each of its leaves, from the left: its rows, or `Overflow` exactly where
-/// it is an overflow. The plan has a typing over some streams, and the lists have rows of these streams.
+/// The meaning of a plan on one list of rows for each of its leaves, from the left: its rows, or `Overflow`
+/// exactly where it is an overflow. The plan has a typing over some streams, and the lists have rows of these
+/// streams.
 pub fn evaluate(alloc: Global, plan: &Plan, lists: &[Seq<Row>]) -> Result<Seq<Row>, EvRefusal>
     requires { IsTypedOn (plan_of plan.now) lists.now }
     ensures { Means result (plan_meaning (plan_of plan.now) lists.now) }
@@ -74,7 +75,8 @@ fn lists_of_parts<'a>(
     lists: &'a [Seq<Row>],
 ) -> Result<(&'a [Seq<Row>], &'a [Seq<Row>]), Memory>
     requires { leaf_count (plan_of left.now) ≤ length lists.now }
-    ensures { IfOk result (λ parts. (parts.0.now ≡ take (leaf_count (plan_of left.now)) lists.now) × (parts.1.now ≡ drop (leaf_count (plan_of left.now)) lists.now)) }
+    ensures { IfOk result (λ parts. (parts.0.now ≡ take (leaf_count (plan_of left.now)) lists.now)
+        × (parts.1.now ≡ drop (leaf_count (plan_of left.now)) lists.now)) }
 {
     let leaves = left.leaves(alloc)?;
     Ok(lists.split_at(leaves.len()))

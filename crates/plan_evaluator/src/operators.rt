@@ -14,8 +14,8 @@ ghost use Rattle.plan_core.specs.StableOrder.{order_rows};
 ghost use Rattle.plan_core.specs.Answer.{Means};
 ghost use Rattle.plan_evaluator.specs.Evaluation.{test_value};
 
-use plan_laws::one_stable_order;
 use plan_core::{EvRefusal, Expr, ev};
+use plan_laws::one_stable_order;
 use rows_core::{Key, Memory, Row, Seq, Value, cmp_by, total_order};
 use scalar_ops::Cell;
 use std::alloc::Global;
@@ -120,7 +120,8 @@ pub fn distinct_rows(alloc: Global, rows: &[Row]) -> Result<Seq<Row>, Memory>
 
 // Puts the row behind the others where none of them is equal to it.
 fn put_new(alloc: Global, row: &Row, rows: &mut Vec<Row>) -> Result<(), Memory>
-    ensures { OnOk result (rows.new.items ≡ rows.old.items ++ (if list_any (row_eq row.now) rows.old.items then [] else row.now ∷ [])) }
+    ensures { OnOk result (rows.new.items ≡ rows.old.items ++
+        (if list_any (row_eq row.now) rows.old.items then [] else row.now ∷ [])) }
 {
     if has_row(rows.as_slice(), row) {
         return Ok(());
@@ -158,7 +159,8 @@ fn join_one(
     on: &[(u32, u32)],
     joined: &mut Vec<Row>,
 ) -> Result<(), Memory>
-    ensures { OnOk result (joined.new.items ≡ joined.old.items ++ map (λ right. left.now ++ right) (filter (rows_agree on.now left.now) rights.now)) }
+    ensures { OnOk result (joined.new.items ≡ joined.old.items
+        ++ map (λ right. left.now ++ right) (filter (rows_agree on.now left.now) rights.now)) }
 {
     for right in rights {
         if rows_agree(left, right, on) {

@@ -3,8 +3,8 @@
 use rows_core::Name;
 use scalar_ops::{Cell, Op};
 
-/// An expression over the columns of an operator's input, which it names. Contracts see it as `expr_of` says it,
-/// without its boxes.
+/// An expression over the columns of an operator's input, which it names. Contracts see it as `expr_of` says
+/// it, without its boxes.
 #[derive(Debug, Drop)]
 pub enum NamedExpr {
     Column(Name),

@@ -8,8 +8,8 @@ use rows_core::{Memory, Name, Seq};
 use std::alloc::Global;
 use std::marker::Model;
 
-/// A plan with names that some text within the limits spells. The grammar and the limits are this project's own. Contracts
-/// see it as its operators, without their boxes.
+/// A plan with names that some text within the limits spells. The grammar and the limits are this project's
+/// own. Contracts see it as its operators, without their boxes.
 #[derive(Debug, Drop)]
 pub struct NamedPlan {
     tree: NamedTree,
@@ -28,11 +28,13 @@ impl Model for NamedPlan {
 
     ghost view = { λ plan. tree_of plan.tree };
 
-    ghost invariant = { λ plan. (plan.streams ≡ streams_of (tree_of plan.tree)) × IsWritten (tree_of plan.tree) };
+    ghost invariant = { λ plan. (plan.streams ≡ streams_of (tree_of plan.tree))
+        × IsWritten (tree_of plan.tree) };
 }
 
 impl NamedPlan {
-    /// The plan of these operators, with copies of its streams' names. `Memory` where memory was asked for and refused.
+    /// The plan of these operators, with copies of its streams' names. `Memory` where memory was asked for
+    /// and refused.
     pub fn new(alloc: Global, tree: NamedTree) -> Result<NamedPlan, Memory>
         requires written { IsWritten (tree_of tree) }
         ensures { IfOk result (λ plan. plan ≡ tree_of tree) }

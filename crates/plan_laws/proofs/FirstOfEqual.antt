@@ -20,7 +20,7 @@ same_test true q f g = sym (f refl)
 same_test false true f g = g refl
 same_test false false f g = refl
 
-either_way : (a b : Row) → row_eq a b ≡ row_eq b a
+pub either_way : (a b : Row) → row_eq a b ≡ row_eq b a
 either_way a b = same_test _ _ (λ h. equal_back b a (sym (equal a b h))) (λ h. equal_back a b (sym (equal b a h)))
 
 -- the rows other than this one

@@ -1,8 +1,12 @@
 pub mod Answers
 pub mod FirstOfEqual
 pub mod Insertion
+pub mod KeptBounds
+pub mod KeptParts
 pub mod KeptRows
 pub mod Members
 pub mod StableLists
 pub mod TypedOperators
 pub mod TypedPlans
+pub mod ValidPlans
+pub mod ValidValues

@@ -43,7 +43,7 @@ use Rattle.plan_laws.proofs.FirstOfEqual.{has_no_more}
 use Rattle.rows_core.specs.Equality.{row_eq-Decides}
 use Rattle.plan_laws.proofs.Members.{kept, mapped_from}
 
-abbrev HasKinds : Kinds → Row → Type 0
+abbrev pub HasKinds : Kinds → Row → Type 0
 HasKinds kinds row = map kind_of row ≡ kinds
 
 column_has_kind : (row : Row) (i : ℕ) (k : Kind) → slice_get (map kind_of row) i ≡ Some k → kind_of (column_of row i) ≡ k
@@ -95,7 +95,7 @@ distinct_typed kinds rows typed = λ k d within. All-contains (HasKinds kinds) r
 
 -- ---- groups
 
-keys_typed : (kinds : Kinds) (row : Row) → HasKinds kinds row → (keys : List ℕ) (out : Kinds) → all_there (map (slice_get kinds) keys) ≡ Some out → HasKinds out (columns_of keys row)
+pub keys_typed : (kinds : Kinds) (row : Row) → HasKinds kinds row → (keys : List ℕ) (out : Kinds) → all_there (map (slice_get kinds) keys) ≡ Some out → HasKinds out (columns_of keys row)
 keys_typed kinds row typed [] out there = let same : [] ≡ out = cc in same
 keys_typed kinds row typed (key ∷ keys) out there =
     let front = there_front (slice_get kinds key) (map (slice_get kinds) keys) out there in
@@ -141,7 +141,7 @@ number_only (Some kind.Int) k is = cc
 number_only (Some kind.Text) k is = absurd (cc)
 number_only None k is = absurd (cc)
 
-agg_typed : (kinds : Kinds) (row : Row) (rows : Rows) → AllByRecursion (HasKinds kinds) (row ∷ rows) → (a : Agg) (v : Value) (k : Kind) → aggregate_value a (row ∷ rows) ≡ Ok v → agg_kind kinds a ≡ Some k → kind_of v ≡ k
+pub agg_typed : (kinds : Kinds) (row : Row) (rows : Rows) → AllByRecursion (HasKinds kinds) (row ∷ rows) → (a : Agg) (v : Value) (k : Kind) → aggregate_value a (row ∷ rows) ≡ Ok v → agg_kind kinds a ≡ Some k → kind_of v ≡ k
 agg_typed kinds row rows typed agg.Count v k is there = number_typed (pos (length (row ∷ rows))) _ v refl is ∙ (let end : kind.Int ≡ k = cc in end)
 agg_typed kinds row rows typed (agg.Sum c) v k is there = whole_typed (exact_sum (values_of c (row ∷ rows))) v is ∙ number_only (slice_get kinds c) k there
 agg_typed kinds row rows typed (agg.Min c) v k is there = let same : least_value (values_of c (row ∷ rows)) ≡ v = cc in ap kind_of (sym same) ∙ least_typed k _ _ (values_typed kinds c k (row ∷ rows) there typed)
@@ -181,7 +181,7 @@ groups_typed keys aggs kinds out_kinds rows out typed there is =
 
 -- ---- joins and concatenations
 
-pair_typed : (left_kinds right_kinds : Kinds) (left right : Row) → HasKinds left_kinds left → HasKinds right_kinds right → HasKinds (left_kinds ++ right_kinds) (left ++ right)
+pub pair_typed : (left_kinds right_kinds : Kinds) (left right : Row) → HasKinds left_kinds left → HasKinds right_kinds right → HasKinds (left_kinds ++ right_kinds) (left ++ right)
 pair_typed left_kinds right_kinds left right l r = map-append kind_of left right ∙ ap (λ ks. ks ++ map kind_of right) l ∙ ap (λ ks. left_kinds ++ ks) r
 
 pub join_typed : (on : List (ℕ × ℕ)) (left_kinds right_kinds : Kinds) (lefts rights : Rows) → AllByRecursion (HasKinds left_kinds) lefts → HaveKinds right_kinds rights → HaveKinds (left_kinds ++ right_kinds) (join_rows on lefts rights)

@@ -1,1 +1,4 @@
+pub mod Examples
 pub mod KeptForm
+pub mod PlanShape
+pub mod ValidRows

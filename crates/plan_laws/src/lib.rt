@@ -1,5 +1,5 @@
-//! What plans mean, in the words of the subject, and what is kept of their results. Each law is a function that does
-//! nothing, whose contract is the law.
+//! What plans mean, in the words of the subject, and what is kept of their results. Each law is a function
+//! that does nothing, whose contract is the law.
 #![tactic(auto)]
 
 pub mod distinct;
@@ -7,9 +7,11 @@ pub mod groups;
 pub mod kept;
 pub mod order;
 pub mod typed;
+pub mod valid;
 
 pub use distinct::first_of_equal_rows;
 pub use groups::keys_of_groups;
-pub use kept::rows_of_kept_forms;
+pub use kept::{kept_forms_have_their_shape, rows_of_kept_forms};
 pub use order::one_stable_order;
 pub use typed::typed_plans_give_typed_rows;
+pub use valid::typed_plans_give_valid_rows;

@@ -10,7 +10,8 @@ use rows_core::total_order;
 
 /// The rows that a typed plan gives have its kinds, on lists whose rows have those of their streams.
 pub fn typed_plans_give_typed_rows()
-    ensures { (schemas : List Kinds) (plan : PlainPlan) (kinds : Kinds) (lists : List Rows) → plan_kinds schemas plan ≡ Some kinds
+    ensures { (schemas : List Kinds) (plan : PlainPlan) (kinds : Kinds) (lists : List Rows)
+        → plan_kinds schemas plan ≡ Some kinds
         → AreOfStreams schemas (leaves plan) lists → IfOk (plan_meaning plan lists) (HaveKinds kinds) }
 {
     total_order();

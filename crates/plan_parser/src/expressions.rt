@@ -1,11 +1,14 @@
-//! How expressions are read: a method for each rule of the grammar, named as the rule. Within a construct one level less may
-//! be open, so no call goes deeper than the levels; what isn't counted is read in a loop.
+//! How expressions are read: a method for each rule of the grammar, named as the rule. Within a construct one
+//! level less may be open, so no call goes deeper than the levels; what isn't counted is read in a loop.
 ghost use Rattle.std.specs.Prelude.{◌≡◌, ◌≤◌, ◌<◌, ◌∷◌, List, length, IfOk, IfSome};
 ghost use Rattle.std.specs.Option.{option_map};
 ghost use Rattle.plan_parser.specs.Draft.{seen};
 ghost use Rattle.plan_grammar.specs.Grammar.{compare_op, sum_op, mul_op};
 ghost use Rattle.plan_parser.specs.Reader.{Reads, ReadsSome};
-ghost use Rattle.plan_parser.specs.Reading.{operators_of, operand_of, operand_onto, operated, number_atom, minus_atom, inner, argument, last_argument, call1_at, call2_at, choice_at, function_at, word_atom, mark_atom, atom_at, un_at, mul_at, sum_at, left_at, cmp_at, not_at, and_at, expr_at};
+ghost use Rattle.plan_parser.specs.Reading.{operators_of, operand_of, operand_onto, operated, number_atom};
+ghost use Rattle.plan_parser.specs.Reading.{minus_atom, inner, argument, last_argument, call1_at, call2_at};
+ghost use Rattle.plan_parser.specs.Reading.{choice_at, function_at, word_atom, mark_atom, atom_at, un_at};
+ghost use Rattle.plan_parser.specs.Reading.{mul_at, sum_at, left_at, cmp_at, not_at, and_at, expr_at};
 
 use crate::draft::{Draft, call1, choice, join, one};
 use crate::parser::{Parser, Terminal};
@@ -26,7 +29,8 @@ pub enum Binary {
 impl Binary {
     /// The operator that the token is.
     fn operator(self, token: &Token) -> Option<Operator>
-        ensures { (rest : List Token) → operators_of self (token.now ∷ rest) ≡ option_map (λ o. (o, rest)) result }
+        ensures { (rest : List Token)
+            → operators_of self (token.now ∷ rest) ≡ option_map (λ o. (o, rest)) result }
     {
         match (self, token) {
             (Binary::Or, Token::Word(Word::Or)) => Some(Operator::Or),
@@ -86,7 +90,8 @@ fn mul_op(mark: Mark) -> Option<Op>
 impl Parser<'_> {
     /// The operator of the rule that may stand here.
     fn operator(&mut self, binary: Binary) -> Option<Operator>
-        ensures { ReadsSome result self.old.rest.now self.new.rest.now (operators_of binary self.old.rest.now) }
+        ensures { ReadsSome result self.old.rest.now self.new.rest.now
+            (operators_of binary self.old.rest.now) }
     {
         let [first, rest @ ..] = self.rest else {
             return None;
@@ -189,7 +194,8 @@ impl Parser<'_> {
     /// What stands in the parentheses of this word's function.
     #[cycle(expression)]
     fn function(&mut self, levels: u32, word: Word) -> Result<Draft, TextRefusal>
-        ensures { Reads seen result self.new.rest.now (function_at 512 (inner 512 levels) word self.old.rest.now) }
+        ensures { Reads seen result self.new.rest.now
+            (function_at 512 (inner 512 levels) word self.old.rest.now) }
     {
         match word {
             Word::If => self.choice_at(levels),
@@ -205,7 +211,8 @@ impl Parser<'_> {
     /// What begins with this word.
     #[cycle(expression)]
     fn word_atom(&mut self, levels: u32, word: Word) -> Result<Draft, TextRefusal>
-        ensures { Reads seen result self.new.rest.now (word_atom 512 (inner 512 levels) word self.old.rest.now) }
+        ensures { Reads seen result self.new.rest.now
+            (word_atom 512 (inner 512 levels) word self.old.rest.now) }
     {
         match word {
             Word::True => Ok(one(NamedExpr::Literal(Cell::Bool(true)))),
@@ -220,7 +227,8 @@ impl Parser<'_> {
     /// What begins with this mark.
     #[cycle(expression)]
     fn mark_atom(&mut self, levels: u32, mark: Mark) -> Result<Draft, TextRefusal>
-        ensures { Reads seen result self.new.rest.now (mark_atom 512 (inner 512 levels) mark self.old.rest.now) }
+        ensures { Reads seen result self.new.rest.now
+            (mark_atom 512 (inner 512 levels) mark self.old.rest.now) }
     {
         match mark {
             Mark::Open => self.last_argument(levels),
@@ -263,7 +271,8 @@ impl Parser<'_> {
     /// What stands behind `-`.
     #[cycle(expression)]
     fn negated(&mut self, levels: u32) -> Result<Draft, TextRefusal>
-        ensures { Reads seen result self.new.rest.now (operated 512 Op.Neg ((inner 512 levels).un self.old.rest.now)) }
+        ensures { Reads seen result self.new.rest.now
+            (operated 512 Op.Neg ((inner 512 levels).un self.old.rest.now)) }
     {
         let arg = self.un_within(levels)?;
         Ok(call1(self.alloc, Op::Neg, arg)?)
@@ -320,7 +329,8 @@ impl Parser<'_> {
     /// What stands behind `not`.
     #[cycle(expression)]
     fn denied(&mut self, levels: u32) -> Result<Draft, TextRefusal>
-        ensures { Reads seen result self.new.rest.now (operated 512 Op.Not ((inner 512 levels).not self.old.rest.now)) }
+        ensures { Reads seen result self.new.rest.now
+            (operated 512 Op.Not ((inner 512 levels).not self.old.rest.now)) }
     {
         let arg = self.not_within(levels)?;
         Ok(call1(self.alloc, Op::Not, arg)?)
@@ -354,7 +364,8 @@ impl Parser<'_> {
     /// An operand of the rule.
     #[cycle(expression)]
     fn operand(&mut self, binary: Binary, levels: u32) -> Result<Draft, TextRefusal>
-        ensures { Reads seen result self.new.rest.now (operand_of 512 (inner 512 levels) binary self.old.rest.now) }
+        ensures { Reads seen result self.new.rest.now
+            (operand_of 512 (inner 512 levels) binary self.old.rest.now) }
     {
         match binary {
             Binary::Or => self.and(levels),
@@ -375,7 +386,8 @@ impl Parser<'_> {
         left: Draft,
     ) -> Result<Draft, TextRefusal>
         ensures { Reads seen result self.new.rest.now
-            (operand_onto 512 (operand_of 512 (inner 512 levels) binary) operator (seen left) self.old.rest.now) }
+            (operand_onto 512 (operand_of 512 (inner 512 levels) binary) operator
+            (seen left) self.old.rest.now) }
     {
         let right = self.operand(binary, levels)?;
         Ok(join(self.alloc, operator, left, right)?)

@@ -2,7 +2,9 @@
 ghost use Rattle.std.specs.Prelude.{◌≡◌, ◌≤◌, ℕ, List, [], length, Some, IfOk};
 ghost use Rattle.plan_parser.specs.PlanDraft.{seen_columns, with_column};
 ghost use Rattle.plan_parser.specs.Reader.{ReaderOf, Reads};
-ghost use Rattle.plan_parser.specs.PlanReading.{items_of, item_onto, list_at, at_end, name_at, column_at, columns_at, pair_at, key_of, key_at, agg_of, count_of, closed_at, argument_at, agg_at, result_at};
+ghost use Rattle.plan_parser.specs.PlanReading.{items_of, item_onto, list_at, at_end, name_at, column_at};
+ghost use Rattle.plan_parser.specs.PlanReading.{columns_at, pair_at, key_of, key_at, agg_of, count_of};
+ghost use Rattle.plan_parser.specs.PlanReading.{closed_at, argument_at, agg_at, result_at};
 
 use crate::parser::{Parser, Terminal};
 use crate::plan_draft::{ColumnsDraft, pushed};
@@ -100,7 +102,8 @@ impl Parser<'_> {
 
     /// Items with commas between them.
     pub(crate) fn list<T: Item>(&mut self, levels: u32) -> Result<Vec<T>, TextRefusal>
-        ensures { Reads items_of result self.new.rest.now (list_at (T.item_at levels) at_end [] self.old.rest.now) }
+        ensures { Reads items_of result self.new.rest.now
+            (list_at (T.item_at levels) at_end [] self.old.rest.now) }
     {
         let mut items = self.item_onto(levels, Vec::new(self.alloc))?;
         let turns = self.rest.len() + 1;
@@ -144,7 +147,9 @@ impl Parser<'_> {
 
     /// Passes the `desc` that may stand behind a key's column.
     fn desc(&mut self) -> bool
-        ensures { (column : List ℕ) → Some (record { column = column; down = result }, self.new.rest.now) ≡ key_of column self.old.rest.now }
+        ensures { (column : List ℕ)
+            → Some (record { column = column; down = result }, self.new.rest.now)
+            ≡ key_of column self.old.rest.now }
     {
         match self.rest {
             [Token::Word(Word::Desc), rest @ ..] => {

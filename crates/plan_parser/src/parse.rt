@@ -20,11 +20,11 @@ use std::alloc::Global;
 /// How many levels of nesting may be open at once: each parenthesis, `not` and `-` before an operand is one.
 const MAX_LEVELS: u32 = 32;
 
-/// The plan that a text spells, with spaces before, between and behind its tokens: `Syntax` exactly where it spells none,
-/// else `Limit` exactly where the plan as written has more than 40 nodes, more than 8 wide ones or more than 512 expression
-/// nodes, with the first of these. `Memory` may come in place of any of these, where memory was asked for and refused. The
-/// grammar and the limits are this project's own. No text spells two plans, as `one_plan` says; `reading` says the same of
-/// the text by a function of its bytes.
+/// The plan that a text spells, with spaces before, between and behind its tokens: `Syntax` exactly where it
+/// spells none, else `Limit` exactly where the plan as written has more than 40 nodes, more than 8 wide ones
+/// or more than 512 expression nodes, with the first of these. `Memory` may come in place of any of these,
+/// where memory was asked for and refused. The grammar and the limits are this project's own. No text spells
+/// two plans, as `one_plan` says; `reading` says the same of the text by a function of its bytes.
 pub fn parse_plan(alloc: Global, text: &[u8]) -> Result<NamedPlan, TextRefusal>
     ensures reading { Means (λ plan. plan) result (text_reading text.now) }
     ensures found { IfOk result (λ plan. SpellsText plan text.now × IsWithinLimits plan) }
@@ -53,9 +53,9 @@ fn tree_of_text(alloc: Global, text: &[u8]) -> Result<NamedTree, TextRefusal>
     }
 }
 
-/// The expression that a text spells, with spaces before, between and behind its tokens: `Syntax` exactly where it spells
-/// none, else `Limit` exactly where it has more than 512 nodes. `Memory` may come in place of either, where memory was asked
-/// for and refused. The grammar and the limit are this project's own.
+/// The expression that a text spells, with spaces before, between and behind its tokens: `Syntax` exactly
+/// where it spells none, else `Limit` exactly where it has more than 512 nodes. `Memory` may come in place of
+/// either, where memory was asked for and refused. The grammar and the limit are this project's own.
 pub fn parse_expr(alloc: Global, text: &[u8]) -> Result<NamedExpr, TextRefusal>
     ensures found { IfOk result (λ e. SpellsExpr (expr_of e) text.now × (expr_nodes (expr_of e) ≤ 512)) }
     ensures syntax { IsErrOf result TextRefusal.Syntax → ((e : PlainExpr) → SpellsExpr e text.now → ⊥) }

@@ -1,5 +1,6 @@
 //! A parser over the tokens of a text, and the marks and words that a rule passes.
-ghost use Rattle.std.specs.Prelude.{◌≡◌, ◌≤◌, ◌<◌, ◌↔◌, List, [], ◌∷◌, length, Some, None, if◌then◌else◌, IsTrue, OnOk};
+ghost use Rattle.std.specs.Prelude.{◌≡◌, ◌≤◌, ◌<◌, ◌↔◌, List, [], ◌∷◌, length, Some, None, if◌then◌else◌};
+ghost use Rattle.std.specs.Prelude.{IsTrue, OnOk};
 ghost use Rattle.plan_parser.specs.Reader.{Reads, Passes, terminal_at};
 ghost use Rattle.plan_parser.specs.PlanReading.{name_at, named_at};
 
@@ -24,7 +25,8 @@ pub enum Terminal {
 impl Terminal {
     /// Whether the token is this terminal.
     fn is(self, token: &Token) -> bool
-        ensures { (rest : List Token) → terminal_at self (token.now ∷ rest) ≡ (if result then Some (tt, rest) else None) }
+        ensures { (rest : List Token)
+            → terminal_at self (token.now ∷ rest) ≡ (if result then Some (tt, rest) else None) }
     {
         matches!(
             (self, token),
@@ -40,9 +42,9 @@ impl Terminal {
     }
 }
 
-/// A parser. Each of its methods is a rule of the grammar and named as the rule: it reads what the rule spells at the front
-/// of the tokens that are left, and leaves those behind it. After an `Err` it is at some token. Where a method has `levels`,
-/// at most so many levels of nesting may be open within what it reads.
+/// A parser. Each of its methods is a rule of the grammar and named as the rule: it reads what the rule
+/// spells at the front of the tokens that are left, and leaves those behind it. After an `Err` it is at some
+/// token. Where a method has `levels`, at most so many levels of nesting may be open within what it reads.
 #[derive(Drop)]
 pub struct Parser<'a> {
     pub(crate) rest: &'a [Token],

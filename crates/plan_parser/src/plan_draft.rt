@@ -3,7 +3,12 @@ ghost use Rattle.std.specs.Prelude.{◌≡◌, ◌+◌, ◌≤◌, ◌++◌, ◌
 ghost use Rattle.std.specs.Option.{option_map};
 ghost use Rattle.plan_grammar.specs.PlainNamed.{tree_of, expr_of, column_of};
 ghost use Rattle.plan_parser.specs.Draft.{seen};
-ghost use Rattle.plan_parser.specs.PlanDraft.{seen_plan, limits, up_to, capped, plus, are_within, first_above, kept_with, tree_in, counts_in, expr_in, nodes_in, seen_columns, no_columns, kept_columns, with_column, columns_in, column_nodes_in, from_draft, where_draft, select_draft, distinct_draft, group_draft, join_draft, concat_draft, order_draft};
+ghost use Rattle.plan_parser.specs.PlanDraft.{seen_plan, limits, up_to, capped, plus, are_within};
+ghost use Rattle.plan_parser.specs.PlanDraft.{first_above, kept_with, tree_in, counts_in, expr_in, nodes_in};
+ghost use Rattle.plan_parser.specs.PlanDraft.{seen_columns, no_columns, kept_columns, with_column};
+ghost use Rattle.plan_parser.specs.PlanDraft.{columns_in, column_nodes_in, from_draft, where_draft};
+ghost use Rattle.plan_parser.specs.PlanDraft.{select_draft, distinct_draft, group_draft, join_draft};
+ghost use Rattle.plan_parser.specs.PlanDraft.{concat_draft, order_draft};
 
 use crate::draft::Draft;
 use plan_grammar::{
@@ -29,8 +34,8 @@ pub struct Counts {
     pub exprs: u32,
 }
 
-/// A plan, or that it has too many of something: then nothing of it is kept but the counts. Each count stands still at one
-/// above its limit.
+/// A plan, or that it has too many of something: then nothing of it is kept but the counts. Each count stands
+/// still at one above its limit.
 #[derive(Debug, Drop)]
 pub enum PlanDraft {
     Whole { tree: NamedTree, counts: Counts },
@@ -167,7 +172,8 @@ pub fn filtered(alloc: Global, plan: PlanDraft, test: Draft) -> Result<PlanDraft
 
 /// The columns of each of the plan's rows.
 pub fn projected(alloc: Global, plan: PlanDraft, columns: ColumnsDraft) -> Result<PlanDraft, Memory>
-    ensures { IfOk result (λ draft. seen_plan draft ≡ select_draft limits (seen_plan plan) (seen_columns columns)) }
+    ensures { IfOk result
+        (λ draft. seen_plan draft ≡ select_draft limits (seen_plan plan) (seen_columns columns)) }
 {
     let (tree, counts) = parts(plan);
     let (columns, nodes) = column_parts(columns);
@@ -202,7 +208,8 @@ pub fn grouped(
     keys: Vec<Name>,
     results: Vec<NamedResult>,
 ) -> Result<PlanDraft, Memory>
-    ensures { IfOk result (λ draft. seen_plan draft ≡ group_draft limits (seen_plan plan) keys.items results.items) }
+    ensures { IfOk result
+        (λ draft. seen_plan draft ≡ group_draft limits (seen_plan plan) keys.items results.items) }
 {
     let (tree, counts) = parts(plan);
     let counts = counts.plus(narrow(0));
@@ -225,7 +232,8 @@ pub fn joined(
     right: PlanDraft,
     on: Vec<NamedPair>,
 ) -> Result<PlanDraft, Memory>
-    ensures { IfOk result (λ draft. seen_plan draft ≡ join_draft limits (seen_plan plan) (seen_plan right) on.items) }
+    ensures { IfOk result
+        (λ draft. seen_plan draft ≡ join_draft limits (seen_plan plan) (seen_plan right) on.items) }
 {
     let (left, counts) = parts(plan);
     let (right, right_counts) = parts(right);
@@ -244,7 +252,8 @@ pub fn joined(
 
 /// The rows of one plan, then those of another.
 pub fn concatenated(alloc: Global, plan: PlanDraft, right: PlanDraft) -> Result<PlanDraft, Memory>
-    ensures { IfOk result (λ draft. seen_plan draft ≡ concat_draft limits (seen_plan plan) (seen_plan right)) }
+    ensures { IfOk result
+        (λ draft. seen_plan draft ≡ concat_draft limits (seen_plan plan) (seen_plan right)) }
 {
     let (left, counts) = parts(plan);
     let (right, others) = parts(right);
@@ -287,7 +296,8 @@ impl ColumnsDraft {
 
     /// One column more.
     pub fn with(self, name: Name, expr: Draft) -> Result<ColumnsDraft, Memory>
-        ensures { IfOk result (λ draft. seen_columns draft ≡ with_column 512 (seen_columns self) (name, seen expr)) }
+        ensures { IfOk result
+            (λ draft. seen_columns draft ≡ with_column 512 (seen_columns self) (name, seen expr)) }
     {
         let ColumnsDraft::Whole { columns, nodes } = self else {
             return Ok(ColumnsDraft::TooMany);

@@ -13,25 +13,31 @@ ghost use Rattle.plan_parser.specs.Answer.{AsPlan, AsTooLarge, AsNone, text_read
 ghost use Rattle.plan_parser.specs.PlanDraft.{PlanDraft, plan_draft_of};
 ghost use Rattle.plan_parser.specs.PlanReading.{plan_at};
 
-/// What is read as a plan with at most so many levels is what the grammar spells, up to a rest that may stand behind a
-/// plan; of a plan with more of anything than the most only its counts are kept, each up to one above the most.
+/// What is read as a plan with at most so many levels is what the grammar spells, up to a rest that may stand
+/// behind a plan; of a plan with more of anything than the most only its counts are kept, each up to one
+/// above the most.
 pub fn plans_are_read()
-    ensures found { (most : Counts) (levels : ℕ) (from rest : List Token) (d : PlanDraft) → plan_at most levels from ≡ Some (d, rest) →
+    ensures found { (most : Counts) (levels : ℕ) (from rest : List Token) (d : PlanDraft)
+        → plan_at most levels from ≡ Some (d, rest) →
         ((p : PlainTree) × (d ≡ plan_draft_of most p) × SpellsPlan levels p from rest) }
-    ensures only { (most : Counts) (levels : ℕ) (p : PlainTree) (from rest : List Token) → EndsPlan rest → SpellsPlan levels p from rest →
+    ensures only { (most : Counts) (levels : ℕ) (p : PlainTree) (from rest : List Token) → EndsPlan rest
+        → SpellsPlan levels p from rest →
         plan_at most levels from ≡ Some (plan_draft_of most p, rest) }
 {}
 
 /// Tokens spell one plan, up to one place, and a text spells one plan.
 pub fn one_plan()
-    ensures tokens { (levels : ℕ) (p q : PlainTree) (from rest other : List Token) → EndsPlan rest → EndsPlan other →
+    ensures tokens { (levels : ℕ) (p q : PlainTree) (from rest other : List Token) → EndsPlan rest
+        → EndsPlan other →
         SpellsPlan levels p from rest → SpellsPlan levels q from other → (p ≡ q) × (rest ≡ other) }
     ensures texts { (p q : PlainTree) (text : List ℕ) → SpellsText p text → SpellsText q text → p ≡ q }
 {}
 
-/// What a text is read as is the plan that it spells within the limits, or the first limit that its plan passes, or no plan.
+/// What a text is read as is the plan that it spells within the limits, or the first limit that its plan
+/// passes, or no plan.
 pub fn texts_are_read()
-    ensures plan { (text : List ℕ) (p : PlainTree) → text_reading text ≡ AsPlan p ↔ SpellsText p text × IsWithinLimits p }
+    ensures plan { (text : List ℕ) (p : PlainTree) → text_reading text ≡ AsPlan p ↔ SpellsText p text
+        × IsWithinLimits p }
     ensures large { (text : List ℕ) (what : PlanLimit) →
         text_reading text ≡ AsTooLarge what ↔ ((p : PlainTree) × SpellsText p text × IsFirstPassed what p) }
     ensures none { (text : List ℕ) → text_reading text ≡ AsNone ↔ ((p : PlainTree) → SpellsText p text → ⊥) }

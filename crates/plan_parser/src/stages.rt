@@ -1,10 +1,11 @@
-//! How plans are read: a method for each rule of the grammar, named as the rule. Within parentheses one level less may be
-//! open, so no call goes deeper than the levels; stages are read in a loop.
+//! How plans are read: a method for each rule of the grammar, named as the rule. Within parentheses one level
+//! less may be open, so no call goes deeper than the levels; stages are read in a loop.
 ghost use Rattle.std.specs.Prelude.{◌≤◌, ◌∷◌, length, IfOk};
 ghost use Rattle.plan_grammar.specs.declared.token.Token.TheVariants as token;
 ghost use Rattle.plan_parser.specs.PlanDraft.{seen_plan, limits};
 ghost use Rattle.plan_parser.specs.Reader.{Reads};
-ghost use Rattle.plan_parser.specs.PlanReading.{inner_plan_at, where_at, select_at, group_at, join_at, concat_at, order_at, stage_at, from_at, inner_plan, plan_at};
+ghost use Rattle.plan_parser.specs.PlanReading.{inner_plan_at, where_at, select_at, group_at, join_at};
+ghost use Rattle.plan_parser.specs.PlanReading.{concat_at, order_at, stage_at, from_at, inner_plan, plan_at};
 
 use crate::parser::{Parser, Terminal};
 use crate::plan_draft::{
@@ -29,7 +30,8 @@ impl Parser<'_> {
 
     /// A test, behind `where`.
     fn where_stage(&mut self, levels: u32, plan: PlanDraft) -> Result<PlanDraft, TextRefusal>
-        ensures { Reads seen_plan result self.new.rest.now (where_at limits levels (seen_plan plan) self.old.rest.now) }
+        ensures { Reads seen_plan result self.new.rest.now
+            (where_at limits levels (seen_plan plan) self.old.rest.now) }
     {
         let test = self.expr(levels)?;
         Ok(filtered(self.alloc, plan, test)?)
@@ -37,7 +39,8 @@ impl Parser<'_> {
 
     /// Columns, behind `select`.
     fn select_stage(&mut self, levels: u32, plan: PlanDraft) -> Result<PlanDraft, TextRefusal>
-        ensures { Reads seen_plan result self.new.rest.now (select_at limits levels (seen_plan plan) self.old.rest.now) }
+        ensures { Reads seen_plan result self.new.rest.now
+            (select_at limits levels (seen_plan plan) self.old.rest.now) }
     {
         let columns = self.columns(levels)?;
         Ok(projected(self.alloc, plan, columns)?)
@@ -45,7 +48,8 @@ impl Parser<'_> {
 
     /// Keys and aggregates, behind `group`.
     fn group_stage(&mut self, levels: u32, plan: PlanDraft) -> Result<PlanDraft, TextRefusal>
-        ensures { Reads seen_plan result self.new.rest.now (group_at limits levels (seen_plan plan) self.old.rest.now) }
+        ensures { Reads seen_plan result self.new.rest.now
+            (group_at limits levels (seen_plan plan) self.old.rest.now) }
     {
         let keys = self.list(levels)?;
         self.need(Terminal::With)?;
@@ -55,7 +59,8 @@ impl Parser<'_> {
 
     /// Keys, behind `order`.
     fn order_stage(&mut self, levels: u32, plan: PlanDraft) -> Result<PlanDraft, TextRefusal>
-        ensures { Reads seen_plan result self.new.rest.now (order_at limits (seen_plan plan) self.old.rest.now) }
+        ensures { Reads seen_plan result self.new.rest.now
+            (order_at limits (seen_plan plan) self.old.rest.now) }
     {
         let keys = self.list(levels)?;
         Ok(ordered(self.alloc, plan, keys)?)
@@ -76,7 +81,8 @@ impl Parser<'_> {
     /// A plan and its parentheses.
     #[cycle(plan)]
     fn inner_plan(&mut self, levels: u32) -> Result<PlanDraft, TextRefusal>
-        ensures { Reads seen_plan result self.new.rest.now (inner_plan_at (inner_plan limits levels) self.old.rest.now) }
+        ensures { Reads seen_plan result self.new.rest.now
+            (inner_plan_at (inner_plan limits levels) self.old.rest.now) }
     {
         self.need(Terminal::Open)?;
         let plan = self.plan_within(levels)?;
@@ -87,7 +93,8 @@ impl Parser<'_> {
     /// The other plan and the pairs, behind `join`.
     #[cycle(plan)]
     fn join_stage(&mut self, levels: u32, plan: PlanDraft) -> Result<PlanDraft, TextRefusal>
-        ensures { Reads seen_plan result self.new.rest.now (join_at limits (inner_plan limits levels) (seen_plan plan) self.old.rest.now) }
+        ensures { Reads seen_plan result self.new.rest.now
+            (join_at limits (inner_plan limits levels) (seen_plan plan) self.old.rest.now) }
     {
         let right = self.inner_plan(levels)?;
         self.need(Terminal::On)?;
@@ -98,7 +105,8 @@ impl Parser<'_> {
     /// The other plan, behind `concat`.
     #[cycle(plan)]
     fn concat_stage(&mut self, levels: u32, plan: PlanDraft) -> Result<PlanDraft, TextRefusal>
-        ensures { Reads seen_plan result self.new.rest.now (concat_at limits (inner_plan limits levels) (seen_plan plan) self.old.rest.now) }
+        ensures { Reads seen_plan result self.new.rest.now
+            (concat_at limits (inner_plan limits levels) (seen_plan plan) self.old.rest.now) }
     {
         let right = self.inner_plan(levels)?;
         Ok(concatenated(self.alloc, plan, right)?)
@@ -113,7 +121,8 @@ impl Parser<'_> {
         word: Word,
     ) -> Result<PlanDraft, TextRefusal>
         ensures { Reads seen_plan result self.new.rest.now
-            (stage_at limits (inner_plan limits levels) levels (seen_plan plan) (token.Word word ∷ self.old.rest.now)) }
+            (stage_at limits (inner_plan limits levels) levels (seen_plan plan)
+            (token.Word word ∷ self.old.rest.now)) }
     {
         match word {
             Word::Where => self.where_stage(levels, plan),

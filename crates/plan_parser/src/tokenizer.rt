@@ -1,10 +1,15 @@
 //! How a text is read as tokens.
-ghost use Rattle.std.specs.Prelude.{◌≡◌, ◌<◌, ◌≤◌, length, List, ℕ, take, drop, position, IfOk, IfSome, IfNone, Some, IsTrue, false};
+ghost use Rattle.std.specs.Prelude.{◌≡◌, ◌<◌, ◌≤◌, length, List, ℕ, take, drop, position, IfOk, IfSome};
+ghost use Rattle.std.specs.Prelude.{IfNone, Some, IsTrue, false};
 ghost use Rattle.std.specs.Option.{option_map};
 ghost use Rattle.rows_core.specs.Name.{is_name_byte};
 ghost use Rattle.rows_core.specs.Txt.{IsTxt};
 ghost use Rattle.plan_grammar.specs.declared.token.Token.{Token};
-ghost use Rattle.plan_grammar.specs.Token.{with_digit, number_behind, number_with, name_or_number, word_token, word_len, ends_word, word_at, before, lent, begins_with_digit, with_equal, single_mark, mark_at, lent_text, with_byte, text_end, text_behind, text_at, mark_token, token_at, IsToken, trimmed, AreTokens};
+ghost use Rattle.plan_grammar.specs.Token.{with_digit, number_behind, number_with, name_or_number};
+ghost use Rattle.plan_grammar.specs.Token.{word_token, word_len, ends_word, word_at, before, lent};
+ghost use Rattle.plan_grammar.specs.Token.{begins_with_digit, with_equal, single_mark, mark_at, lent_text};
+ghost use Rattle.plan_grammar.specs.Token.{with_byte, text_end, text_behind, text_at, mark_token, token_at};
+ghost use Rattle.plan_grammar.specs.Token.{IsToken, trimmed, AreTokens};
 
 use plan_grammar::{Mark, Token, Word};
 use rows_core::{Memory, Name, NameRefusal, Seq, Txt, TxtRefusal};
@@ -230,7 +235,8 @@ fn text_behind(alloc: Global, bytes: &[u8]) -> Result<Option<(Vec<u8>, &[u8])>, 
 
 /// The byte of a text at the front, and what stands behind it.
 fn text_byte_at(bytes: &[u8]) -> Option<(u8, &[u8])>
-    ensures some { IfSome result (λ f. text_behind false bytes.now ≡ with_byte f.0 (text_behind false f.1.now)) }
+    ensures some { IfSome result
+        (λ f. text_behind false bytes.now ≡ with_byte f.0 (text_behind false f.1.now)) }
     ensures none { IfNone result (text_behind false bytes.now ≡ text_end bytes.now) }
     ensures shorter { IfSome result (λ f. length f.1.now < length bytes.now) }
 {
@@ -292,7 +298,8 @@ fn trim_start(text: &[u8]) -> &[u8]
 /// The tokens of a text; `None` exactly where it has none.
 pub fn tokens_of(alloc: Global, text: &[u8]) -> Result<Option<Vec<Token>>, Memory>
     ensures found { IfOk result (λ found. IfSome found (λ tokens. AreTokens tokens.items text.now)) }
-    ensures none { IfOk result (λ found. IfNone found ((tokens : List Token) → AreTokens tokens text.now → ⊥)) }
+    ensures none { IfOk result
+        (λ found. IfNone found ((tokens : List Token) → AreTokens tokens text.now → ⊥)) }
 {
     let mut tokens = Vec::new(alloc);
     let mut rest = trim_start(text);

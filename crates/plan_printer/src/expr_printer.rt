@@ -6,7 +6,8 @@ ghost use Rattle.scalar_ops.specs.declared.cell.Cell.TheVariants as cell;
 ghost use Rattle.plan_grammar.specs.declared.token.Token.{Token};
 ghost use Rattle.plan_grammar.specs.PlainNamed.{PlainExpr, Call1, Call2, If, expr_of};
 ghost use Rattle.plan_grammar.specs.Grammar.{E};
-ghost use Rattle.plan_printer.specs.Canonical.{Space, One, escaped, quoted, text_of, between, behind_comma, literal, bare, canonical_expr, function};
+ghost use Rattle.plan_printer.specs.Canonical.{Space, One, escaped, quoted, text_of, between, behind_comma};
+ghost use Rattle.plan_printer.specs.Canonical.{literal, bare, canonical_expr, function};
 ghost use Rattle.plan_printer.specs.PrintCode.{grammar_rule};
 
 use crate::rule::{Form, Rule};
@@ -80,7 +81,8 @@ fn put_literal(cell: &Cell, to: &mut Vec<u8>) -> Result<(), Memory>
 /// Appends the expression as the rule spells it, in parentheses exactly where the rule needs them.
 #[cycle(expression)]
 pub fn put_expr(rule: Rule, expr: &NamedExpr, to: &mut Vec<u8>) -> Result<(), Memory>
-    ensures { OnOk result (to.new.items ≡ to.old.items ++ text_of (canonical_expr (grammar_rule rule) (expr_of expr.now))) }
+    ensures { OnOk result
+        (to.new.items ≡ to.old.items ++ text_of (canonical_expr (grammar_rule rule) (expr_of expr.now))) }
 {
     if rule.tightness() <= Rule::of(expr).tightness() {
         return put_bare(expr, to);
@@ -117,7 +119,8 @@ fn put_between(
 ) -> Result<(), Memory>
     ensures { OnOk result (to.new.items ≡ to.old.items
         ++ (text_of (canonical_expr (grammar_rule left_rule) (expr_of left.now))
-        ++ 32 ∷ (operator.now ++ 32 ∷ text_of (canonical_expr (grammar_rule right_rule) (expr_of right.now))))) }
+        ++ 32 ∷ (operator.now ++ 32 ∷ text_of
+        (canonical_expr (grammar_rule right_rule) (expr_of right.now))))) }
 {
     put_expr(left_rule, left, to)?;
     put_spaced(operator, to)?;
@@ -139,7 +142,9 @@ fn put_call1(op: Op, arg: &NamedExpr, to: &mut Vec<u8>) -> Result<(), Memory>
 
 #[cycle(expression)]
 fn put_behind(before: &[u8], rule: Rule, arg: &NamedExpr, to: &mut Vec<u8>) -> Result<(), Memory>
-    ensures { OnOk result (to.new.items ≡ to.old.items ++ (before.now ++ text_of (canonical_expr (grammar_rule rule) (expr_of arg.now)))) }
+    ensures { OnOk result
+        (to.new.items ≡ to.old.items ++
+        (before.now ++ text_of (canonical_expr (grammar_rule rule) (expr_of arg.now)))) }
 {
     put(before, to)?;
     put_expr(rule, arg, to)
@@ -147,7 +152,9 @@ fn put_behind(before: &[u8], rule: Rule, arg: &NamedExpr, to: &mut Vec<u8>) -> R
 
 #[cycle(expression)]
 fn put_function1(function: &[u8], arg: &NamedExpr, to: &mut Vec<u8>) -> Result<(), Memory>
-    ensures { OnOk result (to.new.items ≡ to.old.items ++ (function.now ++ (text_of (canonical_expr E (expr_of arg.now)) ++ 41 ∷ []))) }
+    ensures { OnOk result
+        (to.new.items ≡ to.old.items ++
+        (function.now ++ (text_of (canonical_expr E (expr_of arg.now)) ++ 41 ∷ []))) }
 {
     put_behind(function, Rule::Or, arg, to)?;
     put(b")", to)
@@ -155,7 +162,8 @@ fn put_function1(function: &[u8], arg: &NamedExpr, to: &mut Vec<u8>) -> Result<(
 
 #[cycle(expression)]
 fn put_call2(op: Op, left: &NamedExpr, right: &NamedExpr, to: &mut Vec<u8>) -> Result<(), Memory>
-    ensures { OnOk result (to.new.items ≡ to.old.items ++ text_of (bare (Call2 op (expr_of left.now) (expr_of right.now)))) }
+    ensures { OnOk result
+        (to.new.items ≡ to.old.items ++ text_of (bare (Call2 op (expr_of left.now) (expr_of right.now)))) }
 {
     match Form::of(op) {
         Form::Between(infix) => {
@@ -174,7 +182,8 @@ fn put_function2(
     to: &mut Vec<u8>,
 ) -> Result<(), Memory>
     ensures { OnOk result (to.new.items ≡ to.old.items
-        ++ text_of (function word (canonical_expr E (expr_of left.now) ++ behind_comma (canonical_expr E (expr_of right.now))))) }
+        ++ text_of (function word
+        (canonical_expr E (expr_of left.now) ++ behind_comma (canonical_expr E (expr_of right.now))))) }
 {
     put(word.bytes(), to)?;
     put_behind(b"(", Rule::Or, left, to)?;
@@ -189,7 +198,9 @@ fn put_choice(
     last: &NamedExpr,
     to: &mut Vec<u8>,
 ) -> Result<(), Memory>
-    ensures { OnOk result (to.new.items ≡ to.old.items ++ text_of (bare (If (expr_of test.now) (expr_of first.now) (expr_of last.now)))) }
+    ensures { OnOk result
+        (to.new.items ≡ to.old.items ++ text_of
+        (bare (If (expr_of test.now) (expr_of first.now) (expr_of last.now)))) }
 {
     put_behind(b"if(", Rule::Or, test, to)?;
     put_behind(b", ", Rule::Or, first, to)?;

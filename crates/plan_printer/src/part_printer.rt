@@ -2,7 +2,8 @@
 ghost use Rattle.std.specs.Prelude.{◌≡◌, ◌++◌, ◌∷◌, List, OnOk};
 ghost use Rattle.std.specs.List.{flat_map};
 ghost use Rattle.plan_grammar.specs.PlainNamed.{column_of};
-ghost use Rattle.plan_printer.specs.Canonical.{Piece, text_of, listed, name_piece, column_pieces, pair_pieces, key_pieces, argument_pieces, result_pieces};
+ghost use Rattle.plan_printer.specs.Canonical.{Piece, text_of, listed, name_piece, column_pieces};
+ghost use Rattle.plan_printer.specs.Canonical.{pair_pieces, key_pieces, argument_pieces, result_pieces};
 
 use crate::expr_printer::{put, put_expr, put_spaced};
 use crate::rule::Rule;
@@ -96,7 +97,8 @@ pub fn put_parts<T: Part>(parts: &[T], to: &mut Vec<u8>) -> Result<(), Memory>
 }
 
 fn put_others<T: Part>(parts: &[T], to: &mut Vec<u8>) -> Result<(), Memory>
-    ensures { OnOk result (to.new.items ≡ to.old.items ++ flat_map (λ part. 44 ∷ 32 ∷ text_of (T.pieces part)) parts.now) }
+    ensures { OnOk result
+        (to.new.items ≡ to.old.items ++ flat_map (λ part. 44 ∷ 32 ∷ text_of (T.pieces part)) parts.now) }
 {
     for part in parts {
         put_other(part, to)?;

@@ -5,7 +5,9 @@ ghost use Rattle.plan_grammar.specs.declared.token.Word.TheVariants as word;
 ghost use Rattle.plan_grammar.specs.PlainNamed.{expr_of, column_of, tree_of};
 ghost use Rattle.plan_grammar.specs.Grammar.{E};
 ghost use Rattle.plan_grammar.specs.Spelled.{SpellsText};
-ghost use Rattle.plan_printer.specs.Canonical.{Space, One, text_of, in_parens, between, canonical_expr, listed, name_piece, column_pieces, pair_pieces, key_pieces, result_pieces, behind_bar, canonical, canonical_text};
+ghost use Rattle.plan_printer.specs.Canonical.{Space, One, text_of, in_parens, between, canonical_expr};
+ghost use Rattle.plan_printer.specs.Canonical.{listed, name_piece, column_pieces, pair_pieces, key_pieces};
+ghost use Rattle.plan_printer.specs.Canonical.{result_pieces, behind_bar, canonical, canonical_text};
 
 use crate::expr_printer::{put, put_expr, put_spaced};
 use crate::part_printer::put_parts;
@@ -17,8 +19,8 @@ use plan_grammar::{
 use rows_core::{Memory, Name};
 use std::alloc::Global;
 
-/// The canonical text of an expression, as it stands behind `where`. The rules are this project's own. `Memory` where memory
-/// was asked for and refused.
+/// The canonical text of an expression, as it stands behind `where`. The rules are this project's own.
+/// `Memory` where memory was asked for and refused.
 pub fn print_expr(alloc: Global, expr: &NamedExpr) -> Result<Vec<u8>, Memory>
     ensures { IfOk result (λ text. text.items ≡ text_of (canonical_expr E (expr_of expr.now))) }
 {
@@ -27,8 +29,9 @@ pub fn print_expr(alloc: Global, expr: &NamedExpr) -> Result<Vec<u8>, Memory>
     Ok(text)
 }
 
-/// The canonical text of a plan, which spells it: single spaces, and parentheses exactly where the grammar needs them. The
-/// grammar and these rules are this project's own. `Memory` where memory was asked for and refused.
+/// The canonical text of a plan, which spells it: single spaces, and parentheses exactly where the grammar
+/// needs them. The grammar and these rules are this project's own. `Memory` where memory was asked for and
+/// refused.
 pub fn print_plan(alloc: Global, plan: &NamedPlan) -> Result<Vec<u8>, Memory>
     ensures text { IfOk result (λ text. text.items ≡ canonical_text plan.now) }
     ensures spells { IfOk result (λ text. SpellsText plan.now text.items) }
@@ -129,7 +132,8 @@ fn put_columns(columns: &[NamedColumn], to: &mut Vec<u8>) -> Result<(), Memory>
 
 fn put_group(keys: &[Name], results: &[NamedResult], to: &mut Vec<u8>) -> Result<(), Memory>
     ensures { OnOk result (to.new.items ≡ to.old.items ++ text_of (behind_bar word.Group
-        (Space ∷ between (listed name_piece keys.now) (token.Word word.With) (listed result_pieces results.now)))) }
+        (Space ∷ between (listed name_piece keys.now) (token.Word word.With)
+        (listed result_pieces results.now)))) }
 {
     put_stage(Word::Group, to)?;
     put(b" ", to)?;
@@ -141,7 +145,8 @@ fn put_group(keys: &[Name], results: &[NamedResult], to: &mut Vec<u8>) -> Result
 #[cycle(tree)]
 fn put_join(right: &NamedTree, on: &[NamedPair], to: &mut Vec<u8>) -> Result<(), Memory>
     ensures { OnOk result (to.new.items ≡ to.old.items ++ text_of (behind_bar word.Join
-        (Space ∷ between (in_parens (canonical (tree_of right.now))) (token.Word word.On) (listed pair_pieces on.now)))) }
+        (Space ∷ between (in_parens (canonical (tree_of right.now))) (token.Word word.On)
+        (listed pair_pieces on.now)))) }
 {
     put_stage(Word::Join, to)?;
     put(b" (", to)?;

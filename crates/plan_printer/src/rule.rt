@@ -1,7 +1,8 @@
 //! How tightly operations bind.
 ghost use Rattle.std.specs.Prelude.{◌≡◌};
 ghost use Rattle.plan_grammar.specs.PlainNamed.{expr_of};
-ghost use Rattle.plan_printer.specs.Canonical.{tightness, rule_of, call1_rule, form_of, form_rule, comparison, summing, multiplying};
+ghost use Rattle.plan_printer.specs.Canonical.{tightness, rule_of, call1_rule, form_of, form_rule};
+ghost use Rattle.plan_printer.specs.Canonical.{comparison, summing, multiplying};
 ghost use Rattle.plan_printer.specs.PrintCode.{grammar_rule, infix_of, form_in};
 
 use plan_grammar::{Mark, NamedExpr, Word};

@@ -6,5 +6,6 @@ ghost use Rattle.plan_printer.specs.Canonical.{canonical_text};
 
 /// The canonical text of a plan reads back as this plan and no other.
 pub fn canonical_reads_back()
-    ensures { (plan other : PlainTree) (text : List ℕ) → SpellsText plan text → SpellsText other (canonical_text plan) → other ≡ plan }
+    ensures { (plan other : PlainTree) (text : List ℕ) → SpellsText plan text
+        → SpellsText other (canonical_text plan) → other ≡ plan }
 {}

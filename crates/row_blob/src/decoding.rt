@@ -18,10 +18,10 @@ use byte_formats::{Unread, after_literal};
 use rows_core::Seq;
 use std::alloc::Global;
 
-/// The kept form of the shape that the bytes spell: `NotBlob` exactly where there is none. Its `at` is the first byte
-/// such that no spelling has the same bytes up to and with it, or the length of the input where bytes are missing. A
-/// group's key that stood before, and a left position that falls or isn't below the left length, count only where they
-/// stand, and stop reading at their last byte.
+/// The kept form of the shape that the bytes spell: `NotBlob` exactly where there is none. Its `at` is the
+/// first byte such that no spelling has the same bytes up to and with it, or the length of the input where
+/// bytes are missing. A group's key that stood before, and a left position that falls or isn't below the left
+/// length, count only where they stand, and stop reading at their last byte.
 pub fn decode(alloc: Global, bytes: &[u8], shape: &Shape) -> Result<Kept, BlobRefusal>
     // What is read is spelled so.
     ensures found { IfOk result (λ kept. IsKept shape.now kept × (bytes.now ≡ kept_spelling kept)) }
@@ -36,13 +36,15 @@ pub fn decode(alloc: Global, bytes: &[u8], shape: &Shape) -> Result<Kept, BlobRe
 
 /// No two kept forms of one shape have one spelling.
 pub fn one_spelling()
-    ensures { (shape : Shape) (a b : Kept) → IsKept shape a → IsKept shape b → kept_spelling a ≡ kept_spelling b
+    ensures { (shape : Shape) (a b : Kept) → IsKept shape a → IsKept shape b
+        → kept_spelling a ≡ kept_spelling b
         → a ≡ b }
 {}
 
 /// Bytes have one place at which reading stops.
 pub fn one_place()
-    ensures { (shape : Shape) (bytes : List ℕ) (a b : ℕ) → StopsAt shape bytes a → StopsAt shape bytes b → a ≡ b }
+    ensures { (shape : Shape) (bytes : List ℕ) (a b : ℕ) → StopsAt shape bytes a → StopsAt shape bytes b
+        → a ≡ b }
 {}
 
 /// What is said of a kept form by all the bytes of its spelling is that it is one of the shape.

@@ -1,7 +1,8 @@
 //! The one spelling of a kept form.
 ghost use Rattle.std.specs.Prelude.{◌≡◌, ◌++◌, ◌<◌, ◌^◌, OnOk, IfOk, length};
 ghost use Rattle.std.specs.List.{flat_map};
-ghost use Rattle.row_blob.specs.Spelling.{kept_spelling, header, row_spelling, group_spelling, tagged_spelling};
+ghost use Rattle.row_blob.specs.Spelling.{kept_spelling, header, row_spelling, group_spelling};
+ghost use Rattle.row_blob.specs.Spelling.{tagged_spelling};
 
 use crate::kept::{GroupRow, Kept, TaggedRow};
 use crate::length::encoded_len;

@@ -80,7 +80,8 @@ fn counted_groups_at<'a>(
     count: u64,
     bytes: &'a [u8],
 ) -> Result<(Vec<GroupRow>, &'a [u8]), Unread>
-    ensures { Gives (λ x. (x.0.items, x.1.now)) result (items_at (group_after keys.now kinds.now) count [] bytes.now) }
+    ensures { Gives (λ x. (x.0.items, x.1.now)) result
+        (items_at (group_after keys.now kinds.now) count [] bytes.now) }
 {
     let mut groups = Vec::new(alloc);
     let mut seen = IndexSet::new(alloc);

@@ -29,7 +29,8 @@ pub struct TaggedRow {
     pub row: Row,
 }
 
-/// What a file holds: plain rows, the groups of a grouping, or the rows of a join with the length of its left list.
+/// What a file holds: plain rows, the groups of a grouping, or the rows of a join with the length of its left
+/// list.
 #[derive(Debug, Drop)]
 pub enum Kept {
     Rows(Seq<Row>),

@@ -1,12 +1,14 @@
 //! The length of a kept form's file.
 ghost use Rattle.std.specs.Prelude.{◌≡◌, length, min};
 ghost use Rattle.std.specs.List.{flat_map};
-ghost use Rattle.row_blob.specs.Spelling.{kept_spelling, row_spelling, value_spelling, acc_spelling, group_spelling, tagged_spelling};
+ghost use Rattle.row_blob.specs.Spelling.{kept_spelling, row_spelling, value_spelling, acc_spelling};
+ghost use Rattle.row_blob.specs.Spelling.{group_spelling, tagged_spelling};
 
 use crate::kept::{Acc, GroupRow, Kept, TaggedRow};
 use rows_core::{Row, Value};
 
-/// The length of the file that holds the kept form, or the greatest u64 where it is longer. It takes no memory.
+/// The length of the file that holds the kept form, or the greatest u64 where it is longer. It takes no
+/// memory.
 pub fn encoded_len(kept: &Kept) -> u64
     ensures { result ≡ min (length (kept_spelling kept.now)) u64.MAX }
 {

@@ -2,7 +2,8 @@
 ghost use Rattle.std.specs.Prelude.{◌≡◌, ◌++◌, OnOk, ◌<◌, ◌^◌, length};
 ghost use Rattle.std.specs.Int.{w32, w64, w128, to_be_bytes};
 ghost use Rattle.std.specs.List.{flat_map};
-ghost use Rattle.row_blob.specs.Spelling.{value_spelling, acc_spelling, group_spelling, tagged_spelling, row_spelling};
+ghost use Rattle.row_blob.specs.Spelling.{value_spelling, acc_spelling, group_spelling, tagged_spelling};
+ghost use Rattle.row_blob.specs.Spelling.{row_spelling};
 
 use crate::kept::{Acc, GroupRow, TaggedRow};
 use byte_formats::{put_i64, put_text, put_u64, put_u128};
@@ -27,7 +28,8 @@ pub fn put_row(out: &mut Vec<u8>, row: &Row) -> Result<(), Memory>
 }
 
 fn put_avg(out: &mut Vec<u8>, sum_bits: u128, count: u64) -> Result<(), Memory>
-    ensures { OnOk result (out.new.items ≡ out.old.items ++ (to_be_bytes w128 sum_bits ++ to_be_bytes w64 count)) }
+    ensures { OnOk result
+        (out.new.items ≡ out.old.items ++ (to_be_bytes w128 sum_bits ++ to_be_bytes w64 count)) }
 {
     put_u128(out, sum_bits)?;
     put_u64(out, count)

@@ -58,7 +58,8 @@ fn counted_rows_at<'a>(
     count: u64,
     bytes: &'a [u8],
 ) -> Result<(Vec<Row>, &'a [u8]), Unread>
-    ensures { Gives (λ x. (x.0.items, x.1.now)) result (items_at (λ before. row_at kinds.now) count [] bytes.now) }
+    ensures { Gives (λ x. (x.0.items, x.1.now)) result
+        (items_at (λ before. row_at kinds.now) count [] bytes.now) }
 {
     let mut rows = Vec::new(alloc);
     let mut rest = bytes;

@@ -33,7 +33,8 @@ fn counted_tagged_at<'a>(
     count: u64,
     bytes: &'a [u8],
 ) -> Result<(Vec<TaggedRow>, &'a [u8]), Unread>
-    ensures { Gives (λ x. (x.0.items, x.1.now)) result (items_at (tagged_at left kinds.now) count [] bytes.now) }
+    ensures { Gives (λ x. (x.0.items, x.1.now)) result
+        (items_at (tagged_at left kinds.now) count [] bytes.now) }
 {
     let mut rows = Vec::new(alloc);
     let mut rest = bytes;

@@ -1,5 +1,5 @@
 -- Reading a line stops only where no row is spelled so.
-use Prim.Native.Nat.{zero, suc}
+use Prim.Native.Nat.{suc}
 use Rattle.std.proofs.Common.{◌≡◌, ◌≢◌, refl, sym, ap, ◌∙◌, ℕ, ◌<◌, ◌≤◌, List, [], ◌∷◌, ◌++◌, length, take, drop, get_or, map, ◌*◌, arith, append_assoc, append-nil, length-append, drop-cons, inl, inr}
 use Rattle.std.proofs.lemmas.List.{take-append-drop, map-append, drop_all}
 use Rattle.std.specs.List.{flat_map, AllByRecursion}
@@ -142,12 +142,23 @@ row_spelling-length [] p q few = omega arith
 row_spelling-length (v ∷ values) p q few =
     omega (arith, length-append (value_spelling v) (more_spelling values), value-length v p.0 q.0, more-length values p.1 q.1, few)
 
-pub IsLoose-at : (fields : List Field) (i : ℕ) (d : Field) → AllByRecursion IsLoose (values_of fields) → i < length fields → IsLoose (value_of (get_or fields i d))
-IsLoose-at [] i d all small = absurd (omega arith)
-IsLoose-at (f ∷ fields) zero d all small = all.0
-IsLoose-at (f ∷ fields) (suc i) d all small = IsLoose-at fields i d all.1 (omega arith)
+-- a field among all of them
+pub IsLoose-within : (before : List Field) (field : Field) (behind : List Field) → AllByRecursion IsLoose (values_of (before ++ field ∷ behind)) → IsLoose (value_of field)
+IsLoose-within [] field behind all = all.0
+IsLoose-within (f ∷ before) field behind all = IsLoose-within before field behind all.1
 
-pub HasLong-at : (fields : List Field) (i : ℕ) (d : Field) → i < length fields → IsLong (value_of (get_or fields i d)) → HasLong (values_of fields)
-HasLong-at [] i d small long = absurd (omega arith)
-HasLong-at (f ∷ fields) zero d small long = inl long
-HasLong-at (f ∷ fields) (suc i) d small long = inr (HasLong-at fields i d (omega arith) long)
+pub HasLong-within : (before : List Field) (field : Field) (behind : List Field) → IsLong (value_of field) → HasLong (values_of (before ++ field ∷ behind))
+HasLong-within [] field behind long = inl long
+HasLong-within (f ∷ before) field behind long = inr (HasLong-within before field behind long)
+
+pub values_of-more : (fields : List Field) (field : Field) → values_of (fields ++ field ∷ []) ≡ values_of fields ++ value_of field ∷ []
+values_of-more [] field = refl
+values_of-more (f ∷ fields) field = ap (λ (l : List Value). value_of f ∷ l) (values_of-more fields field)
+
+pub short-more : (values : List Value) (value : Value) → AllByRecursion IsShort values → IsShort value → AllByRecursion IsShort (values ++ value ∷ [])
+short-more [] value all last = (last, tt)
+short-more (v ∷ values) value all last = (all.0, short-more values value all.1 last)
+
+pub none_left : (fields : List Field) → length fields ≡ 0 → fields ≡ []
+none_left [] e = refl
+none_left (f ∷ fields) e = absurd (omega arith)

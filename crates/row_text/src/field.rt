@@ -1,5 +1,6 @@
 //! The value at the front of a line.
-ghost use Rattle.std.specs.Prelude.{◌≡◌, ◌≢◌, ◌++◌, ◌∷◌, ℕ, ℤ, List, IfOk, IfSome, IfNone, MatchOption, FitsSigned, IsTrue, ◌↔◌};
+ghost use Rattle.std.specs.Prelude.{◌≡◌, ◌≢◌, ◌++◌, ◌∷◌, ℕ, ℤ, List, IfOk, IfSome, IfNone, MatchOption};
+ghost use Rattle.std.specs.Prelude.{FitsSigned, IsTrue, ◌↔◌};
 ghost use Rattle.std.specs.List.{flat_map, AllByRecursion};
 ghost use Rattle.std.specs.Int.{w64};
 ghost use Rattle.std.specs.Fmt.{signed_decimal};
@@ -26,7 +27,8 @@ pub fn field_at(alloc: Global, kind: Kind, bytes: &[u8]) -> Result<Option<(Field
     ensures kind { IfOk result (λ found. IfSome found (λ f. kind_of (value_of f.0) ≡ kind)) }
     ensures loose { IfOk result (λ found. IfSome found (λ f. IsLoose (value_of f.0))) }
     ensures ends { IfOk result (λ found. IfSome found (λ f. Ends f.1.now)) }
-    ensures found { IfOk result (λ found. IfSome found (λ f. bytes.now ≡ value_spelling (value_of f.0) ++ f.1.now)) }
+    ensures found { IfOk result
+        (λ found. IfSome found (λ f. bytes.now ≡ value_spelling (value_of f.0) ++ f.1.now)) }
     ensures none { IfOk result (λ found. IfNone found ((value : Value) (rest : List ℕ) →
         kind_of value ≡ kind → IsLoose value → Ends rest → bytes.now ≢ value_spelling value ++ rest)) }
 {
@@ -89,7 +91,8 @@ fn text_field_at(alloc: Global, bytes: &[u8]) -> Result<Option<(Field, &[u8])>, 
     ensures kind { IfOk result (λ found. IfSome found (λ f. kind_of (value_of f.0) ≡ Kind.Text)) }
     ensures loose { IfOk result (λ found. IfSome found (λ f. IsLoose (value_of f.0))) }
     ensures ends { IfOk result (λ found. IfSome found (λ f. Ends f.1.now)) }
-    ensures found { IfOk result (λ found. IfSome found (λ f. bytes.now ≡ value_spelling (value_of f.0) ++ f.1.now)) }
+    ensures found { IfOk result
+        (λ found. IfSome found (λ f. bytes.now ≡ value_spelling (value_of f.0) ++ f.1.now)) }
     ensures none { IfOk result (λ found. IfNone found ((text rest : List ℕ) →
         IsText text → Ends rest → bytes.now ≢ text_spelling text ++ rest)) }
 {

@@ -1,9 +1,11 @@
 //! How a row is written.
-ghost use Rattle.std.specs.Prelude.{List, ◌≡◌, ◌+◌, ◌<◌, ◌≤◌, ◌++◌, ◌∷◌, length, take, OnOk, OnErr, IsOk, vec_len, vec_capacity};
+ghost use Rattle.std.specs.Prelude.{List, ◌≡◌, ◌+◌, ◌<◌, ◌≤◌, ◌++◌, ◌∷◌, length, take, OnOk, OnErr, IsOk};
+ghost use Rattle.std.specs.Prelude.{vec_len, vec_capacity};
 ghost use Rattle.std.specs.List.{flat_map, AllByRecursion};
 ghost use Rattle.rows_core.specs.declared.value.Value.{Value};
 ghost use Rattle.std.specs.Fmt.{signed_decimal};
-ghost use Rattle.row_text.specs.RowSpelling.{byte_spelling, text_spelling, value_spelling, more_spelling, row_spelling, IsLoose, IsShort};
+ghost use Rattle.row_text.specs.RowSpelling.{byte_spelling, text_spelling, value_spelling, more_spelling};
+ghost use Rattle.row_text.specs.RowSpelling.{row_spelling, IsLoose, IsShort};
 
 use itoa::Buffer;
 use rows_core::{Memory, Row, Value};
@@ -20,8 +22,8 @@ pub fn longest_spelling()
         length row ≤ 32 → length (row_spelling row) ≤ 64095 }
 {}
 
-/// Appends the row's one spelling. After `Memory`, `to` is as before. It succeeds where `to` has the length of the
-/// spelling to spare.
+/// Appends the row's one spelling. After `Memory`, `to` is as before. It succeeds where `to` has the length
+/// of the spelling to spare.
 pub fn print_row(row: &Row, to: &mut Vec<u8>) -> Result<(), Memory>
     ensures ok { OnOk result (to.new.items ≡ to.old.items ++ row_spelling row.now) }
     ensures err { OnErr result (to.new.items ≡ to.old.items) }
@@ -62,7 +64,8 @@ fn append_more(values: &[Value], to: &mut Vec<u8>) -> Result<(), Memory>
 fn append_next(value: &Value, to: &mut Vec<u8>) -> Result<(), Memory>
     ensures ok { OnOk result (to.new.items ≡ to.old.items ++ 44 ∷ value_spelling value.now) }
     ensures start { take (vec_len to.old) to.new.items ≡ to.old.items }
-    ensures full { OnErr result (vec_capacity to.old < vec_len to.old + length (44 ∷ value_spelling value.now)) }
+    ensures full { OnErr result
+        (vec_capacity to.old < vec_len to.old + length (44 ∷ value_spelling value.now)) }
     ensures capacity { vec_capacity to.old ≤ vec_capacity to.new }
 {
     to.push(b',')?;
@@ -107,7 +110,8 @@ fn append_text(text: &[u8], to: &mut Vec<u8>) -> Result<(), Memory>
 fn append_text_bytes(text: &[u8], to: &mut Vec<u8>) -> Result<(), Memory>
     ensures ok { OnOk result (to.new.items ≡ to.old.items ++ flat_map byte_spelling text.now) }
     ensures start { take (vec_len to.old) to.new.items ≡ to.old.items }
-    ensures full { OnErr result (vec_capacity to.old < vec_len to.old + length (flat_map byte_spelling text.now)) }
+    ensures full { OnErr result
+        (vec_capacity to.old < vec_len to.old + length (flat_map byte_spelling text.now)) }
     ensures capacity { vec_capacity to.old ≤ vec_capacity to.new }
 {
     for byte in text {

@@ -3,7 +3,8 @@ ghost use Rattle.std.specs.Prelude.{◌≡◌, ◌≢◌, ◌++◌, List, map, I
 ghost use Rattle.std.specs.List.{AllByRecursion};
 ghost use Rattle.rows_core.specs.declared.value.Value.{Value};
 ghost use Rattle.rows_core.specs.Schema.{kinds_of};
-ghost use Rattle.row_text.specs.RowSpelling.{more_spelling, row_spelling, IsLoose, IsLooseRow, IsLong, IsShort, HasLong};
+ghost use Rattle.row_text.specs.RowSpelling.{more_spelling, row_spelling, IsLoose, IsLooseRow, IsLong};
+ghost use Rattle.row_text.specs.RowSpelling.{IsShort, HasLong};
 ghost use Rattle.row_text.specs.Fields.{value_of, values_of, Ends};
 
 use crate::field::{Field, field_at};
@@ -22,9 +23,9 @@ pub enum RowRefusal {
     Memory,
 }
 
-/// The row of the schema's kinds that is spelled so. `NotRow` comes where no row of these kinds, with texts of any
-/// length, is spelled so, and `TooLong` where one is, with a text above 1,000 bytes. No two rows share a spelling
-/// (`one_spelling`), so but for want of memory each comes exactly there.
+/// The row of the schema's kinds that is spelled so. `NotRow` comes where no row of these kinds, with texts
+/// of any length, is spelled so, and `TooLong` where one is, with a text above 1,000 bytes. No two rows share
+/// a spelling (`one_spelling`), so but for want of memory each comes exactly there.
 pub fn read_row(alloc: Global, line: &[u8], schema: &Schema) -> Result<Row, RowRefusal>
     ensures kinds { IfOk result (λ row. IsLooseRow (kinds_of schema.now) row) }
     ensures short { IfOk result (λ row. AllByRecursion IsShort row) }
@@ -32,10 +33,11 @@ pub fn read_row(alloc: Global, line: &[u8], schema: &Schema) -> Result<Row, RowR
     ensures not_row { IsErrOf result RowRefusal.NotRow →
         ((row : List Value) → IsLooseRow (kinds_of schema.now) row → line.now ≢ row_spelling row) }
     ensures too_long { IsErrOf result RowRefusal.TooLong →
-        ((row : List Value) × IsLooseRow (kinds_of schema.now) row × (line.now ≡ row_spelling row) × HasLong row) }
+        ((row : List Value) × IsLooseRow (kinds_of schema.now) row × (line.now ≡ row_spelling row)
+        × HasLong row) }
 {
     match fields_of(alloc, schema.columns(), line) {
-        Ok(Some(fields)) => row_of(alloc, fields.as_slice()),
+        Ok(Some(fields)) => row_of(alloc, fields),
         Ok(None) => Err(RowRefusal::NotRow),
         Err(_) => Err(RowRefusal::Memory),
     }
@@ -45,7 +47,8 @@ pub fn read_row(alloc: Global, line: &[u8], schema: &Schema) -> Result<Row, RowR
 fn fields_of(alloc: Global, columns: &[Column], line: &[u8]) -> Result<Option<Vec<Field>>, Memory>
     ensures found { IfOk result (λ found. IfSome found (λ fields.
         IsLooseRow (kinds_of columns.now) (values_of fields.items))) }
-    ensures spelling { IfOk result (λ found. IfSome found (λ fields. line.now ≡ row_spelling (values_of fields.items))) }
+    ensures spelling { IfOk result
+        (λ found. IfSome found (λ fields. line.now ≡ row_spelling (values_of fields.items))) }
     ensures none { IfOk result (λ found. IfNone found ((row : List Value) →
         IsLooseRow (kinds_of columns.now) row → line.now ≢ row_spelling row)) }
 {
@@ -66,7 +69,8 @@ fn fields_of(alloc: Global, columns: &[Column], line: &[u8]) -> Result<Option<Ve
     Ok(Some(fields))
 }
 
-/// The fields that stand each behind a comma, one for each column; `None` where they aren't all that stands there.
+/// The fields that stand each behind a comma, one for each column; `None` where they aren't all that stands
+/// there.
 fn more_fields(
     alloc: Global,
     columns: &[Column],
@@ -75,7 +79,8 @@ fn more_fields(
     requires { Ends bytes.now }
     ensures found { IfOk result (λ found. IfSome found (λ fields.
         IsLooseRow (kinds_of columns.now) (values_of fields.items))) }
-    ensures spelling { IfOk result (λ found. IfSome found (λ fields. bytes.now ≡ more_spelling (values_of fields.items))) }
+    ensures spelling { IfOk result
+        (λ found. IfSome found (λ fields. bytes.now ≡ more_spelling (values_of fields.items))) }
     ensures none { IfOk result (λ found. IfNone found ((more : List Value) →
         IsLooseRow (kinds_of columns.now) more → bytes.now ≢ more_spelling more)) }
 {
@@ -110,18 +115,18 @@ fn after_comma(bytes: &[u8]) -> Option<&[u8]>
 }
 
 /// The row of these fields; `TooLong` where a text is above 1,000 bytes.
-fn row_of(alloc: Global, fields: &[Field]) -> Result<Row, RowRefusal>
-    requires { AllByRecursion IsLoose (values_of fields.now) }
-    ensures row { IfOk result (λ row. row ≡ values_of fields.now) }
+fn row_of(alloc: Global, fields: Vec<Field>) -> Result<Row, RowRefusal>
+    requires { AllByRecursion IsLoose (values_of fields.items) }
+    ensures row { IfOk result (λ row. row ≡ values_of fields.items) }
     ensures short { IfOk result (λ row. AllByRecursion IsShort row) }
     ensures not_row { IsErrOf result RowRefusal.NotRow → ⊥ }
-    ensures too_long { IsErrOf result RowRefusal.TooLong → HasLong (values_of fields.now) }
+    ensures too_long { IsErrOf result RowRefusal.TooLong → HasLong (values_of fields.items) }
 {
     let Ok(mut values) = Vec::with_capacity(alloc, fields.len()) else {
         return Err(RowRefusal::Memory);
     };
     for field in fields {
-        let value = value_of_field(alloc, field)?;
+        let value = value_of_field(field)?;
         if values.push(value).is_err() {
             return Err(RowRefusal::Memory);
         }
@@ -129,16 +134,17 @@ fn row_of(alloc: Global, fields: &[Field]) -> Result<Row, RowRefusal>
     Ok(Row::new(values))
 }
 
-fn value_of_field(alloc: Global, field: &Field) -> Result<Value, RowRefusal>
-    requires { IsLoose (value_of field.now) }
-    ensures value { IfOk result (λ value. value ≡ value_of field.now) }
+/// The field as a value, which takes its text over.
+fn value_of_field(field: Field) -> Result<Value, RowRefusal>
+    requires { IsLoose (value_of field) }
+    ensures value { IfOk result (λ value. value ≡ value_of field) }
     ensures short { IfOk result (λ value. IsShort value) }
     ensures not_row { IsErrOf result RowRefusal.NotRow → ⊥ }
-    ensures too_long { IsErrOf result RowRefusal.TooLong → IsLong (value_of field.now) }
+    ensures too_long { IsErrOf result RowRefusal.TooLong → IsLong (value_of field) }
 {
     match field {
-        Field::Int(number) => Ok(Value::Int(*number)),
-        Field::Text(text) => match Txt::new(alloc, text.items()) {
+        Field::Int(number) => Ok(Value::Int(number)),
+        Field::Text(text) => match Txt::from_vec(text.into_vec()) {
             Ok(text) => Ok(Value::Text(text)),
             Err(TxtRefusal::NotText) => Err(RowRefusal::NotRow),
             Err(TxtRefusal::TooLong) => Err(RowRefusal::TooLong),

@@ -4,8 +4,8 @@ ghost use Rattle.std.specs.Prelude.{◌≡◌, ◌↔◌, IsTrue};
 use crate::row::Row;
 use crate::value::Value;
 
-/// A type whose `==` says exactly whether two values are equal as contracts see them. So it is with numbers, and
-/// with every type of this crate whose fields are such.
+/// A type whose `==` says exactly whether two values are equal as contracts see them. So it is with numbers,
+/// and with every type of this crate whose fields are such.
 pub trait ExactEq: PartialEq {
     ghost exact: { (a b : Self) → IsTrue (Self.eq a b) ↔ (a ≡ b) };
 }

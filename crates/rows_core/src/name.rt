@@ -20,8 +20,8 @@ const RESERVED_WORDS: [&str; 27] = [
 /// The greatest length of a name, in bytes.
 const MAX_NAME_LEN: usize = 64;
 
-/// A lower-case letter followed by lower-case letters, digits and `_`, of 64 bytes at most, that is no reserved
-/// word. The rule is this project's own. Contracts see it as its bytes.
+/// A lower-case letter followed by lower-case letters, digits and `_`, of 64 bytes at most, that is no
+/// reserved word. The rule is this project's own. Contracts see it as its bytes.
 #[derive(Debug, PartialEq, Eq, PartialOrd, Ord, Hash, Drop)]
 pub struct Name {
     bytes: Seq<u8>,

@@ -15,9 +15,9 @@ pub struct Key {
     pub down: bool,
 }
 
-/// How two rows stand by these keys, of which the first that tells them apart decides. Numbers are compared by
-/// value and texts by bytes; a `down` key is reversed. So that any two rows compare, a number stands before a
-/// text, and a row without the column before one that has it. It takes no memory.
+/// How two rows stand by these keys, of which the first that tells them apart decides. Numbers are compared
+/// by value and texts by bytes; a `down` key is reversed. So that any two rows compare, a number stands
+/// before a text, and a row without the column before one that has it. It takes no memory.
 pub fn cmp_by(a: &Row, b: &Row, keys: &[Key]) -> Ordering
     ensures { result ≡ row_cmp keys.now a.now b.now }
 {
@@ -30,7 +30,8 @@ pub fn cmp_by(a: &Row, b: &Row, keys: &[Key]) -> Ordering
     Ordering::Equal
 }
 
-/// By any keys rows stand in a total order, up to rows that no key tells apart. So a stable sort by it has one answer.
+/// By any keys rows stand in a total order, up to rows that no key tells apart. So a stable sort by it has
+/// one answer.
 pub fn total_order()
     ensures { (keys : List Key) → IsTotalOrder (row_cmp keys) }
 {}

@@ -7,8 +7,8 @@ use crate::value::Value;
 use std::alloc::Global;
 use std::marker::Model;
 
-/// Values in the order of their columns. Contracts see a row as the list of its values. `==` is equality of rows,
-/// so a row may be a key.
+/// Values in the order of their columns. Contracts see a row as the list of its values. `==` is equality of
+/// rows, so a row may be a key.
 #[derive(Debug, PartialEq, Eq, PartialOrd, Ord, Hash, Drop)]
 pub struct Row {
     values: Seq<Value>,

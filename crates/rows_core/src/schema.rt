@@ -44,8 +44,8 @@ impl Column {
     }
 }
 
-/// From 1 to 32 columns with different names. The limit is this project's own. Contracts see a schema as the list
-/// of its columns.
+/// From 1 to 32 columns with different names. The limit is this project's own. Contracts see a schema as the
+/// list of its columns.
 #[derive(Debug, PartialEq, Eq, Drop)]
 pub struct Schema {
     columns: Seq<Column>,
@@ -77,8 +77,8 @@ impl Model for Schema {
 }
 
 impl Schema {
-    /// The schema of these columns: `Empty` exactly where there is none, `Duplicate` exactly where two have one
-    /// name, else `TooMany` exactly where there are more than 32. It takes no memory.
+    /// The schema of these columns: `Empty` exactly where there is none, `Duplicate` exactly where two have
+    /// one name, else `TooMany` exactly where there are more than 32. It takes no memory.
     pub fn new(columns: Vec<Column>) -> Result<Schema, SchemaRefusal>
         ensures columns { IfOk result (λ schema. schema ≡ columns.items) }
         ensures schema { IfOk result (λ schema. IsSchema schema) }

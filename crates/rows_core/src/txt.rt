@@ -16,8 +16,8 @@ const MAX_TEXT_LEN: usize = 1_000;
 /// The least byte of a text.
 const MIN_TEXT_BYTE: u8 = 0x20;
 
-/// A text: UTF-8 without a byte below 0x20, of 1,000 bytes at most. The rule is this project's own. Contracts see
-/// it as its bytes. Texts are ordered by their bytes.
+/// A text: UTF-8 without a byte below 0x20, of 1,000 bytes at most. The rule is this project's own. Contracts
+/// see it as its bytes. Texts are ordered by their bytes.
 #[derive(Debug, PartialEq, Eq, PartialOrd, Ord, Hash, Drop)]
 pub struct Txt {
     bytes: Seq<u8>,
@@ -48,8 +48,8 @@ impl Model for Txt {
 }
 
 impl Txt {
-    /// The text with these bytes: `NotText` exactly where they are not UTF-8 or one is below 0x20, else `TooLong`
-    /// exactly where they are more than 1,000.
+    /// The text with these bytes: `NotText` exactly where they are not UTF-8 or one is below 0x20, else
+    /// `TooLong` exactly where they are more than 1,000.
     pub fn new(alloc: Global, bytes: &[u8]) -> Result<Txt, TxtRefusal>
         ensures bytes { IfOk result (λ text. text ≡ bytes.now) }
         ensures text { IfOk result (λ text. IsTxt text) }
@@ -69,6 +69,26 @@ impl Txt {
             }),
             Err(_) => Err(TxtRefusal::Memory),
         }
+    }
+
+    /// The text of these bytes, as `new` takes them. It takes no memory.
+    pub fn from_vec(bytes: Vec<u8>) -> Result<Txt, TxtRefusal>
+        ensures bytes { IfOk result (λ text. text ≡ bytes.items) }
+        ensures text { IfOk result (λ text. IsTxt text) }
+        ensures not_text { IsErrOf result TxtRefusal.NotText ↔ (IsText bytes.items → ⊥) }
+        ensures too_long { IsErrOf result TxtRefusal.TooLong
+            ↔ (IsText bytes.items × (1000 < length bytes.items)) }
+        ensures no_memory { IsErrOf result TxtRefusal.Memory → ⊥ }
+    {
+        if !is_text(&bytes) {
+            return Err(TxtRefusal::NotText);
+        }
+        if bytes.len() > MAX_TEXT_LEN {
+            return Err(TxtRefusal::TooLong);
+        }
+        Ok(Txt {
+            bytes: Seq::new(bytes),
+        })
     }
 
     pub fn bytes(&self) -> &[u8]

@@ -1,7 +1,8 @@
 //! What each operation gives.
 ghost use Rattle.std.specs.Prelude.{◌≡◌, ◌<◌, length, map, IsTrue, IsErr, IfOk};
 ghost use Rattle.scalar_ops.specs.Cells.{kind_of_cell};
-ghost use Rattle.scalar_ops.specs.Meaning.{meaning, checked_cell, op_at, kinds_at, result_at, overflows_at, Divides};
+ghost use Rattle.scalar_ops.specs.Meaning.{meaning, checked_cell, op_at, kinds_at, result_at, overflows_at};
+ghost use Rattle.scalar_ops.specs.Meaning.{Divides};
 
 use crate::cell::Cell;
 use crate::division::{floor_div, floor_mod};
@@ -18,8 +19,8 @@ macro_rules! arms {
     };
 }
 
-/// The value of a row of `OPS` at cells of its kinds: `Overflow` exactly where the exact value is outside of i64,
-/// and only where the row says so. It takes no memory.
+/// The value of a row of `OPS` at cells of its kinds: `Overflow` exactly where the exact value is outside of
+/// i64, and only where the row says so. It takes no memory.
 pub fn apply(row: usize, cells: &[Cell]) -> Result<Cell, Overflow>
     requires row { row < length OPS.rows }
     requires kinds { map kind_of_cell cells.now ≡ kinds_at row }

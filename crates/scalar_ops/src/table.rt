@@ -113,8 +113,8 @@ pub static OPS: OpTable<24> = OpTable {
 };
 
 impl<const N: usize> OpTable<N> {
-    /// The place of the first row with this operation and these kinds; `None` exactly where no row has them. It takes no
-    /// memory.
+    /// The place of the first row with this operation and these kinds; `None` exactly where no row has them.
+    /// It takes no memory.
     pub fn find(&self, op: Op, kinds: &[CellKind]) -> Option<usize>
         ensures { result ≡ position (is_row_for op kinds.now) self.now.rows }
     {

@@ -1,5 +1,6 @@
 //! What a command is answered, and the text of it.
-ghost use Rattle.std.specs.Prelude.{◌≡◌, ◌∷◌, ◌+◌, ◌<◌, ◌≤◌, ◌++◌, length, vec_len, vec_capacity, OnOk, OnErr, IsOk, slice_index_or, []};
+ghost use Rattle.std.specs.Prelude.{◌≡◌, ◌∷◌, ◌+◌, ◌<◌, ◌≤◌, ◌++◌, length, vec_len, vec_capacity, OnOk};
+ghost use Rattle.std.specs.Prelude.{OnErr, IsOk, slice_index_or, []};
 ghost use Rattle.script_text.specs.Answer.{answer_lines, refusal_line, limit_text, printed_line};
 
 use itoa::Buffer;
@@ -37,7 +38,8 @@ pub enum Refusal {
     Exists(Name),
     /// `refused type`: two columns have one name.
     IllTyped,
-    /// `refused row K`: this row line, counted from 1, is the first that spells no row of the stream's schema.
+    /// `refused row K`: this row line, counted from 1, is the first that spells no row of the stream's
+    /// schema.
     Row(u64),
     /// `refused memory`: memory was asked for and refused.
     Memory,
@@ -66,9 +68,13 @@ pub fn line_count(answer: &Answer, quiet: bool) -> u64
 /// Appends the line of this number, from 0, with its LF. After want of memory `to` has what it had.
 pub fn print_line(answer: &Answer, quiet: bool, line: u64, to: &mut Vec<u8>) -> Result<(), Memory>
     requires { line < length (answer_lines quiet answer.now) }
-    ensures printed { OnOk result (to.new.items ≡ to.old.items ++ printed_line (slice_index_or (answer_lines quiet answer.now) line [])) }
+    ensures printed { OnOk result
+        (to.new.items ≡ to.old.items ++ printed_line
+        (slice_index_or (answer_lines quiet answer.now) line [])) }
     ensures err { OnErr result (to.new.items ≡ to.old.items) }
-    ensures room { vec_len to.old + length (printed_line (slice_index_or (answer_lines quiet answer.now) line [])) ≤ vec_capacity to.old → IsOk result }
+    ensures room { vec_len to.old + length
+        (printed_line (slice_index_or (answer_lines quiet answer.now) line [])) ≤ vec_capacity to.old
+        → IsOk result }
     ensures capacity { vec_capacity to.old ≤ vec_capacity to.new }
 {
     let _ = (quiet, line);
@@ -86,7 +92,8 @@ pub fn print_line(answer: &Answer, quiet: bool, line: u64, to: &mut Vec<u8>) -> 
 fn print_refusal(refusal: &Refusal, to: &mut Vec<u8>) -> Result<(), Memory>
     ensures printed { OnOk result (to.new.items ≡ to.old.items ++ printed_line (refusal_line refusal.now)) }
     ensures err { OnErr result (to.new.items ≡ to.old.items) }
-    ensures room { vec_len to.old + length (printed_line (refusal_line refusal.now)) ≤ vec_capacity to.old → IsOk result }
+    ensures room { vec_len to.old + length (printed_line (refusal_line refusal.now)) ≤ vec_capacity to.old
+        → IsOk result }
     ensures capacity { vec_capacity to.old ≤ vec_capacity to.new }
 {
     match refusal {
@@ -122,7 +129,8 @@ fn limit_text(kind: LimitKind) -> &'static [u8]
 fn append_line(to: &mut Vec<u8>, words: &[u8], text: &[u8]) -> Result<(), Memory>
     ensures printed { OnOk result (to.new.items ≡ to.old.items ++ (words.now ++ text.now ++ 10 ∷ [])) }
     ensures err { OnErr result (to.new.items ≡ to.old.items) }
-    ensures room { vec_len to.old + (length words.now + length text.now + 1) ≤ vec_capacity to.old → IsOk result }
+    ensures room { vec_len to.old + (length words.now + length text.now + 1) ≤ vec_capacity to.old
+        → IsOk result }
     ensures capacity { vec_capacity to.old ≤ vec_capacity to.new }
 {
     let len = to.len();

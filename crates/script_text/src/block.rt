@@ -1,7 +1,8 @@
 //! A block that is being read.
 ghost use Rattle.std.specs.Prelude.{◌≡◌, true, false, ℕ, ◌≢◌, ◌∷◌, [], List, Some, None, Err, codes};
 ghost use Rattle.script_text.specs.Line.{Holds};
-ghost use Rattle.script_text.specs.Script.{Block, block_item, block_limit, spelled_item, append_with, Given, IsWholeItem};
+ghost use Rattle.script_text.specs.Script.{Block, block_item, block_limit, spelled_item, append_with, Given};
+ghost use Rattle.script_text.specs.Script.{IsWholeItem};
 ghost use Rattle.script_text.specs.Words.{behind_word, behind_append, head_name};
 ghost use Rattle.script_text.specs.Reader.{IsOf, IsSizeOf, Keeps, with_rows};
 ghost use Rattle.script_text.specs.Dispatch.{or_syntax};
@@ -48,7 +49,8 @@ pub struct OpenBlock {
 impl Size {
     fn with_row(self, line: &Line) -> Size
         ensures { (block : Block) (bytes : List ℕ) → IsSizeOf self block
-            → Holds false line.now.text.items line.now.len bytes → IsSizeOf result (with_rows block (bytes ∷ [])) }
+            → Holds false line.now.text.items line.now.len bytes
+            → IsSizeOf result (with_rows block (bytes ∷ [])) }
     {
         Size {
             lines_fit: self.lines_fit && !line.is_too_long(),
@@ -96,7 +98,8 @@ impl OpenBlock {
     /// The block with one more row line.
     pub fn with_row(self, alloc: Global, line: &Line) -> OpenBlock
         ensures { (block : Block) (bytes : List ℕ) → IsOf self block
-            → Holds false line.now.text.items line.now.len bytes → IsOf result (with_rows block (bytes ∷ [])) }
+            → Holds false line.now.text.items line.now.len bytes
+            → IsOf result (with_rows block (bytes ∷ [])) }
     {
         let OpenBlock { size, kept } = self;
         let size = size.with_row(line);
@@ -126,7 +129,8 @@ impl OpenBlock {
 
     /// What the block gives where the script doesn't end it.
     pub fn unended(&self) -> Item
-        ensures given { (block : Block) → IsOf self.now block → Given (spelled_item (block_limit block) (Err Syntax)) result }
+        ensures given { (block : Block) → IsOf self.now block
+            → Given (spelled_item (block_limit block) (Err Syntax)) result }
         ensures whole { IsWholeItem result }
     {
         match self.size.limit() {
@@ -150,7 +154,8 @@ impl Kept {
 
     // What a block gives that passes no limit.
     fn into_item(self) -> Item
-        ensures given { (block : Block) → Keeps self block → block_limit block ≡ None → Given (block_item block) result }
+        ensures given { (block : Block) → Keeps self block → block_limit block ≡ None
+            → Given (block_item block) result }
         ensures whole { IsWholeItem result }
     {
         match self {
@@ -184,7 +189,8 @@ impl Kept {
 
 // What is kept of a head line that has this behind `append`.
 fn kept_head(alloc: Global, rest: &[u8]) -> Kept
-    ensures { (head : List ℕ) → behind_append head ≡ Some rest.now → Keeps result (record { head = head; rows = [] }) }
+    ensures { (head : List ℕ) → behind_append head ≡ Some rest.now
+        → Keeps result (record { head = head; rows = [] }) }
 {
     match only_name(alloc, rest) {
         Ok(Some(name)) => Kept::Append {
@@ -198,7 +204,8 @@ fn kept_head(alloc: Global, rest: &[u8]) -> Kept
 
 // The row lines with a copy of this one.
 fn with_copy(alloc: Global, name: Name, mut rows: Vec<Text>, row: &[u8]) -> Kept
-    ensures { (block : Block) → head_name block.head ≡ Some name → rows.items ≡ block.rows → Keeps result (with_rows block (row.now ∷ [])) }
+    ensures { (block : Block) → head_name block.head ≡ Some name → rows.items ≡ block.rows
+        → Keeps result (with_rows block (row.now ∷ [])) }
 {
     let Ok(copy) = Vec::from_slice(alloc, row) else {
         return Kept::NoMemory;

@@ -11,8 +11,8 @@ use crate::words::behind_stream;
 use rows_core::Memory;
 use std::alloc::Global;
 
-/// The command that a line spells which has no spaces at its front: `Syntax` exactly where it spells none, unless memory
-/// is wanted first.
+/// The command that a line spells which has no spaces at its front: `Syntax` exactly where it spells none,
+/// unless memory is wanted first.
 pub fn line_command(alloc: Global, text: &[u8]) -> Result<Command, Refusal>
     ensures read { IsReadOf (stream_command (behind_word (codes "stream") text.now)) result }
     ensures whole { IfOk result IsWhole }

@@ -9,10 +9,11 @@ use rows_core::{Column, Name, Seq, Text};
 /// What a person asks for.
 #[derive(Drop)]
 pub enum Command {
-    /// Makes a stream. It has one column or more, as written: names may repeat, and there may be more than a schema
-    /// has.
+    /// Makes a stream. It has one column or more, as written: names may repeat, and there may be more than a
+    /// schema has.
     Stream { name: Name, columns: Seq<Column> },
-    /// Appends rows to a stream. There is one row line or more, as written and without its LF, blank ones too.
+    /// Appends rows to a stream. There is one row line or more, as written and without its LF, blank ones
+    /// too.
     Append { name: Name, lines: Seq<Text> },
 }
 

@@ -1,5 +1,6 @@
 //! The line that is being read.
-ghost use Rattle.std.specs.Prelude.{◌≡◌, ◌<◌, ◌≤◌, List, ℕ, [], ◌++◌, Bool, true, false, nat_lt, IfOk, vec_len, vec_capacity};
+ghost use Rattle.std.specs.Prelude.{◌≡◌, ◌<◌, ◌≤◌, List, ℕ, [], ◌++◌, Bool, true, false, nat_lt, IfOk};
+ghost use Rattle.std.specs.Prelude.{vec_len, vec_capacity};
 ghost use Rattle.script_text.specs.Line.{Holds, counted};
 ghost use Rattle.script_text.specs.Script.{longest_line};
 
@@ -10,8 +11,8 @@ use std::alloc::Global;
 /// The most bytes of a line, without its LF.
 const MAX_LINE_LEN: usize = 65_536;
 
-/// What is kept of a line: as many bytes as a line may have, and the line's length. Outside of a block the spaces at
-/// its front aren't kept.
+/// What is kept of a line: as many bytes as a line may have, and the line's length. Outside of a block the
+/// spaces at its front aren't kept.
 #[derive(Drop)]
 pub struct Line {
     pub text: Vec<u8>,

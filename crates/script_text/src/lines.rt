@@ -1,5 +1,6 @@
 //! The reader of a script, which takes its bytes in pieces of any length.
-ghost use Rattle.std.specs.Prelude.{◌≡◌, ℕ, ◌+◌, ◌<◌, ◌≤◌, List, [], ◌∷◌, ◌++◌, take, length, IfOk, IfSome, IfNone};
+ghost use Rattle.std.specs.Prelude.{◌≡◌, ℕ, ◌+◌, ◌<◌, ◌≤◌, List, [], ◌∷◌, ◌++◌, take, length, IfOk, IfSome};
+ghost use Rattle.std.specs.Prelude.{IfNone};
 ghost use Rattle.script_text.specs.Script.{items, all_items, Given, Completes, IsWholeItem};
 ghost use Rattle.script_text.specs.Reader.{IsUnbroken, Stands};
 
@@ -11,7 +12,8 @@ use rows_core::Memory;
 use std::alloc::Global;
 use std::mem;
 
-/// Reads a script. It keeps of an unfinished command what is needed to give it, and nothing of what is passed over.
+/// Reads a script. It keeps of an unfinished command what is needed to give it, and nothing of what is passed
+/// over.
 #[derive(Drop)]
 pub struct Lines {
     place: Place,
@@ -20,7 +22,8 @@ pub struct Lines {
 }
 
 impl Lines {
-    /// A reader that has taken nothing. It has the memory for a line; only names, columns and row lines ask for more.
+    /// A reader that has taken nothing. It has the memory for a line; only names, columns and row lines ask
+    /// for more.
     pub fn new(alloc: Global) -> Result<Lines, Memory>
         ensures { IfOk result (λ lines. Stands lines []) }
     {
@@ -31,13 +34,14 @@ impl Lines {
         })
     }
 
-    /// Takes bytes up to the end of the first command, or all of them, and says how many. A command for which memory was
-    /// refused comes as that refusal, and the rest of it is passed over without memory.
+    /// Takes bytes up to the end of the first command, or all of them, and says how many. A command for which
+    /// memory was refused comes as that refusal, and the rest of it is passed over without memory.
     pub fn take(&mut self, bytes: &[u8]) -> (usize, Option<Item>)
         ensures bound { result.0 ≤ length bytes.now }
         ensures takes { 0 < length bytes.now → 0 < result.0 }
         ensures all { IfNone result.1 (result.0 ≡ length bytes.now) }
-        ensures stands { IfNone result.1 ((before : List ℕ) → Stands self.old before → Stands self.new (before ++ bytes.now)) }
+        ensures stands { IfNone result.1
+            ((before : List ℕ) → Stands self.old before → Stands self.new (before ++ bytes.now)) }
         ensures item { IfSome result.1 (λ item. (before : List ℕ) → Stands self.old before
             → Stands self.new [] × Completes (before ++ take result.0 bytes.now) item) }
         ensures whole { IfSome result.1 IsWholeItem }
@@ -55,8 +59,8 @@ impl Lines {
         (taken, None)
     }
 
-    /// The script ends here: the item of its last line or of the block that it doesn't end. None exactly where no command
-    /// has begun.
+    /// The script ends here: the item of its last line or of the block that it doesn't end. None exactly
+    /// where no command has begun.
     pub fn finish(self) -> Option<Item>
         ensures none { IfNone result ((before : List ℕ) → Stands self before → all_items before ≡ []) }
         ensures item { IfSome result (λ item. (before : List ℕ) → Stands self before

@@ -31,7 +31,8 @@ impl Place {
     /// The place after this line, and the item that the line ends.
     pub fn after_line(self, alloc: Global, line: &Line) -> (Place, Option<Item>)
         ensures after { (block : Option Block) (bytes : List ℕ) → StandsFor self block
-            → Holds (is_none block) line.now.text.items line.now.len bytes → AfterLine block bytes result.0 result.1 }
+            → Holds (is_none block) line.now.text.items line.now.len bytes
+            → AfterLine block bytes result.0 result.1 }
         ensures whole { IfSome result.1 IsWholeItem }
     {
         match self {
@@ -43,7 +44,8 @@ impl Place {
 
     /// What a block gives that the script doesn't end.
     pub fn unended(&self) -> Option<Item>
-        ensures given { (block : Option Block) → StandsFor self.now block → GivenIfAny (unended_item block) result }
+        ensures given { (block : Option Block) → StandsFor self.now block
+            → GivenIfAny (unended_item block) result }
         ensures whole { IfSome result IsWholeItem }
     {
         match self {
@@ -55,7 +57,8 @@ impl Place {
 
 // The place after a line outside of a block, and the item that the line ends.
 fn after_outside(alloc: Global, line: &Line) -> (Place, Option<Item>)
-    ensures after { (bytes : List ℕ) → Holds true line.now.text.items line.now.len bytes → AfterLine None bytes result.0 result.1 }
+    ensures after { (bytes : List ℕ) → Holds true line.now.text.items line.now.len bytes
+        → AfterLine None bytes result.0 result.1 }
     ensures whole { IfSome result.1 IsWholeItem }
 {
     if is_empty_or_remark(&line.text) {
@@ -69,7 +72,8 @@ fn after_outside(alloc: Global, line: &Line) -> (Place, Option<Item>)
 
 // What a line gives that is neither passed over nor of a block.
 fn command_item(alloc: Global, line: &Line) -> Item
-    ensures given { (bytes : List ℕ) → Holds true line.now.text.items line.now.len bytes → Given (command_item bytes) result }
+    ensures given { (bytes : List ℕ) → Holds true line.now.text.items line.now.len bytes
+        → Given (command_item bytes) result }
     ensures whole { IsWholeItem result }
 {
     if line.is_too_long() {

@@ -1,6 +1,7 @@
 //! The line `stream NAME (COL:KIND, COL:KIND)`.
 ghost use Rattle.std.specs.Prelude.{◌≡◌, ◌<◌, length, IfOk, IfSome, IfNone, Some, None, position};
-ghost use Rattle.script_text.specs.StreamLine.{is_mark, Parts, parts_at, only_kind, column_of, columns_of, closed_columns, stream_of};
+ghost use Rattle.script_text.specs.StreamLine.{is_mark, Parts, parts_at, only_kind, column_of, columns_of};
+ghost use Rattle.script_text.specs.StreamLine.{closed_columns, stream_of};
 
 use crate::item::Command;
 use crate::words::{is_blank, only_name, only_word};
@@ -83,7 +84,9 @@ fn only_kind(text: &[u8]) -> Option<Kind>
 fn split_at_mark<'a>(mark: u8, text: &'a [u8]) -> Option<(&'a [u8], &'a [u8])>
     ensures none { IfNone result (parts_at mark text.entry.now ≡ None) }
     ensures shorter { IfSome result (λ parts. length parts.1.now < length text.entry.now) }
-    ensures some { IfSome result (λ parts. parts_at mark text.entry.now ≡ Some (record { before = parts.0.now; behind = parts.1.now })) }
+    ensures some { IfSome result
+        (λ parts. parts_at mark text.entry.now
+        ≡ Some (record { before = parts.0.now; behind = parts.1.now })) }
 {
     match first_mark(mark, text) {
         Some(at) => Some((&text[..at], &text[at + 1..])),

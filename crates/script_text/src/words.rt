@@ -1,7 +1,8 @@
 //! The words of a command's line, which spaces part.
 ghost use Rattle.std.specs.Prelude.{◌≡◌, ◌<◌, length, option_copied, IfSome, IfOk, position, codes};
 ghost use Rattle.std.specs.List.{before_first, after_first};
-ghost use Rattle.script_text.specs.Words.{is_space, is_blank, trimmed, is_empty_or_remark, ends_word, behind_word, word_alone, only_word, only_name};
+ghost use Rattle.script_text.specs.Words.{is_space, is_blank, trimmed, is_empty_or_remark, ends_word};
+ghost use Rattle.script_text.specs.Words.{behind_word, word_alone, only_word, only_name};
 
 use rows_core::{Memory, Name, NameRefusal};
 use std::alloc::Global;

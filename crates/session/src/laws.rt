@@ -4,8 +4,8 @@ ghost use Rattle.script_text.specs.declared.item.Command.{Command};
 ghost use Rattle.session.specs.State.{State};
 ghost use Rattle.session.specs.Machine.{HasNoChoice, Outcome, Performs};
 
-/// In each state a command that leaves no choice has one outcome: its answer and the state after it, where memory isn't
-/// wanted.
+/// In each state a command that leaves no choice has one outcome: its answer and the state after it, where
+/// memory isn't wanted.
 pub fn one_outcome()
     ensures { (state : State) (command : Command) (a b : Outcome)
         → HasNoChoice command → Performs state command a → Performs state command b → a ≡ b }

@@ -8,8 +8,9 @@ use rows_core::{Memory, Row, Schema, Text};
 use script_text::{LimitKind, Refusal};
 use std::alloc::Global;
 
-/// The rows that the lines spell, one each: `Row` with the number, from 1, of the first line that spells no row of the
-/// schema's kinds with texts of any length, and else `Limit(Text)` where a text is above 1,000 bytes.
+/// The rows that the lines spell, one each: `Row` with the number, from 1, of the first line that spells no
+/// row of the schema's kinds with texts of any length, and else `Limit(Text)` where a text is above 1,000
+/// bytes.
 pub(crate) fn read_rows(alloc: Global, lines: &[Text], schema: &Schema) -> Result<Vec<Row>, Refusal>
     ensures rows { IfOk result (λ rows. Spell (kinds_of schema.now) lines.now rows.items) }
     ensures short { IfOk result (λ rows. IsTrue (not (have_long rows.items))) }

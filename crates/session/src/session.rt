@@ -1,5 +1,6 @@
 //! The session: what the commands of a script make and fill, and what they are answered.
-ghost use Rattle.std.specs.Prelude.{◌≡◌, ◌⊎◌, ℕ, ◌<◌, ◌-◌, ◌^◌, min, not, false, IsTrue, List, All, length, slice_index_or, IfSome};
+ghost use Rattle.std.specs.Prelude.{◌≡◌, ◌⊎◌, ℕ, ◌<◌, ◌-◌, ◌^◌, min, not, false, IsTrue, List, All, length};
+ghost use Rattle.std.specs.Prelude.{slice_index_or, IfSome};
 ghost use Rattle.script_text.specs.Answer.{IsShort, answer_lines};
 ghost use Rattle.script_text.specs.Script.{IsWhole};
 ghost use Rattle.script_text.specs.declared.answer.Refusal.{Refusal};
@@ -24,7 +25,8 @@ const MAX_EXTENTS: usize = 65_535;
 /// The most extents of all streams together.
 const MAX_ALL_EXTENTS: usize = 262_144;
 
-/// What the commands of a script have made and filled. It lives in memory. Contracts see it as the machine's state.
+/// What the commands of a script have made and filled. It lives in memory. Contracts see it as the machine's
+/// state.
 #[derive(Drop)]
 pub struct Session {
     streams: Vec<StreamRows>,
@@ -58,7 +60,8 @@ impl Session {
         // Each line of the answer has room in the longest line of an answer.
         ensures short { All IsShort (answer_lines false result.1) }
 
-        // Each refusal but want of memory comes exactly where its condition holds, unless memory is wanted first.
+        // Each refusal but want of memory comes exactly where its condition holds, unless memory is wanted
+        // first.
         ensures cause { (why : Refusal) → result.1 ≡ Answer.Refused why
             → IsRefusedFor self command why ⊎ (why ≡ Refusal.Memory) }
         ensures exactly { (why : Refusal) → IsRefusedFor self command why
@@ -97,7 +100,8 @@ fn answer_is_short(answer: &Answer)
 // Makes a stream.
 fn make(streams: &mut Vec<StreamRows>, alloc: Global, name: Name, columns: Seq<Column>) -> Answer
     requires { 0 < length columns }
-    ensures { Step (state_of streams.old.items) (Command.Stream name columns) result (state_of streams.new.items) }
+    ensures { Step (state_of streams.old.items) (Command.Stream name columns) result
+        (state_of streams.new.items) }
 {
     if place_of(streams, &name).is_some() {
         return Answer::Refused(Refusal::Exists(name));
@@ -112,7 +116,8 @@ fn make(streams: &mut Vec<StreamRows>, alloc: Global, name: Name, columns: Seq<C
 
 // Puts a stream behind the others.
 fn add_stream(streams: &mut Vec<StreamRows>, alloc: Global, name: Name, schema: Schema) -> Answer
-    ensures { IsGiven (state_of streams.old.items) (added (state_of streams.old.items) name schema) result (state_of streams.new.items) }
+    ensures { IsGiven (state_of streams.old.items) (added (state_of streams.old.items) name schema) result
+        (state_of streams.new.items) }
 {
     if streams.len() >= MAX_STREAMS {
         return Answer::Refused(Refusal::Limit(LimitKind::Streams));
@@ -125,7 +130,8 @@ fn add_stream(streams: &mut Vec<StreamRows>, alloc: Global, name: Name, schema: 
 
 // Appends the rows that these lines spell.
 fn append(streams: &mut Vec<StreamRows>, alloc: Global, name: Name, lines: Seq<Text>) -> Answer
-    ensures { Step (state_of streams.old.items) (Command.Append name lines) result (state_of streams.new.items) }
+    ensures { Step (state_of streams.old.items) (Command.Append name lines) result
+        (state_of streams.new.items) }
 {
     let Some(place) = place_of(streams, &name) else {
         return Answer::Refused(Refusal::Unknown(name));
@@ -142,7 +148,9 @@ fn add_rows(streams: &mut Vec<StreamRows>, alloc: Global, place: usize, rows: Ve
     requires short { IsTrue (not (have_long rows.items)) }
     ensures { (name : List ℕ) (stream : Stream) → place_of streams.old.items name ≡ Some place
         → let there = slice_index_or streams.old.items place stream in
-        IsGiven (state_of streams.old.items) (appended (state_of streams.old.items) name there (Rows rows.items)) result (state_of streams.new.items) }
+        IsGiven (state_of streams.old.items)
+        (appended (state_of streams.old.items) name there (Rows rows.items)) result
+        (state_of streams.new.items) }
 {
     if streams[place].extent_count() >= MAX_EXTENTS {
         return Answer::Refused(Refusal::Limit(LimitKind::Extents));

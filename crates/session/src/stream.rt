@@ -7,8 +7,8 @@ use std::alloc::Global;
 use std::marker::Model;
 use std::mem;
 
-/// A stream with its rows: its name, its columns, and the extents in the order of appending. Contracts see it as plain
-/// data.
+/// A stream with its rows: its name, its columns, and the extents in the order of appending. Contracts see it
+/// as plain data.
 #[derive(Drop)]
 pub struct StreamRows {
     name: Name,
@@ -59,8 +59,8 @@ impl StreamRows {
         self.extents.items().len()
     }
 
-    /// Puts these rows behind the older ones, as an extent of their own, and gives the number of rows that the stream
-    /// then holds. After want of memory it is as before; a number above u64 is want of memory too.
+    /// Puts these rows behind the older ones, as an extent of their own, and gives the number of rows that
+    /// the stream then holds. After want of memory it is as before; a number above u64 is want of memory too.
     pub fn grow(&mut self, alloc: Global, rows: Vec<Row>) -> Result<u64, Memory>
         ensures stream { IfOk result (λ held. self.new ≡ grown self.old rows.items) }
         ensures held { IfOk result (λ held. held ≡ row_count (grown self.old rows.items)) }

@@ -24,7 +24,7 @@ loop-preserved g c = record {
   within = omega (arith, c.loop.invariant.within, c.in-Ok.ensures.bound, length-take c.min-room.result c.loop.piece);
   turns = omega (arith, c.loop.invariant.turns, c.in-Ok.count-test.1);
   serving = λ start new.
-    let at = c.loop.invariant.serving start new in
-    let next = c.in-Ok.ensures.ok start at.0 _ at.2 in
-    (at.0 ++ next.0, omega (arith, at.1, next.1, length-append at.0 next.0), next.2);
+      let at = c.loop.invariant.serving start new in
+      let next = c.in-Ok.ensures.ok start at.0 _ at.2 in
+      (at.0 ++ next.0, omega (arith, at.1, next.1, length-append at.0 next.0), next.2);
 }

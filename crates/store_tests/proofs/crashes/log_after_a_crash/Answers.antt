@@ -1,4 +1,6 @@
-use Rattle.std.proofs.Common.{[], ◌∷◌, refl, sym, ◌∙◌}
+use Rattle.std.proofs.Common.{[], ◌∷◌, List, ℕ, length, slice_index_or, refl, sym, ◌∙◌, subst}
+use Rattle.mem_outside.specs.Shown.{Shown}
+use Rattle.mem_outside.specs.Outcomes.{Outcome, state_in}
 use Rattle.store_tests.proofs.Commits.{left_of_run, outcome_of_committed, bodies_left, is_log_left, same_error}
 use Rattle.store_tests.proofs.crashes.log_after_a_crash.Goals as goal
 
@@ -13,8 +15,15 @@ returns-in-Ok-read-clause-committed c ok =
     (outcome_of_committed c.commit.result _ _ c.args.file (c.args.body.now ∷ []) _ c.in-Ok.ensures.file (sym c.is_ok-committed.ensures.value ∙ ok)
     c.commit.ensures.file (c.commit.ensures.committed refl [] (c.in-Ok.ensures.made refl)) (c.in-Ok-image.ensures.image c.args.file))
 
-pub returns-clause-is_log : goal.returns-clause-is_log
-returns-clause-is_log c at is =
+pub returns-in-Err-read-clause-is_log : goal.returns-in-Err-read-clause-is_log
+returns-in-Err-read-clause-is_log c at is =
     is_log_left c.one_reading.ensures.not_both c.args.body.now _ at
     (left_of_run _ _ _ _ _ _ c.in-Ok.ensures.file (c.commit.ensures.crash refl [] (c.in-Ok.ensures.made refl)) c.in-Ok-image.ensures.image)
     (c.in-Err-read.ensures.not_log refl at (same_error c.in-Err-read.refusal _ is))
+
+pub returns-in-Ok-read-clause-image : goal.returns-in-Ok-read-clause-image
+returns-in-Ok-read-clause-image c = λ file.
+    let past = c.commit.new.store.past.items in
+    let current : List Shown = c.commit.new.store.current.items in
+    subst (λ (x : List ℕ). Outcome (state_in (slice_index_or past (length past) current) file) x)
+    (sym (c.read.ensures.narrows.same file)) (c.in-Ok-image.ensures.image file)

@@ -1,0 +1,46 @@
+//! Cases of the extent files, the log, and the store, source and sink in memory: a case a line on standard
+//! input, and on standard output a line for each, what it gives. A case is the word of its subject and then
+//! its arguments, words with a space between them, bytes in hex and `-` for none. A line that is empty or
+//! begins with `#` is no case.
+#![tactic(auto)]
+
+mod files;
+mod logs;
+mod streams;
+mod words;
+
+use anyhow::{Context, Result};
+use std::alloc::Global;
+use std::io;
+
+fn main(rt: HostRuntime) -> io::Result<()> {
+    let alloc = rt.alloc();
+    for line in rt.lines(alloc) {
+        let line = line?;
+        if line.is_empty() || line.starts_with('#') {
+            continue;
+        }
+        match answer(alloc, line.as_str()) {
+            Ok(answer) => println!(rt; "{answer}")?,
+            Err(refusal) => println!(rt; "{refusal}")?,
+        }
+    }
+    Ok(())
+}
+
+/// What the case gives; a refusal is the error that its type prints.
+fn answer(alloc: Global, case: &str) -> Result<String> {
+    let (subject, arguments) = case.split_once(' ').unwrap_or((case, ""));
+    match subject {
+        "committed" => logs::committed(alloc, arguments),
+        "reading" => logs::reading(alloc, arguments),
+        "stop" => logs::stop(alloc, arguments),
+        "digest" => files::digest(alloc, arguments),
+        "front" => files::front(alloc, arguments),
+        "dropped" => files::dropped(alloc, arguments),
+        "write" => files::write(alloc, arguments),
+        "source" => streams::source(alloc, arguments),
+        "sink" => streams::sink(alloc, arguments),
+        _ => None.context("no such subject"),
+    }
+}
