@@ -1,0 +1,17 @@
+-- The laws of the reading, at these bytes.
+use Rattle.std.proofs.Common.{arith}
+use Rattle.plan_spelling.proofs.Told.{found, only, place, last}
+use Rattle.plan_spelling.proofs.reading.unspell.Goals as goal
+
+pub returns-clause-found : goal.returns-clause-found
+returns-clause-found c = found c.args.bytes.now c.read.result (λ i. omega (arith, c.type_inv.bytes i)) c.read.ensures
+
+pub returns-clause-only : goal.returns-clause-only
+returns-clause-only c = λ plan fits deep e. only c.args.bytes.now c.read.result plan fits deep e c.read.ensures
+
+pub returns-clause-place : goal.returns-clause-place
+returns-clause-place c = place c.args.bytes.now c.read.result (λ i. omega (arith, c.type_inv.bytes i)) c.read.ensures
+
+pub returns-clause-last : goal.returns-clause-last
+returns-clause-last c =
+    last c.args.bytes.now c.read.result (λ i. omega (arith, c.type_inv.bytes i)) (place c.args.bytes.now c.read.result (λ i. omega (arith, c.type_inv.bytes i)) c.read.ensures)
