@@ -10,12 +10,15 @@ use std::alloc::Global;
 
 /// The plan with numbers, or why there is none.
 pub fn bind(alloc: Global, text: &[u8]) -> Result<String> {
-    let plan = match parse_plan(alloc, text) {
-        Ok(plan) => plan,
-        Err(refusal) => return refused(alloc, refusal),
-    };
-    match bound(alloc, &plan)? {
-        Ok(bound) => Ok(format!(in alloc; "{bound:?}")?),
+    match parse_plan(alloc, text) {
+        Ok(plan) => answered(alloc, bound(alloc, &plan)?),
+        Err(refusal) => refused(alloc, refusal),
+    }
+}
+
+fn answered(alloc: Global, answer: Result<Plan, BindRefusal>) -> Result<String> {
+    match answer {
+        Ok(plan) => shown(alloc, &plan),
         Err(BindRefusal::Unknown(name)) => {
             let name = std::str::from_utf8(name.bytes())?;
             Ok(format!(in alloc; "unknown {name}")?)
@@ -25,9 +28,30 @@ pub fn bind(alloc: Global, text: &[u8]) -> Result<String> {
     }
 }
 
+/// The numbers of a join of two streams by one pair of columns, which is the one plan that the cases bind.
+fn shown(alloc: Global, plan: &Plan) -> Result<String> {
+    let Plan::Join { left, right, on } = plan else {
+        return Ok(String::from_str(alloc, "another plan")?);
+    };
+    match (stream_of(left), stream_of(right), on.items()) {
+        (Some(left), Some(right), [(first, second)]) => {
+            Ok(format!(in alloc; "join {left} {right} on {first} = {second}")?)
+        }
+        _ => Ok(String::from_str(alloc, "another plan")?),
+    }
+}
+
+fn stream_of(plan: &Plan) -> Option<u32> {
+    match plan {
+        Plan::Scan { stream } => Some(*stream),
+        _ => None,
+    }
+}
+
 /// Whether the plan with numbers has a typing.
 pub fn typing(alloc: Global, text: &[u8]) -> Result<String> {
-    let bound = bound(alloc, &parse_plan(alloc, text)?)??;
+    let plan = parse_plan(alloc, text)?;
+    let bound = bound(alloc, &plan)??;
     let answer = match type_plan(alloc, bound, &kinds(alloc)?) {
         Ok(_) => "typed",
         Err(PlanRefusal::IllTyped) => "ill typed",

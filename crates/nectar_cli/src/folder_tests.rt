@@ -3,7 +3,6 @@
 use crate::folder_store::FolderStore;
 use outside_traits::Store;
 use std::path::PathBuf;
-use std::process::Command;
 use std::test::Fail;
 use std::{env, fs, process};
 
@@ -96,17 +95,27 @@ fn listed_files_are_those_that_were_made_and_not_removed(rt: HostRuntime) -> Res
     Ok(())
 }
 
+// Names of files that are no file's of the store.
+const FOREIGN_NAMES: [&str; 8] = [
+    "05.nxt",
+    "+6.nxt",
+    "6.nxt.txt",
+    "7",
+    "nxt",
+    ".nxt",
+    "18446744073709551616.nxt",
+    "8\u{ff}.nxt",
+];
+
 #[test]
 fn foreign_names_are_no_files(rt: HostRuntime) -> Result<(), Fail> {
     let top = fresh_folder(&rt, "foreign")?;
     let mut store = FolderStore::new(&rt);
     store.attach(top.as_str())?;
-    let script =
-        "cd \"$1\" && mkdir 5.nxt && touch 05.nxt +6.nxt 6.nxt.txt 7 nxt .nxt 18446744073709551616.nxt \
-        \"$(printf '\\377').nxt\" \"8$(printf '\\377').nxt\"";
-    let mut shell = Command::new(rt.alloc(), "sh")?;
-    shell.args(["-c", script, "sh", top.as_str()])?;
-    assert!(rt; shell.status(&rt)?.success());
+    fs::create_dir(&rt, top.join(rt.alloc(), "5.nxt")?.as_str())?;
+    for name in FOREIGN_NAMES {
+        fs::write(&rt, top.join(rt.alloc(), name)?.as_str(), b"x")?;
+    }
     assert_eq!(rt; store.next_file(0)?, None);
     store.write(9, 0, b"x")?;
     assert_eq!(rt; store.next_file(0)?, Some(9));

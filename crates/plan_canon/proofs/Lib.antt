@@ -1,0 +1,11 @@
+pub mod Reached
+pub mod NormalExprs
+pub mod NormalPlans
+pub mod SameValues
+pub mod TestLaws
+pub mod Fused
+pub mod NormalTyping
+pub mod NormalMeaning
+pub mod Depth
+pub mod Later
+pub mod NormalParts
