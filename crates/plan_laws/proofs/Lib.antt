@@ -1,6 +1,8 @@
 pub mod Answers
 pub mod FirstOfEqual
+pub mod Growing
 pub mod Insertion
+pub mod JoinedRows
 pub mod KeptBounds
 pub mod KeptParts
 pub mod KeptRows
