@@ -1,10 +1,13 @@
 pub mod Answers
 pub mod FirstOfEqual
+pub mod Growing
 pub mod Insertion
+pub mod JoinedRows
 pub mod KeptBounds
 pub mod KeptParts
 pub mod KeptRows
 pub mod Members
+pub mod Merging
 pub mod StableLists
 pub mod TypedOperators
 pub mod TypedPlans

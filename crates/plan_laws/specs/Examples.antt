@@ -1,5 +1,5 @@
 -- Worked kept forms and shapes: the definitions compute them.
-use Rattle.std.specs.Prelude.{◌≡◌, refl, pos, List, [], ◌∷◌, Ok, codes}
+use Rattle.std.specs.Prelude.{◌≡◌, refl, ℕ, pos, List, [], ◌∷◌, Ok, codes}
 use Rattle.rows_core.specs.declared.value.Value.TheVariants.{Int, Text}
 use Rattle.rows_core.specs.declared.kind.Kind.TheVariants as kind
 use Rattle.row_blob.specs.declared.kept.Acc.TheVariants as acc
@@ -10,6 +10,7 @@ use Rattle.plan_core.specs.declared.agg.Agg.TheVariants.{Count, Sum, Max, Avg}
 use Rattle.plan_core.specs.Columns.{Rows}
 use Rattle.plan_core.specs.PlainPlan.{Scan, Distinct, Group, Join}
 use Rattle.plan_core.specs.PlanTyping.{Kinds}
+use Rattle.plan_laws.specs.GrowthOfRows.{new_rows}
 use Rattle.plan_laws.specs.KeptForm.{kept_form}
 use Rattle.plan_laws.specs.PlanShape.{plan_shape}
 
@@ -40,6 +41,16 @@ pub kept_join :
     ∷ record { left = 0; row = Int (pos 1) ∷ Int (pos 1) ∷ Int (pos 11) ∷ [] }
     ∷ record { left = 2; row = Int (pos 2) ∷ Int (pos 2) ∷ Int (pos 20) ∷ [] } ∷ []))
 kept_join = refl
+
+-- ---- rows behind others
+
+abbrev column : List ℕ → Rows
+column [] = []
+column (n ∷ ns) = (Int (pos n) ∷ []) ∷ column ns
+
+-- 2 was there, and 3 stands twice
+pub only_new : new_rows (column (1 ∷ 2 ∷ [])) (column (2 ∷ 3 ∷ 4 ∷ 3 ∷ [])) ≡ column (3 ∷ 4 ∷ [])
+only_new = refl
 
 -- ---- shapes
 
