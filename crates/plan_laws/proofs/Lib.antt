@@ -1,10 +1,14 @@
 pub mod Answers
 pub mod FirstOfEqual
+pub mod GroupBounds
 pub mod Insertion
+pub mod JoinedAccumulators
+pub mod JoinedKeys
 pub mod KeptBounds
 pub mod KeptParts
 pub mod KeptRows
 pub mod Members
+pub mod MergedGroups
 pub mod StableLists
 pub mod TypedOperators
 pub mod TypedPlans
