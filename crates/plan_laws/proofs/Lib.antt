@@ -3,11 +3,16 @@ pub mod FirstOfEqual
 pub mod Growing
 pub mod Insertion
 pub mod JoinedRows
+pub mod GroupBounds
+pub mod Insertion
+pub mod JoinedAccumulators
+pub mod JoinedKeys
 pub mod KeptBounds
 pub mod KeptParts
 pub mod KeptRows
 pub mod Members
 pub mod Merging
+pub mod MergedGroups
 pub mod StableLists
 pub mod TypedOperators
 pub mod TypedPlans
