@@ -6,6 +6,7 @@ pub mod KeptParts
 pub mod KeptRows
 pub mod Members
 pub mod StableLists
+pub mod TaggedMerge
 pub mod TypedOperators
 pub mod TypedPlans
 pub mod ValidPlans

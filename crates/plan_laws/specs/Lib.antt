@@ -1,4 +1,5 @@
 pub mod Examples
+pub mod GrowthOfJoins
 pub mod KeptForm
 pub mod PlanShape
 pub mod ValidRows
