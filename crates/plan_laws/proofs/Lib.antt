@@ -5,6 +5,7 @@ pub mod KeptBounds
 pub mod KeptParts
 pub mod KeptRows
 pub mod Members
+pub mod Merging
 pub mod StableLists
 pub mod TaggedMerge
 pub mod TypedOperators
