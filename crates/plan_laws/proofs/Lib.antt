@@ -9,6 +9,7 @@ pub mod Merging
 pub mod StableLists
 pub mod TaggedMerge
 pub mod TypedOperators
+pub mod TypedParts
 pub mod TypedPlans
 pub mod ValidPlans
 pub mod ValidValues

@@ -1,5 +1,5 @@
 -- The rows of a join whose lists have grown: how they come from the rows that are kept and from those that are new.
-use Rattle.std.specs.Prelude.{ℕ, Bool, List, ◌++◌, nat_le, nat_lt, IsPermutation}
+use Rattle.std.specs.Prelude.{ℕ, ◌<◌, ◌≤◌, Bool, List, ◌++◌, nat_le, nat_lt, All, IsPermutation}
 use Rattle.std.specs.List.Sorted.{IsSortedBy, IsStableBy}
 use Rattle.itertools.specs.List.{merge_by}
 use Rattle.row_blob.specs.declared.kept.TaggedRow.{TaggedRow}
@@ -22,3 +22,7 @@ pub record IsMergedByPosition (old new merged : List TaggedRow) : Type 0 where
 -- the one list that is so: of the two rows in front the earlier one, and the old one where neither is earlier
 abbrev pub merge_by_position : List TaggedRow → List TaggedRow → List TaggedRow
 merge_by_position = merge_by (λ old new. nat_le old.left new.left)
+
+-- each position is at least `low` and below `high`
+abbrev pub ArePositionsWithin : ℕ → ℕ → List TaggedRow → Type 0
+ArePositionsWithin low high = All (λ tagged. (low ≤ tagged.left) × (tagged.left < high))

@@ -12,7 +12,7 @@ pub mod valid;
 
 pub use distinct::first_of_equal_rows;
 pub use groups::keys_of_groups;
-pub use growth_of_joins::joins_of_longer_lists;
+pub use growth_of_joins::{joins_ascend_by_position, joins_of_longer_lists, one_merge_by_position};
 pub use kept::{kept_forms_have_their_shape, rows_of_kept_forms};
 pub use order::one_stable_order;
 pub use typed::typed_plans_give_typed_rows;
