@@ -39,7 +39,7 @@ group_kept keys aggs rows key =
 pub groups_kept : (keys : List ℕ) (aggs : List Agg) (rows : Rows) → rows_of_kept (kept.Groups (map (kept_group keys aggs rows) (keys_of keys rows))) ≡ group_rows keys aggs rows
 groups_kept keys aggs rows = ap all_of (one_by_one (kept_group keys aggs rows) row_of_group (group_row keys aggs rows) (group_kept keys aggs rows) (keys_of keys rows))
 
-join_kept : (position : ℕ) (on : List (ℕ × ℕ)) (lefts rights : Rows) → map (λ tagged. tagged.row) (tagged_from position on lefts rights) ≡ join_rows on lefts rights
+pub join_kept : (position : ℕ) (on : List (ℕ × ℕ)) (lefts rights : Rows) → map (λ tagged. tagged.row) (tagged_from position on lefts rights) ≡ join_rows on lefts rights
 join_kept position on [] rights = refl
 join_kept position on (left ∷ lefts) rights =
     let agree = filter (rows_agree on left) rights in

@@ -14,7 +14,9 @@ pub mod Members
 pub mod Merging
 pub mod MergedGroups
 pub mod StableLists
+pub mod TaggedMerge
 pub mod TypedOperators
+pub mod TypedParts
 pub mod TypedPlans
 pub mod ValidPlans
 pub mod ValidValues
