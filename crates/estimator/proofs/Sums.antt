@@ -1,12 +1,10 @@
 -- The bytes of leaves, and of intervals that grow.
-use Rattle.std.proofs.Common.{◌≡◌, ℕ, zero, suc, ◌+◌, ◌-◌, ◌*◌, ◌^◌, ◌≤◌, ◌<◌, min, List, [], ◌∷◌, ◌++◌, length, drop, take, get_or, refl, arith, rules, ap, ◌∙◌, sym, add-one, length-append, length-take, length-drop, get_or-drop, subst}
+use Rattle.std.proofs.Common.{◌≡◌, ℕ, zero, suc, ◌+◌, ◌-◌, ◌^◌, ◌≤◌, ◌<◌, min, List, [], ◌∷◌, ◌++◌, length, drop, take, get_or, refl, arith, ap, ◌∙◌, length-append, length-drop, get_or-drop}
 use Rattle.std.specs.List.{sum, slice_range}
 use Rattle.std.specs.Prelude.{None, slice_get}
 use Rattle.std.proofs.lemmas.Grind.{common_steps}
-use Rattle.rows_core.specs.declared.cut.Cut.{Cut}
-use Rattle.plan_core.specs.PlainPlan.{PlainPlan, leaves, leaf_count}
 use Rattle.estimator.specs.Cuts.{Cuts, EndAtOrBefore, added_cuts}
-use Rattle.estimator.specs.Bytes.{Lengths, lengths_at, interval_bytes, leaf_bytes, whole_bytes, new_bytes, AreInStreams, IsCutOf}
+use Rattle.estimator.specs.Bytes.{Lengths, leaf_bytes, AreInStreams}
 use Rattle.estimator.specs.Bytes.{capped}
 
 pub capped-sum : (a b : ℕ) → min (capped a + capped b) (2 ^ 64 - 1) ≡ capped (a + b)
@@ -33,6 +31,9 @@ streams_length l [] [] h = refl
 streams_length l [] (cut ∷ cuts) h = absurd h
 streams_length l (x ∷ xs) [] h = absurd h
 streams_length l (x ∷ xs) (cut ∷ cuts) h = ap suc (streams_length l xs cuts h.2)
+
+pub left_leaves : (l : Lengths) (xs ys : List ℕ) (cuts : Cuts) → AreInStreams l (xs ++ ys) cuts → length xs ≤ length cuts
+left_leaves l xs ys cuts h = omega (arith, streams_length l (xs ++ ys) cuts h, length-append xs ys)
 
 pub added_take : (n : ℕ) (olds news : Cuts) → added_cuts (take n olds) (take n news) ≡ take n (added_cuts olds news)
 added_take zero olds news = refl
@@ -83,3 +84,5 @@ added_within l (x ∷ xs) (o ∷ olds) [] old new grows = absurd new
 added_within l (x ∷ xs) (o ∷ olds) (n ∷ news) old new grows = (grows.0, new.1, added_within l xs olds news old.2 new.2 grows.1)
 
 pub ruleset of_sides = (capped-sum, bytes_of_sides, streams_left, streams_right, streams_length)
+
+pub ruleset of_split = (added_length, added_take, added_drop)

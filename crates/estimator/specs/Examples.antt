@@ -1,6 +1,5 @@
 -- Worked sums: the definitions compute them.
 use Rattle.std.specs.Prelude.{◌≡◌, refl, ◌^◌, ◌-◌, [], ◌∷◌}
-use Rattle.rows_core.specs.declared.cut.Cut.{Cut}
 use Rattle.plan_core.specs.PlainPlan.{Scan, Distinct, Join}
 use Rattle.estimator.specs.Bytes.{Lengths, whole_bytes, new_bytes, capped}
 

@@ -17,8 +17,8 @@ pub fn whole_bytes<Z: Sizes>(plan: &Plan, cuts: &[Cut], sizes: &Z) -> u64
     bytes_in(plan, Intervals::Whole(cuts), sizes)
 }
 
-/// The bytes of the extents that the plan's leaves have at the new cut behind the old one, each leaf by itself,
-/// cut at the greatest u64.
+/// The bytes of the extents that the plan's leaves have at the new cut behind the old one, each leaf by
+/// itself, cut at the greatest u64.
 #[tactic(auto, using(crate::proofs::Sums::added_within))]
 pub fn new_bytes<Z: Sizes>(plan: &Plan, old: &[Cut], new: &[Cut], sizes: &Z) -> u64
     requires old { IsCutOf (Z.lengths sizes.now) (plan_of plan.now) old.now }
@@ -49,7 +49,7 @@ impl<'a> Intervals<'a> {
     }
 
     // The first ones, and those behind them.
-    #[tactic(auto, using(crate::proofs::Sums::added_length, crate::proofs::Sums::added_take, crate::proofs::Sums::added_drop))]
+    #[tactic(auto, using(crate::proofs::Sums::of_split))]
     fn split_at(self, count: usize) -> (Intervals<'a>, Intervals<'a>)
         requires { count ≤ length (cuts_of self) }
         ensures front { cuts_of result.0 ≡ take count (cuts_of self.entry) }
@@ -78,17 +78,21 @@ impl<'a> Intervals<'a> {
 
     // Those of the leaves of a left input, and those of the right one.
     #[tactic(auto, using(crate::proofs::Sums::of_sides))]
-    fn sides<Z: Sizes>(self, left: &Plan, right: &Plan, sizes: &Z) -> (Intervals<'a>, Intervals<'a>)
-        requires { AreInStreams (Z.lengths sizes.now) (leaves (plan_of left.now) ++ leaves (plan_of right.now))
-            (cuts_of self) }
-        ensures lefts { IsCutOf (Z.lengths sizes.now) (plan_of left.now) (cuts_of result.0) }
-        ensures rights { IsCutOf (Z.lengths sizes.now) (plan_of right.now) (cuts_of result.1) }
-        ensures bytes { leaf_bytes (Z.lengths sizes.now)
-            (leaves (plan_of left.now) ++ leaves (plan_of right.now)) (cuts_of self.entry)
-            ≡ whole_bytes (Z.lengths sizes.now) (plan_of left.now) (cuts_of result.0)
-            + whole_bytes (Z.lengths sizes.now) (plan_of right.now) (cuts_of result.1) }
+    fn sides<Z: Sizes>(
+        self,
+        left: &Plan,
+        _right: &Plan,
+        _sizes: &Z,
+    ) -> (Intervals<'a>, Intervals<'a>)
+        requires { AreInStreams (Z.lengths _sizes.now)
+            (leaves (plan_of left.now) ++ leaves (plan_of _right.now)) (cuts_of self) }
+        ensures lefts { IsCutOf (Z.lengths _sizes.now) (plan_of left.now) (cuts_of result.0) }
+        ensures rights { IsCutOf (Z.lengths _sizes.now) (plan_of _right.now) (cuts_of result.1) }
+        ensures bytes { leaf_bytes (Z.lengths _sizes.now)
+            (leaves (plan_of left.now) ++ leaves (plan_of _right.now)) (cuts_of self.entry)
+            ≡ whole_bytes (Z.lengths _sizes.now) (plan_of left.now) (cuts_of result.0)
+            + whole_bytes (Z.lengths _sizes.now) (plan_of _right.now) (cuts_of result.1) }
     {
-        let _ = (right, sizes);
         self.split_at(leaf_count(left, self.len()))
     }
 

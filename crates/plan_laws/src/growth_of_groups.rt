@@ -38,7 +38,8 @@ pub fn groups_are_within_bounds()
 /// rows more, beside those that its input takes in more.
 pub fn rows_that_groups_take_in()
     ensures { (child : PlainPlan) (keys : List ℕ) (aggs : List Agg) (old new : List Rows)
-        (rows further : Rows) (added : ℕ) → plan_meaning child old ≡ Ok rows → plan_meaning child new ≡ Ok (rows ++ further)
+        (rows further : Rows) (added : ℕ) → plan_meaning child old ≡ Ok rows
+        → plan_meaning child new ≡ Ok (rows ++ further)
         → rows_taken_in child new ≡ rows_taken_in child old + added
         → rows_taken_in (Group child keys aggs) new
         ≡ rows_taken_in (Group child keys aggs) old + (length further + added) }

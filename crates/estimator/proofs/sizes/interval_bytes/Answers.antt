@@ -1,4 +1,4 @@
-use Rattle.std.proofs.Common.{◌≡◌, ◌≤◌, ◌<◌, length, arith, rules}
+use Rattle.std.proofs.Common.{◌≤◌, ◌<◌, length, arith}
 use Rattle.estimator.specs.Bytes.{lengths_at}
 use Rattle.estimator.proofs.Sums.{sum_range_more}
 use Rattle.estimator.proofs.sizes.interval_bytes.Goals as goal
