@@ -162,6 +162,15 @@ fn leaf_bytes<Z: Sizes>(stream: u32, intervals: Intervals, sizes: &Z) -> u64
     }
 }
 
+/// The intervals of a left input's leaves, and those behind them.
+pub fn sides<'a>(left: &Plan, cuts: &'a [Cut]) -> (&'a [Cut], &'a [Cut])
+    requires { leaf_count (plan_of left.now) ≤ length cuts.now }
+    ensures lefts { result.0.now ≡ take (leaf_count (plan_of left.now)) cuts.now }
+    ensures rights { result.1.now ≡ drop (leaf_count (plan_of left.now)) cuts.now }
+{
+    cuts.split_at(leaf_count(left, cuts.len()))
+}
+
 // The number of the plan's leaves, which is at most this.
 fn leaf_count(plan: &Plan, most: usize) -> usize
     requires { leaf_count (plan_of plan.now) ≤ most }

@@ -5,5 +5,5 @@
 pub mod bytes;
 pub mod sizes;
 
-pub use bytes::{new_bytes, whole_bytes};
+pub use bytes::{new_bytes, sides, whole_bytes};
 pub use sizes::Sizes;
