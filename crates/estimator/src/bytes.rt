@@ -127,7 +127,8 @@ fn first_added(old: &[Cut], new: &[Cut]) -> Option<Cut>
 #[tactic(auto, using(crate::proofs::Sums::of_sides))]
 fn bytes_in<Z: Sizes>(plan: &Plan, intervals: Intervals, sizes: &Z) -> u64
     requires { IsCutOf (Z.lengths sizes.now) (plan_of plan.now) (cuts_of intervals) }
-    ensures { result ≡ capped (whole_bytes (Z.lengths sizes.now) (plan_of plan.now) (cuts_of intervals.entry)) }
+    ensures { result
+        ≡ capped (whole_bytes (Z.lengths sizes.now) (plan_of plan.now) (cuts_of intervals.entry)) }
 {
     match plan {
         Plan::Scan { stream } => leaf_bytes(*stream, intervals, sizes),

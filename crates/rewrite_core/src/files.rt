@@ -3,7 +3,8 @@ ghost use Rattle.std.specs.Prelude.{◌≡◌, ℕ, length, [], ◌∷◌, ◌++
 ghost use Rattle.estimator.specs.Bytes.{capped};
 ghost use Rattle.plan_core.specs.PlainPlan.{PlainPlan, plan_of, Scan};
 ghost use Rattle.estimator.specs.Cuts.{Cuts};
-ghost use Rattle.rewrite_core.specs.Files.{AreIdsOf, files_of, delta_files, scan_files, new_files, ids_in, way_files};
+ghost use Rattle.rewrite_core.specs.Files.{AreIdsOf, files_of, delta_files};
+ghost use Rattle.rewrite_core.specs.Files.{scan_files, new_files, ids_in, way_files};
 ghost use Rattle.rewrite_core.specs.PlainRewriting.{rewriting_of, delta_of, grown_way};
 
 use crate::rewriting::{Delta, DeltaWay, Hit, Parts, Rewriting, Way};
@@ -12,8 +13,8 @@ use rows_core::{Cut, Memory};
 use std::alloc::Global;
 
 impl Rewriting {
-    /// The number of files that it names, each as often as it names it, cut at the greatest u64. So many files
-    /// are read for it.
+    /// The number of files that it names, each as often as it names it, cut at the greatest u64. So many
+    /// files are read for it.
     #[cycle(count)]
     pub fn files(&self) -> u64
         ensures { result ≡ capped (length (files_of (rewriting_of self.now))) }
