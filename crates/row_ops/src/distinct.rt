@@ -45,7 +45,11 @@ fn rows_of_set(alloc: Global, set: IndexSet<Row>) -> Result<Vec<Row>, Memory>
 }
 
 // Those of the rows that the set has, lent.
-fn found_in<'a>(alloc: Global, set: &IndexSet<Row>, rows: &'a [Row]) -> Result<IndexSet<&'a Row>, Memory>
+fn found_in<'a>(
+    alloc: Global,
+    set: &IndexSet<Row>,
+    rows: &'a [Row],
+) -> Result<IndexSet<&'a Row>, Memory>
     ensures { IfOk result (λ found. (row : Row) → has_row set.now.keys row ≡ true
         → list_any (λ key. row_eq row key.now) found.keys ≡ has_row rows.now row) }
 {

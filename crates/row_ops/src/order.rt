@@ -44,6 +44,8 @@ fn merge_rows(alloc: Global, old: Vec<Row>, new: Vec<Row>, keys: &[Key]) -> Resu
     ensures { IfOk result (λ merged.
         merged.items ≡ merge_by (λ x y. is_le (row_cmp keys.now x y)) old.items new.items) }
 {
-    let merged = old.into_iter().merge_by(new, |a, b| cmp_by(a, b, keys).is_le());
+    let merged = old
+        .into_iter()
+        .merge_by(new, |a, b| cmp_by(a, b, keys).is_le());
     Ok(merged.collect(alloc)?)
 }

@@ -1,4 +1,4 @@
-use Rattle.std.proofs.Common.{◌≡◌, ◌∙◌, ap, not, subst}
+use Rattle.std.proofs.Common.{◌∙◌, ap, not, subst}
 use Rattle.std.specs.List.{filter}
 use Rattle.plan_core.specs.Columns.{Rows}
 use Rattle.row_ops.proofs.Sets.{LendsThoseOf, if_ok_then, left_new, lends}

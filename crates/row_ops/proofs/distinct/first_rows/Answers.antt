@@ -1,7 +1,7 @@
-use Rattle.std.proofs.Common.{Ok, [], ap, map-id, sym, ◌∙◌, List}
+use Rattle.std.proofs.Common.{Ok, [], ap, map-id, sym, ◌∙◌}
 use Rattle.std.proofs.lemmas.Iterator.Adapters.{YieldsList-from_vec, fact_from_extend}
 use Rattle.indexmap.specs.IndexSet.{insert_all}
-use Rattle.plan_core.specs.Columns.{Row, Rows}
+use Rattle.plan_core.specs.Columns.{Rows}
 use Rattle.row_ops.proofs.Sets.{derived_eq, set_of_rows}
 use Rattle.row_ops.proofs.distinct.first_rows.Goals as goal
 

@@ -1,4 +1,4 @@
-use Rattle.std.proofs.Common.{ap, refl, rules, sym, ◌∙◌}
+use Rattle.std.proofs.Common.{ap, refl, rules, ◌∙◌}
 use Rattle.row_ops.proofs.Sets.{lent_next, passed_next}
 use Rattle.row_ops.proofs.distinct.found_in.Goals as goal
 use Rattle.row_ops.proofs.distinct.found_in.Goals.{then-contains+in_ok-insert, else-contains}

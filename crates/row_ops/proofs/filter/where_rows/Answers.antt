@@ -1,8 +1,6 @@
 use Rattle.std.proofs.Common.{Ok, ap, map, ◌∙◌}
-use Rattle.std.specs.Vec.Iter.{into_iter_items}
 use Rattle.rows_core.specs.Value.{kind_of}
 use Rattle.plan_core.specs.ExpressionKind.{IsTyped}
-use Rattle.plan_core.specs.Filter.{filter_rows}
 use Rattle.plan_core.specs.PlainExpr.{expr_of}
 use Rattle.row_ops.proofs.Tests.{given_failed, given_passed, left_rest, typed_rest}
 use Rattle.row_ops.proofs.filter.where_rows.Goals as goal
