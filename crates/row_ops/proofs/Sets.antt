@@ -69,7 +69,7 @@ same = same_by row_eq
 abbrev pub derived_same : Bor Row → Bor Row → Bool
 derived_same = same_by derived_eq
 
-pub lends_one_more : (keys : List (Bor Row)) (key : Bor Row) (row : Row) → lends (insert_key same keys key) row ≡ (lends keys row || row_eq row key.now)
+lends_one_more : (keys : List (Bor Row)) (key : Bor Row) (row : Row) → lends (insert_key same keys key) row ≡ (lends keys row || row_eq row key.now)
 lends_one_more keys key row = by (list_any (same key) keys) refl
   where
     there : list_any (same key) keys ≡ true → (b : Bool) → row_eq row key.now ≡ b → lends keys row ≡ (lends keys row || b)
