@@ -27,7 +27,7 @@ value_kept rows (agg.Last c) = refl
 value_kept rows (agg.Avg c) = refl
 
 -- what f gives of what g gives is what h gives, one by one
-one_by_one : {X Y Z : Type 0} (g : X → Y) (f : Y → Z) (h : X → Z) → ((x : X) → f (g x) ≡ h x) → (xs : List X) → map f (map g xs) ≡ map h xs
+pub one_by_one : {X Y Z : Type 0} (g : X → Y) (f : Y → Z) (h : X → Z) → ((x : X) → f (g x) ≡ h x) → (xs : List X) → map f (map g xs) ≡ map h xs
 one_by_one g f h same [] = refl
 one_by_one g f h same (x ∷ xs) = ap (λ z. z ∷ map f (map g xs)) (same x) ∙ ap (λ l. h x ∷ l) (one_by_one g f h same xs)
 

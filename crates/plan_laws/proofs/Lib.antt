@@ -1,10 +1,16 @@
 pub mod Answers
 pub mod FirstOfEqual
+pub mod GroupBounds
+pub mod Growing
 pub mod Insertion
+pub mod JoinedAccumulators
+pub mod JoinedKeys
+pub mod JoinedRows
 pub mod KeptBounds
 pub mod KeptParts
 pub mod KeptRows
 pub mod Members
+pub mod MergedGroups
 pub mod Merging
 pub mod StableLists
 pub mod TaggedMerge
