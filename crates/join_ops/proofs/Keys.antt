@@ -1,16 +1,14 @@
 -- Keys of lent values, and the rows under them.
-use Rattle.std.proofs.Common.{◌≡◌, refl, sym, ap, ◌∙◌, ℕ, ◌+◌, ◌<◌, Bool, true, false, cond, ◌&&◌, List, [], ◌∷◌, ◌++◌, map, length, get_or, take, drop, None, Some, append-nil, append_assoc, arith, Vec}
+use Rattle.std.proofs.Common.{◌≡◌, refl, sym, ap, ◌∙◌, ℕ, ◌+◌, ◌<◌, Bool, true, false, cond, ◌&&◌, List, [], ◌∷◌, ◌++◌, map, length, get_or, take, drop, None, Some, append-nil, append_assoc, arith}
 use Rattle.std.specs.Bool.{Decides}
 use Rattle.std.specs.Borrow.{Bor}
 use Rattle.std.specs.Cmp.Derive.Mapped.{pointwise-map}
-use Rattle.std.specs.Cmp.Lexicographic.{pointwise}
-use Rattle.std.specs.List.{filter, list_all}
+use Rattle.std.specs.List.{filter}
 use Rattle.std.specs.Option.{option_map_or}
 use Rattle.std.proofs.lemmas.List.{take_more, at_drop_more, map-append}
 use Rattle.std.proofs.lemmas.List.Elements.{filter-append}
 use Rattle.row_blob.specs.declared.kept.TaggedRow.{TaggedRow}
 use Rattle.indexmap.specs.IndexMap.{IndexMap, get}
-use Rattle.rows_core.specs.declared.value.Value.{Value}
 use Rattle.rows_core.specs.contracts.value.ValuePartialEq.TheImpl as derived
 use Rattle.rows_core.specs.Equality.{row_eq-Decides, value_eq-Decides, same_row-Decides}
 use Rattle.rows_core.specs.Value.{row_eq, value_eq}

@@ -61,7 +61,10 @@ fn join_row(
 {
     for right in rights {
         let row = joined_row(alloc, left, right)?;
-        joined.push(TaggedRow { left: position, row })?;
+        joined.push(TaggedRow {
+            left: position,
+            row,
+        })?;
     }
     Ok(())
 }
