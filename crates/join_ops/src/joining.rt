@@ -61,10 +61,11 @@ fn join_row(
 {
     for right in rights {
         let row = joined_row(alloc, left, right)?;
-        joined.push(TaggedRow {
+        let tagged = TaggedRow {
             left: position,
             row,
-        })?;
+        };
+        joined.push(tagged)?;
     }
     Ok(())
 }
