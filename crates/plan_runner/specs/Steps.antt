@@ -2,7 +2,7 @@
 use Rattle.std.specs.Prelude.{◌≡◌, ℕ, ◌+◌, ◌<◌, ◌≤◌, List, length, Result, Ok, Err}
 use Rattle.rows_core.specs.declared.overflow.Overflow.{Overflow}
 use Rattle.scalar_ops.specs.Meaning.{overflow}
-use Rattle.plan_core.specs.Columns.{Row, Rows}
+use Rattle.plan_core.specs.Columns.{Rows}
 use Rattle.plan_core.specs.PlainPlan.{PlainPlan}
 use Rattle.plan_core.specs.PlanMeaning.{plan_meaning}
 use Rattle.plan_core.specs.MachineTime.{rows_taken_in}

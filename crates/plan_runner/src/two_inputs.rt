@@ -10,7 +10,8 @@ use row_blob::TaggedRow;
 use rows_core::{Memory, Row};
 use std::alloc::Global;
 
-/// Each left row followed by each right row that agrees with it. The left rows are counted as taken in already.
+/// Each left row followed by each right row that agrees with it. The left rows are counted as taken in
+/// already.
 pub fn join_step<'a>(
     alloc: Global,
     lefts: &Input,
@@ -51,7 +52,11 @@ fn rows_of_tagged(alloc: Global, joined: Vec<TaggedRow>) -> Result<Vec<Row>, Mem
 }
 
 /// The left rows, and then the right ones. The left rows are counted as taken in already.
-pub fn concat_step<'a>(alloc: Global, lefts: Input, rights: Step<'a>) -> Result<Step<'a>, RunRefusal>
+pub fn concat_step<'a>(
+    alloc: Global,
+    lefts: Input,
+    rights: Step<'a>,
+) -> Result<Step<'a>, RunRefusal>
     ensures { TakesIn rights.entry.taken (rows_in rights.entry.rows)
         (Ok (rows_in lefts.entry ++ rows_in rights.entry.rows)) result }
 {
