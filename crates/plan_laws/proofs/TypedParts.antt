@@ -15,7 +15,7 @@ use Rattle.plan_core.specs.PlainPlan.{PlainPlan, Filter, Project, Join, Concat, 
 use Rattle.plan_core.specs.PlanMeaning.{plan_meaning}
 use Rattle.plan_core.specs.PlanTyping.{Kinds, plan_kinds, all_there, column_kind, is_truth, is_empty, filter_kinds, project_kinds, join_kinds, concat_kinds}
 use Rattle.plan_core.specs.TypedRows.{HaveKinds, AreOfStreams}
-use Rattle.plan_evaluator.specs.Evaluation.{IsTypedOn}
+use Rattle.plan_laws.specs.TypedOn.{IsTypedOn}
 use Rattle.plan_laws.proofs.Answers.{both_some, tested, otherwise, there_front}
 use Rattle.plan_laws.proofs.TypedPlans.{and_then, lists_of_parts}
 
