@@ -22,8 +22,8 @@ pub fn longest_spelling()
         length row ≤ 32 → length (row_spelling row) ≤ 64095 }
 {}
 
-/// A row of at most 32 values that a program holds has a spelling of at most 64,095 bytes. It reads the values,
-/// and does nothing else.
+/// A row of at most 32 values that a program holds has a spelling of at most 64,095 bytes. It reads the
+/// values, and does nothing else.
 pub fn row_is_short(row: &Row)
     requires { length row.now ≤ 32 }
     ensures { length (row_spelling row.now) ≤ 64095 }
