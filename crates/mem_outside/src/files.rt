@@ -206,7 +206,8 @@ pub(crate) fn next_from(files: &[FileState], from: u64) -> Option<u64>
     next
 }
 
-// The lesser of the file's number, where it is there and at or above `from`, and the one that was found so far.
+// The lesser of the file's number, where it is there and at or above `from`, and the one that was found so
+// far.
 fn nearer(state: &FileState, from: u64, next: Option<u64>) -> Option<u64>
     ensures found { IfSome result (λ n. (next ≡ Some n)
         ⊎ ((n ≡ state.now.number) × (from ≤ n) × (state.now.there ≡ true))) }

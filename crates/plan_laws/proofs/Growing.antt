@@ -1,8 +1,10 @@
 -- What a plan of one input gives and takes in on longer lists, where its input grows.
-use Rattle.std.proofs.Common.{◌≡◌, sym, ap, ◌∙◌, ℕ, ◌+◌, List, ◌++◌, length, Ok, arith, length-append}
+use Rattle.std.proofs.Common.{◌≡◌, sym, ap, ◌∙◌, ℕ, ◌+◌, List, ◌++◌, length, Ok, arith, length-append, Result, Err, refl}
 use Rattle.std.specs.Cmp.{IsTotalOrder}
 use Rattle.rows_core.specs.declared.order.Key.{Key}
+use Rattle.rows_core.specs.declared.overflow.Overflow.{Overflow}
 use Rattle.rows_core.specs.RowOrder.{row_cmp}
+use Rattle.scalar_ops.specs.Meaning.{overflow}
 use Rattle.plan_core.specs.Columns.{Rows}
 use Rattle.plan_core.specs.Distinct.{distinct_rows}
 use Rattle.plan_core.specs.ExpressionValue.{◌>>=◌}
@@ -15,6 +17,10 @@ use Rattle.plan_core.specs.Project.{project_rows}
 use Rattle.plan_core.specs.StableOrder.{order_rows}
 use Rattle.plan_laws.specs.GrowthOfRows.{Grows, joined, new_rows}
 use Rattle.plan_laws.proofs.JoinedRows.{distinct_joined, filter_joined, new_to_distinct, order_joined, project_joined}
+
+with_overflow : (rows : Result Rows Overflow) → joined rows (Err overflow) ≡ Err overflow
+with_overflow (Ok rows) = refl
+with_overflow (Err e) = refl
 
 module _ (child : PlainPlan) (before after : List Rows) (old new : Rows) (more : ℕ) (grows : Grows child before after old new more) where
   -- an operator over the child takes in the child's new rows beside what the child takes in
@@ -34,6 +40,10 @@ module _ (child : PlainPlan) (before after : List Rows) (old new : Rows) (more :
     takes_in = takes_in_new;
   }
 
+  pub filter_fails : (test : PlainExpr) → filter_rows test new ≡ Err overflow → plan_meaning (Filter child test) after ≡ Err overflow
+  filter_fails test over =
+      ap (λ r. r >>= filter_rows test) grows.gives ∙ filter_joined test old new ∙ ap (joined (filter_rows test old)) over ∙ with_overflow (filter_rows test old)
+
   pub project_grows : (columns : List PlainExpr) (kept more_kept : Rows) → project_rows columns old ≡ Ok kept → project_rows columns new ≡ Ok more_kept
       → Grows (Project child columns) before after kept more_kept (length new + more)
   project_grows columns kept more_kept on_old on_new = record {
@@ -41,6 +51,10 @@ module _ (child : PlainPlan) (before after : List Rows) (old new : Rows) (more :
     gives = ap (λ r. r >>= project_rows columns) grows.gives ∙ project_joined columns old new ∙ ap (λ r. joined r (project_rows columns new)) on_old ∙ ap (λ r. joined (Ok kept) r) on_new;
     takes_in = takes_in_new;
   }
+
+  pub project_fails : (columns : List PlainExpr) → project_rows columns new ≡ Err overflow → plan_meaning (Project child columns) after ≡ Err overflow
+  project_fails columns over =
+      ap (λ r. r >>= project_rows columns) grows.gives ∙ project_joined columns old new ∙ ap (joined (project_rows columns old)) over ∙ with_overflow (project_rows columns old)
 
   pub distinct_grows : Grows (Distinct child) before after (distinct_rows old) (new_rows (distinct_rows old) new) (length new + more)
   distinct_grows = record {

@@ -6,10 +6,10 @@ ghost use Rattle.plan_laws.specs.GrowthOfJoins.{AscendsByPosition, ArePositionsW
 ghost use Rattle.plan_laws.specs.GrowthOfJoins.{merge_by_position};
 ghost use Rattle.plan_laws.specs.KeptForm.{tagged_from};
 
-/// The rows of a join whose left list has grown are those that were there and then those of the new left rows,
-/// counted on. Where the right list has grown, they are the merge by position of those that were there and those
-/// with the new right rows. Where both have grown, the left rows that were there come first, with the longer
-/// right list.
+/// The rows of a join whose left list has grown are those that were there and then those of the new left
+/// rows, counted on. Where the right list has grown, they are the merge by position of those that were there
+/// and those with the new right rows. Where both have grown, the left rows that were there come first, with
+/// the longer right list.
 pub fn joins_of_longer_lists()
     ensures left { (first : ℕ) (on : List (ℕ × ℕ)) (lefts more rights : Rows)
         → tagged_from first on (lefts ++ more) rights
@@ -23,8 +23,8 @@ pub fn joins_of_longer_lists()
         ++ tagged_from (first + length lefts) on more_lefts (rights ++ more_rights) }
 {}
 
-/// The rows of a join ascend by the positions of their left rows, which are counted from the first one's to the
-/// last one's.
+/// The rows of a join ascend by the positions of their left rows, which are counted from the first one's to
+/// the last one's.
 pub fn joins_ascend_by_position()
     ensures ascends { (first : ℕ) (on : List (ℕ × ℕ)) (lefts rights : Rows)
         → AscendsByPosition (tagged_from first on lefts rights) }

@@ -4,6 +4,7 @@ ghost use Rattle.std.specs.Ordering.{is_le};
 ghost use Rattle.itertools.specs.List.{merge_by};
 ghost use Rattle.rows_core.specs.declared.order.Key.{Key};
 ghost use Rattle.rows_core.specs.RowOrder.{row_cmp};
+ghost use Rattle.scalar_ops.specs.Meaning.{overflow};
 ghost use Rattle.plan_core.specs.Columns.{Rows};
 ghost use Rattle.plan_core.specs.Distinct.{distinct_rows};
 ghost use Rattle.plan_core.specs.Filter.{filter_rows};
@@ -47,17 +48,25 @@ pub fn order_of_joined_lists()
 }
 
 /// Where the input of a plan grows by new rows behind the old ones, the plan takes in these beside what its
-/// input takes in. A filter, a projection and a distinct grow by what their operator gives of the new rows;
+/// input takes in. A filter, a projection and a distinct grow by what their operator gives of the new rows,
+/// and are an overflow where it is one;
 /// an order is that of its old result and the ordered new rows.
 pub fn growth_of_one_input()
     ensures filter { (child : PlainPlan) (before after : List Rows) (old new : Rows) (more : ℕ)
         (test : PlainExpr) (kept more_kept : Rows) → Grows child before after old new more →
         filter_rows test old ≡ Ok kept → filter_rows test new ≡ Ok more_kept →
         Grows (Filter child test) before after kept more_kept (length new + more) }
+    ensures filter_overflow { (child : PlainPlan) (before after : List Rows) (old new : Rows) (more : ℕ)
+        (test : PlainExpr) → Grows child before after old new more →
+        filter_rows test new ≡ Err overflow → plan_meaning (Filter child test) after ≡ Err overflow }
     ensures project { (child : PlainPlan) (before after : List Rows) (old new : Rows) (more : ℕ)
         (columns : List PlainExpr) (kept more_kept : Rows) → Grows child before after old new more →
         project_rows columns old ≡ Ok kept → project_rows columns new ≡ Ok more_kept →
         Grows (Project child columns) before after kept more_kept (length new + more) }
+    ensures project_overflow { (child : PlainPlan) (before after : List Rows) (old new : Rows) (more : ℕ)
+        (columns : List PlainExpr) → Grows child before after old new more →
+        project_rows columns new ≡ Err overflow →
+        plan_meaning (Project child columns) after ≡ Err overflow }
     ensures distinct { (child : PlainPlan) (before after : List Rows) (old new : Rows) (more : ℕ) →
         Grows child before after old new more → Grows (Distinct child) before after
         (distinct_rows old) (new_rows (distinct_rows old) new) (length new + more) }

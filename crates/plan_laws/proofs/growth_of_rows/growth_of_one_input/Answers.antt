@@ -1,4 +1,4 @@
-use Rattle.plan_laws.proofs.Growing.{filter_grows, project_grows, distinct_grows, order_gives, takes_in_new}
+use Rattle.plan_laws.proofs.Growing.{filter_fails, project_fails, filter_grows, project_grows, distinct_grows, order_gives, takes_in_new}
 use Rattle.plan_laws.proofs.growth_of_rows.growth_of_one_input.Goals as goal
 
 pub returns-clause-filter : goal.returns-clause-filter
@@ -15,3 +15,9 @@ returns-clause-order c = λ child before after old new more keys grows. order_gi
 
 pub returns-clause-order_takes_in : goal.returns-clause-order_takes_in
 returns-clause-order_takes_in c = λ child before after old new more keys grows. takes_in_new child before after old new more grows
+
+pub returns-clause-filter_overflow : goal.returns-clause-filter_overflow
+returns-clause-filter_overflow c = λ child before after old new more test grows. filter_fails child before after old new more grows test
+
+pub returns-clause-project_overflow : goal.returns-clause-project_overflow
+returns-clause-project_overflow c = λ child before after old new more columns grows. project_fails child before after old new more grows columns
