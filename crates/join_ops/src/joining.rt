@@ -10,8 +10,8 @@ use rows_core::{Memory, Row, Value};
 use std::alloc::Global;
 
 /// Each left row followed by each right row that agrees with it, in the order of the left rows and, for each,
-/// of the right ones, with the position of the left row: `Join` of LINQ to Objects. Positions are counted from
-/// `first`, and none passes u64. It costs its lists and its result, and not their product.
+/// of the right ones, with the position of the left row: `Join` of LINQ to Objects. Positions are counted
+/// from `first`, and none passes u64. It costs its lists and its result, and not their product.
 pub fn join_tagged(
     alloc: Global,
     left: &[Row],

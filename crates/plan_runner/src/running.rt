@@ -17,8 +17,8 @@ use std::alloc::Global;
 
 /// The rows of a plan, given the extents of the stream of each of its leaves, from the left. The plan has a
 /// typing over some streams, and the extents have rows of these streams. `Overflow` comes only where the
-/// plan's meaning is an overflow, and `Machine` only where its machine time is above 4,294,967,295; where both
-/// hold, the first that is met in the course of the work is answered.
+/// plan's meaning is an overflow, and `Machine` only where its machine time is above 4,294,967,295; where
+/// both hold, the first that is met in the course of the work is answered.
 pub fn run(alloc: Global, plan: &Plan, lists: &[&[Seq<Row>]]) -> Result<Vec<Row>, RunRefusal>
     requires { IsTypedOn (plan_of plan.now) (lists_of lists.now) }
     ensures { IsAnswer (plan_of plan.now) (lists_of lists.now) result }
