@@ -1,7 +1,7 @@
 -- The grammar of plans over tokens. What is spelled stands between two places: the tokens from `from` on, up to those of
 -- `rest`. At most `n` levels of nesting may be open within it: each parenthesis, `not` and `-` before an operand is one.
 use Prim.Native.Nat.{suc}
-use Rattle.std.specs.Prelude.{◌≡◌, ℕ, ◌<◌, ◌≤◌, Bool, if◌then◌else◌, List, [], ◌∷◌, ◌++◌, Option, None, Some, codes, ℤ, pos, neg_ℤ, FitsSigned}
+use Rattle.std.specs.Prelude.{◌≡◌, ℕ, ◌<◌, ◌≤◌, Bool, if◌then◌else◌, List, [], ◌∷◌, ◌++◌, Some, codes, ℤ, pos, neg_ℤ, FitsSigned}
 use Rattle.std.specs.Int.{w64}
 use Rattle.scalar_ops.specs.declared.cell.Cell.TheVariants as cell
 use Rattle.scalar_ops.specs.declared.table.Op.{Op}

@@ -8,12 +8,19 @@ use scalar_ops::Op;
 
 /// The rules of expressions, by how loosely they bind.
 pub const ATOM: u8 = 0;
+
 pub const SIGNED: u8 = 1;
+
 pub const PRODUCT: u8 = 2;
+
 pub const SUM: u8 = 3;
+
 pub const COMPARISON: u8 = 4;
+
 pub const NEGATION: u8 = 5;
+
 pub const CONJUNCTION: u8 = 6;
+
 pub const EXPRESSION: u8 = 7;
 
 /// What stands between two operands, as a value of its own.
