@@ -18,15 +18,12 @@ use Rattle.plan_grammar.specs.declared.token.Word as the_word
 use Rattle.plan_grammar.specs.declared.token.Word.TheVariants as word
 use Rattle.plan_grammar.specs.declared.plan.NamedAgg.{NamedAgg}
 use Rattle.plan_grammar.specs.declared.plan.NamedAgg.TheVariants as agg
-use Rattle.plan_grammar.specs.declared.plan.NamedResult.{NamedResult}
-use Rattle.plan_grammar.specs.declared.plan.NamedPair.{NamedPair}
-use Rattle.plan_grammar.specs.declared.plan.NamedKey.{NamedKey}
 use Rattle.plan_grammar.specs.Token.{word_with, greatest_number, name_or_number, number_with, word_or, word_token, before, word_len, word_at, mark_at, text_behind, text_at, mark_token, token_at, IsToken, trimmed, AreTokens}
-use Rattle.plan_grammar.specs.PlainNamed.{PlainExpr, Column, Literal, Call1, Call2, And, Or, If, PlainColumn, PlainTree, From, Where, Select, Distinct, Group, Join, Concat, Order}
+use Rattle.plan_grammar.specs.PlainNamed.{PlainExpr, PlainTree}
 use Rattle.plan_grammar.specs.Grammar as g
 use Rattle.plan_grammar.specs.declared.operator.Operator as the_operator
 use Rattle.plan_grammar.specs.declared.operator.Operator.TheVariants as operator
-use Rattle.plan_grammar.specs.Operators.{Rule, UN, NOT, E, joined}
+use Rattle.plan_grammar.specs.Operators.{Rule, UN, NOT, E}
 use Rattle.plan_grammar.specs.Grammar.{Spells, Listed, SpellsName, SpellsColumn, SpellsPair, SpellsKey, SpellsResult, SpellsPlan, agg_word}
 use Rattle.plan_grammar.specs.Spelled.{SpellsExpr, SpellsText}
 use Rattle.plan_printer.specs.Canonical.{Piece, Space, One, spelling, text_of, piece_bytes, Form, Between, Function, NoForm, form_of, rule_of, in_parens, within, behind_comma, literal, between, function, call1, binary, bare, canonical_expr, listed, name_piece, named, column_pieces, pair_pieces, key_pieces, argument_pieces, result_pieces, stage, canonical, canonical_text}
@@ -280,9 +277,11 @@ reads_expr (g.choice {c = c} {a = a} {b = b} s t u) all =
     let third = canonical_expr E b in
     let v = reads_expr s all.1.1 in
     let w = reads_expr t v.1.1 in
-    let x = reads_expr u w.1.1 in
-    (reads_function word.If (first ++ (behind_comma second ++ behind_comma third))
-    (reads_append first (behind_comma second ++ behind_comma third) (reads_canonical E c v.0) (λ rest e. refl) (reads_append (behind_comma second) (behind_comma third) (reads_behind_comma second (reads_canonical E a w.0)) (λ rest e. refl) (reads_behind_comma third (reads_canonical E b x.0)))), x.1.1)
+    let x = reads_expr u w.1.1 in (
+      reads_function word.If (first ++ (behind_comma second ++ behind_comma third))
+          (reads_append first (behind_comma second ++ behind_comma third) (reads_canonical E c v.0) (λ rest e. refl) (reads_append (behind_comma second) (behind_comma third) (reads_behind_comma second (reads_canonical E a w.0)) (λ rest e. refl) (reads_behind_comma third (reads_canonical E b x.0)))),
+      x.1.1,
+    )
 
 -- an item that is spelled by the tokens of a text
 abbrev ReadsItem : {A : Type 0} → (A → List Token → List Token → Type 0) → (A → List Piece) → Type 0
@@ -334,9 +333,11 @@ reads_result : (n : ℕ) → ReadsItem (SpellsResult n) result_pieces
 reads_result n result from rest s all =
     let a : AllFromText (Name result.name ∷ Mark mark.Equal ∷ Name (agg_word result.agg) ∷ Mark mark.Open ∷ (g.agg_argument result.agg ++ Mark mark.Close ∷ rest)) = subst AllFromText s.1 all in
     let b = reads_argument result.agg rest a.1.1.1.1 in
-    let argument = in_parens (argument_pieces result.agg) in
-    (reads_named result.name (One (Name (agg_word result.agg)) ∷ argument) a.0
-    (reads_token (Name (agg_word result.agg)) (agg_name result.agg) argument (λ rest e. refl) (reads_in_parens (argument_pieces result.agg) b.0)), b.1)
+    let argument = in_parens (argument_pieces result.agg) in (
+      reads_named result.name (One (Name (agg_word result.agg)) ∷ argument) a.0
+          (reads_token (Name (agg_word result.agg)) (agg_name result.agg) argument (λ rest e. refl) (reads_in_parens (argument_pieces result.agg) b.0)),
+      b.1,
+    )
 
 reads_plan : {n : ℕ} {p : PlainTree} {from rest : List Token} → SpellsPlan n p from rest → AllFromText from → Reads (canonical p) × AllFromText rest
 reads_plan (g.stream {name = name}) all = (reads_word word.From (name_piece name) (reads_name name all.1.0), all.1.1)
@@ -352,15 +353,19 @@ reads_plan (g.distinct {p = p} s) all = let a = reads_plan s all in (reads_betwe
 reads_plan (g.group {n = n} {p = p} {keys = keys} {results = results} {mid = mid} {rest = rest} next s l r) all =
     let a = reads_plan s all in
     let b = reads_items SpellsName name_piece reads_name_item keys mid (Word word.With ∷ next) l a.1.1.1 in
-    let c = reads_items (SpellsResult n) result_pieces (reads_result n) results next rest r b.1.1 in
-    (reads_stage (canonical p) (between (listed name_piece keys) (Word word.With) (listed result_pieces results)) word.Group a.0
-    (reads_between (listed name_piece keys) (listed result_pieces results) (Word word.With) tt b.0 c.0), c.1)
+    let c = reads_items (SpellsResult n) result_pieces (reads_result n) results next rest r b.1.1 in (
+      reads_stage (canonical p) (between (listed name_piece keys) (Word word.With) (listed result_pieces results)) word.Group a.0
+          (reads_between (listed name_piece keys) (listed result_pieces results) (Word word.With) tt b.0 c.0),
+      c.1,
+    )
 reads_plan (g.join {p = p} {q = q} {on = on} {next = next} {rest = rest} s t l) all =
     let a = reads_plan s all in
     let b = reads_plan t a.1.1.1.1 in
-    let c = reads_items SpellsPair pair_pieces reads_pair on next rest l b.1.1.1 in
-    (reads_stage (canonical p) (between (in_parens (canonical q)) (Word word.On) (listed pair_pieces on)) word.Join a.0
-    (reads_between (in_parens (canonical q)) (listed pair_pieces on) (Word word.On) tt (reads_in_parens (canonical q) b.0) c.0), c.1)
+    let c = reads_items SpellsPair pair_pieces reads_pair on next rest l b.1.1.1 in (
+      reads_stage (canonical p) (between (in_parens (canonical q)) (Word word.On) (listed pair_pieces on)) word.Join a.0
+          (reads_between (in_parens (canonical q)) (listed pair_pieces on) (Word word.On) tt (reads_in_parens (canonical q) b.0) c.0),
+      c.1,
+    )
 reads_plan (g.concat {p = p} {q = q} s t) all =
     let a = reads_plan s all in
     let b = reads_plan t a.1.1.1.1 in

@@ -1,6 +1,6 @@
 -- The canonical text of an expression and of a plan, which is the one that is printed.
 use Prim.Native.Nat.{suc}
-use Rattle.std.specs.Prelude.{◌≡◌, ℕ, nat_le, if◌then◌else◌, List, [], ◌∷◌, ◌++◌, codes, pos, negsuc, decimal}
+use Rattle.std.specs.Prelude.{◌≡◌, ℕ, nat_le, if◌then◌else◌, List, [], ◌∷◌, ◌++◌, pos, negsuc, decimal}
 use Rattle.std.specs.List.{flat_map}
 use Rattle.scalar_ops.specs.declared.cell.Cell.{Cell}
 use Rattle.scalar_ops.specs.declared.cell.Cell.TheVariants as cell
@@ -8,7 +8,6 @@ use Rattle.scalar_ops.specs.declared.table.Op.{Op}
 use Rattle.scalar_ops.specs.declared.table.Op.TheVariants as op
 use Rattle.plan_grammar.specs.declared.token.Token.{Token}
 use Rattle.plan_grammar.specs.declared.token.Token.TheVariants.{Name, Word, Number, Text, Mark}
-use Rattle.plan_grammar.specs.declared.token.Mark as the_mark
 use Rattle.plan_grammar.specs.declared.token.Mark.TheVariants as mark
 use Rattle.plan_grammar.specs.declared.token.Word as the_word
 use Rattle.plan_grammar.specs.declared.token.Word.TheVariants as word

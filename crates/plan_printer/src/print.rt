@@ -13,7 +13,8 @@ use crate::expr_printer::{put, put_expr, put_spaced};
 use crate::part_printer::put_parts;
 use crate::print_laws::canonical_spells;
 use plan_grammar::{
-    EXPRESSION, NamedColumn, NamedExpr, NamedKey, NamedPair, NamedPlan, NamedResult, NamedTree, Word,
+    EXPRESSION, NamedColumn, NamedExpr, NamedKey, NamedPair, NamedPlan, NamedResult, NamedTree,
+    Word,
 };
 use rows_core::{Memory, Name};
 use std::alloc::Global;
