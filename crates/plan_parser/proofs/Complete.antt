@@ -20,9 +20,9 @@ use Rattle.plan_grammar.specs.Operators.{Rule, ATOM, UN, NOT, E, joined, infix_o
 use Rattle.plan_grammar.specs.Grammar as g
 use Rattle.plan_grammar.specs.Grammar.{Spells}
 use Rattle.plan_grammar.proofs.OperatorLaws.{Fits, infix_fits}
-use Rattle.plan_parser.specs.Draft.{PlainDraft, draft_of, with2, with3}
+use Rattle.plan_parser.specs.Draft.{draft_of, with2, with3}
 use Rattle.plan_parser.specs.declared.parser.Terminal.TheVariants.{Comma, Close}
-use Rattle.plan_parser.specs.Reader.{ReadOf, ReaderOf, and_then, terminal_at, up_to}
+use Rattle.plan_parser.specs.Reader.{ReadOf, and_then, terminal_at, up_to}
 use Rattle.plan_parser.specs.Reading.{Readers, Operand, argument, last_argument, operated, call1_at, call2_at, choice_at, word_atom, atom_at, spelled_by, first_step, first_at, operator_step, operator_at, joined_onto, operand_onto, operands_at, below, rule_at, kept_one, inner}
 use Rattle.plan_parser.proofs.DraftLemmas.{with1-draft, with2-draft, with3-draft}
 use Rattle.plan_parser.proofs.RepeatLemmas.{Repeats, Repeats-first, Repeats-next, Repeats-end}

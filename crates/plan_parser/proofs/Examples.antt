@@ -1,7 +1,6 @@
 -- Worked examples of the grammar.
 use Rattle.std.proofs.Common.{◌≡◌, refl, Some, ℕ, List, [], ◌∷◌, codes, true, false, arith}
 use Rattle.scalar_ops.specs.declared.table.Op.TheVariants as op
-use Rattle.plan_grammar.specs.declared.token.Token.{Token}
 use Rattle.plan_grammar.specs.declared.token.Token.TheVariants.{Name, Word, Number, Mark}
 use Rattle.plan_grammar.specs.declared.token.Mark.TheVariants as mark
 use Rattle.plan_grammar.specs.declared.token.Word.TheVariants as word

@@ -5,9 +5,6 @@ use Rattle.plan_grammar.specs.declared.token.Token.{Token}
 use Rattle.plan_grammar.specs.declared.token.Token.TheVariants.{Name, Word, Mark}
 use Rattle.plan_grammar.specs.declared.token.Mark.TheVariants as mark
 use Rattle.plan_grammar.specs.declared.token.Word.TheVariants as word
-use Rattle.plan_grammar.specs.declared.plan.NamedResult.{NamedResult}
-use Rattle.plan_grammar.specs.declared.plan.NamedPair.{NamedPair}
-use Rattle.plan_grammar.specs.declared.plan.NamedKey.{NamedKey}
 use Rattle.plan_parser.specs.declared.plan_draft.Counts.{Counts}
 use Rattle.plan_grammar.specs.PlainNamed.{PlainTree, From, Where, Select, Distinct, Group, Join, Concat, Order}
 use Rattle.plan_grammar.specs.Grammar as g
@@ -16,10 +13,10 @@ use Rattle.plan_parser.specs.Reading.{expr_at, inner}
 use Rattle.plan_parser.specs.PlanDraft.{PlanDraft, ColumnsDraft, with_column, columns_draft_of, plan_draft_of, from_draft, where_draft, select_draft, distinct_draft, group_draft, join_draft, concat_draft, order_draft}
 use Rattle.plan_parser.specs.declared.parser.Terminal.TheVariants.{Bar, Close, On, Open, With}
 use Rattle.plan_parser.specs.Reader.{ReadOf, and_then, terminal_at, up_to, all_repeated}
-use Rattle.plan_parser.specs.PlanReading.{PlanReader, list_at, at_end, name_at, names_at, column_at, columns_at, pair_at, pairs_at, key_at, keys_at, result_at, results_at, inner_plan_at, where_at, select_at, group_at, join_at, concat_at, order_at, stage_at, from_at, plan_with, inner_plan, plan_at}
+use Rattle.plan_parser.specs.PlanReading.{PlanReader, list_at, names_at, column_at, columns_at, pairs_at, keys_at, results_at, inner_plan_at, where_at, select_at, group_at, join_at, concat_at, order_at, stage_at, from_at, plan_with, inner_plan, plan_at}
 use Rattle.plan_grammar.proofs.TokenLemmas.{both}
 use Rattle.plan_parser.proofs.Sound.{read_is_spelled}
-use Rattle.plan_parser.proofs.PlanDraftLemmas.{no_columns_kept, one_column_more, where_kept, select_kept, distinct_kept, group_kept, join_kept, concat_kept, order_kept}
+use Rattle.plan_parser.proofs.PlanDraftLemmas.{no_columns_kept, where_kept, select_kept, distinct_kept, group_kept, join_kept, concat_kept, order_kept}
 use Rattle.plan_parser.proofs.PlanItems.{names_listed, pairs_listed, keys_listed, results_listed, columns_listed}
 use Rattle.plan_parser.proofs.RepeatLemmas.{then_some, repeated_keeps}
 use Rattle.plan_parser.proofs.ReadingLemmas.{terminal_some, up_to_some}

@@ -9,7 +9,7 @@ use Rattle.plan_grammar.specs.declared.token.Word.TheVariants as word
 use Rattle.plan_grammar.specs.Operators.{Rule}
 use Rattle.plan_parser.specs.declared.parser.Terminal.{Terminal}
 use Rattle.plan_parser.specs.declared.parser.Terminal.TheVariants.{Comma, Open, Close, Bar, With, On}
-use Rattle.plan_parser.specs.Reader.{ReadOf, ReaderOf, and_then, terminal_at, up_to}
+use Rattle.plan_parser.specs.Reader.{ReadOf, and_then, terminal_at, up_to}
 use Rattle.plan_parser.specs.Reading.{Reader, Readers, read_by, below, rule_at, inner}
 use Rattle.plan_grammar.proofs.TokenLemmas.{both}
 use Rattle.plan_parser.proofs.RepeatLemmas.{then_some}

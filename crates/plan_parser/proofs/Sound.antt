@@ -21,7 +21,7 @@ use Rattle.plan_grammar.specs.Grammar.{Spells}
 use Rattle.plan_parser.specs.Draft.{PlainDraft, draft_of, with1, with2, with3}
 use Rattle.plan_parser.specs.declared.parser.Terminal.TheVariants.{Comma, Open, Close}
 use Rattle.plan_parser.specs.Reader.{ReadOf, and_then, terminal_at, all_repeated}
-use Rattle.plan_parser.specs.Reading.{Reader, Readers, Operand, argument, last_argument, operated, call1_at, call2_at, choice_at, function_at, word_atom, mark_atom, number_atom, minus_atom, atom_at, spelled_by, prefixed_at, first_step, first_at, operator_step, operator_at, joined_onto, operand_onto, operands_at, read_by, below, rule_at, kept_one, inner}
+use Rattle.plan_parser.specs.Reading.{Reader, Readers, Operand, argument, last_argument, operated, call1_at, call2_at, choice_at, function_at, word_atom, mark_atom, number_atom, minus_atom, atom_at, spelled_by, first_step, first_at, operator_step, operator_at, joined_onto, operand_onto, operands_at, read_by, below, rule_at, kept_one, inner}
 use Rattle.plan_parser.proofs.DraftLemmas.{with1-draft, with2-draft, with3-draft}
 use Rattle.plan_grammar.proofs.TokenLemmas.{both}
 use Rattle.plan_parser.proofs.RepeatLemmas.{then_some, repeated_keeps}
