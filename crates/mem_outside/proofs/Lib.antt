@@ -3,3 +3,4 @@ pub mod Building
 pub mod Changes
 pub mod Nearest
 pub mod Images
+pub mod Numbers

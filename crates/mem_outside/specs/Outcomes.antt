@@ -74,6 +74,11 @@ kept all s = record { number = s.number; there = s.there; bytes = s.bytes; loose
 abbrev pub state_in : List Shown → ℕ → Shown
 state_in files file = unwrap_or (find (λ (s : Shown). s.number == file) files) (absent file)
 
+-- no two files have one number
+abbrev pub numbers_differ : List Shown → Bool
+numbers_differ [] = true
+numbers_differ (s ∷ files) = list_all (λ (t : Shown). not (t.number == s.number)) files && numbers_differ files
+
 -- the files with this one in place of that of its number
 abbrev pub with_file : Bool → Shown → List Shown → List Shown
 with_file all s files = s ∷ map (kept all) (filter (λ (t : Shown). not (t.number == s.number)) files)

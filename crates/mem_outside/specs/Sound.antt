@@ -201,15 +201,15 @@ state_sound (s ∷ files) file all =
     ]
 
 module _ (all : Bool) (n : ℕ) where
-  abbrev rest_of : List Shown → List Shown
+  abbrev pub rest_of : List Shown → List Shown
   rest_of files = map (kept all) (filter (λ (t : Shown). not (t.number == n)) files)
 
-  rest_dropped : (t : Shown) (files : List Shown) → t.number ≡ n → rest_of (t ∷ files) ≡ rest_of files
+  pub rest_dropped : (t : Shown) (files : List Shown) → t.number ≡ n → rest_of (t ∷ files) ≡ rest_of files
   rest_dropped t files same =
       let test : (t.number == n) ≡ true = subst (λ (m : ℕ). IsTrue (t.number == m)) same (same_test t.number) in
       ap (λ (b : Bool). map (kept all) (cond (not b) (t ∷ filter (λ (u : Shown). not (u.number == n)) files) (filter (λ (u : Shown). not (u.number == n)) files))) test
 
-  rest_kept : (t : Shown) (files : List Shown) → t.number ≢ n → rest_of (t ∷ files) ≡ kept all t ∷ rest_of files
+  pub rest_kept : (t : Shown) (files : List Shown) → t.number ≢ n → rest_of (t ∷ files) ≡ kept all t ∷ rest_of files
   rest_kept t files other =
       ap (λ (b : Bool). map (kept all) (cond (not b) (t ∷ filter (λ (u : Shown). not (u.number == n)) files) (filter (λ (u : Shown). not (u.number == n)) files))) (test_false t.number n other)
 

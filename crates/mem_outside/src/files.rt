@@ -1,10 +1,11 @@
 //! The files of a store in memory, and their states at past moments.
 ghost use Rattle.std.specs.Prelude.{◌≡◌, ◌↔◌, ℕ, ◌+◌, ◌^◌, ◌<◌, ◌≤◌, ◌≢◌, map, Bool, true, false, ◌++◌, []};
 ghost use Rattle.std.specs.Prelude.{◌∷◌, length, take, IsTrue, IfOk, OnOk, OnErr, MatchOption, IfSome};
-ghost use Rattle.std.specs.Prelude.{IsSomeAnd};
+ghost use Rattle.std.specs.Prelude.{IsSomeAnd, Some, ◌⊎◌};
 ghost use Rattle.std.specs.List.{list_all};
 ghost use Rattle.outside_traits.specs.Calls.{Passes, Acts, Torn, Shortened, Same, Gone, NextIs};
-ghost use Rattle.mem_outside.specs.Outcomes.{absent, is_sound, state_in, with_file, written, shortened};
+ghost use Rattle.mem_outside.specs.Outcomes.{absent, is_sound, numbers_differ, state_in, with_file, written};
+ghost use Rattle.mem_outside.specs.Outcomes.{shortened};
 ghost use Rattle.mem_outside.specs.Outcomes.{synced, removed, kept, left_of, stable_file};
 ghost use Rattle.mem_outside.specs.Moments.{view_of};
 
@@ -42,15 +43,6 @@ pub(crate) fn bytes_in(files: &[FileState], file: u64) -> &[u8]
     match entry_of(files, file) {
         Some(state) => state.bytes(),
         None => &[],
-    }
-}
-
-pub(crate) fn is_there(files: &[FileState], file: u64) -> bool
-    ensures { result ≡ (state_in files.now file).there }
-{
-    match entry_of(files, file) {
-        Some(state) => state.is_there(),
-        None => false,
     }
 }
 
@@ -111,6 +103,7 @@ pub(crate) fn write(
     requires sound { IsTrue (list_all is_sound current.old.items) }
     requires room { at + length bytes.now < 2 ^ 64 }
     ensures sound { IsTrue (list_all is_sound current.new.items) }
+    ensures differ { IsTrue (numbers_differ current.old.items) → IsTrue (numbers_differ current.new.items) }
     ensures state { OnOk result
         (state_in current.new.items file ≡ written at bytes.now done (state_in current.old.items file)) }
     ensures others { OnOk result
@@ -136,6 +129,7 @@ pub(crate) fn cut(
 ) -> Result<(), Memory>
     requires sound { IsTrue (list_all is_sound current.old.items) }
     ensures sound { IsTrue (list_all is_sound current.new.items) }
+    ensures differ { IsTrue (numbers_differ current.old.items) → IsTrue (numbers_differ current.new.items) }
     ensures state { OnOk result
         (state_in current.new.items file ≡ shortened len done (state_in current.old.items file)) }
     ensures others { OnOk result
@@ -159,6 +153,7 @@ pub(crate) fn sync(
 ) -> Result<(), Memory>
     requires sound { IsTrue (list_all is_sound current.old.items) }
     ensures sound { IsTrue (list_all is_sound current.new.items) }
+    ensures differ { IsTrue (numbers_differ current.old.items) → IsTrue (numbers_differ current.new.items) }
     ensures state { OnOk result (state_in current.new.items file ≡ synced (state_in current.old.items file)) }
     ensures others { OnOk result
         ((g : ℕ) → g ≢ file → state_in current.new.items g ≡ kept false (state_in current.old.items g)) }
@@ -183,6 +178,7 @@ pub(crate) fn remove(
 ) -> Result<(), Memory>
     requires sound { IsTrue (list_all is_sound current.old.items) }
     ensures sound { IsTrue (list_all is_sound current.new.items) }
+    ensures differ { IsTrue (numbers_differ current.old.items) → IsTrue (numbers_differ current.new.items) }
     ensures state { OnOk result
         (state_in current.new.items file ≡ removed (state_in current.old.items file)) }
     ensures others { OnOk result
@@ -199,27 +195,30 @@ pub(crate) fn remove(
 
 // The least number of a file that is there, at or above `from`.
 pub(crate) fn next_from(files: &[FileState], from: u64) -> Option<u64>
+    requires { IsTrue (numbers_differ files.now) }
     ensures bound { IfSome result (λ file. from ≤ file) }
     ensures next { NextIs (λ file. (state_in files.now file).there) from result }
 {
     let mut next = None;
     for state in files {
-        next = nearer(files, from, state.number(), next);
+        next = nearer(state, from, next);
     }
     next
 }
 
-// The lesser of a number that is there, at or above `from`, and the one that was found so far.
-fn nearer(files: &[FileState], from: u64, number: u64, next: Option<u64>) -> Option<u64>
-    ensures found { IfSome next (λ n. (from ≤ n) × ((state_in files.now n).there ≡ true))
-        → IfSome result (λ n. (from ≤ n) × ((state_in files.now n).there ≡ true)) }
-    ensures least { from ≤ number → (state_in files.now number).there ≡ true
-        → IsSomeAnd result (λ n. n ≤ number) }
+// The lesser of the file's number, where it is there and at or above `from`, and the one that was found so
+// far.
+fn nearer(state: &FileState, from: u64, next: Option<u64>) -> Option<u64>
+    ensures found { IfSome result (λ n. (next ≡ Some n)
+        ⊎ ((n ≡ state.now.number) × (from ≤ n) × (state.now.there ≡ true))) }
+    ensures least { from ≤ state.now.number → state.now.there ≡ true
+        → IsSomeAnd result (λ n. n ≤ state.now.number) }
     ensures lower { IfSome next (λ m. IsSomeAnd result (λ n. n ≤ m)) }
 {
+    let number = state.number();
     match next {
         Some(other) if other <= number => Some(other),
-        _ if number >= from && is_there(files, number) => Some(number),
+        _ if number >= from && state.is_there() => Some(number),
         _ => next,
     }
 }
@@ -235,6 +234,8 @@ pub(crate) fn left(
     requires { IsTrue (list_all is_sound files.now) }
     ensures left { IfOk result (λ left. left.items ≡ map (left_of greatest filler removed_too) files.now) }
     ensures sound { IfOk result (λ left. IsTrue (list_all is_sound left.items)) }
+    ensures differ { IsTrue (numbers_differ files.now)
+        → IfOk result (λ left. IsTrue (numbers_differ left.items)) }
 {
     let mut left = Vec::new(alloc);
     for state in files {
@@ -253,6 +254,7 @@ pub(crate) fn put(
 ) -> Result<(), Memory>
     requires sound { IsTrue (list_all is_sound current.old.items) }
     ensures sound { IsTrue (list_all is_sound current.new.items) }
+    ensures differ { IsTrue (numbers_differ current.old.items) → IsTrue (numbers_differ current.new.items) }
     ensures state { OnOk result (state_in current.new.items file ≡ stable_file file bytes.now) }
     ensures stays { OnErr result
         ((current.new.items ≡ current.old.items) × (past.new.items ≡ past.old.items)) }

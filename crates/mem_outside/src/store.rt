@@ -5,7 +5,7 @@ ghost use Rattle.std.specs.Prelude.{OnErr};
 ghost use Rattle.std.specs.List.{list_all};
 ghost use Rattle.mem_outside.specs.Shown.{Shown};
 ghost use Rattle.mem_outside.specs.Outcomes.{is_sound, state_in, stable_file, written, shortened, synced};
-ghost use Rattle.mem_outside.specs.Outcomes.{removed, kept, left_of};
+ghost use Rattle.mem_outside.specs.Outcomes.{numbers_differ, removed, kept, left_of};
 ghost use Rattle.mem_outside.specs.Moments.{view_of};
 ghost use Rattle.mem_outside.specs.Laws.{state_reads, state_absent};
 ghost use Rattle.mem_outside.specs.Schedule.{Schedule, next_fails, called, from_call};
@@ -54,6 +54,7 @@ pub struct MemStore {
     taken: u64,
     refused: u64,
     ghost sound: { IsTrue (list_all is_sound current.items) },
+    ghost differ: { IsTrue (numbers_differ current.items) },
 }
 
 impl MemStore {

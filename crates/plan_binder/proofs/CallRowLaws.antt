@@ -30,14 +30,14 @@ not_there None lacks refused e = refl
 not_there (Some x) lacks refused e = absurd (false≢true (sym (refused x refl) ∙ e))
 
 -- two parts of a list that is all there
-record AreAll {A : Type 0} (o : Option A) (os : List (Option A)) (ys : List A) : Type 0 where
-  first : A
-  others : List A
-  first_there : o ≡ Some first
-  others_there : all_there os ≡ Some others
-  both : ys ≡ first ∷ others
+pub record AreAll {A : Type 0} (o : Option A) (os : List (Option A)) (ys : List A) : Type 0 where
+  pub first : A
+  pub others : List A
+  pub first_there : o ≡ Some first
+  pub others_there : all_there os ≡ Some others
+  pub both : ys ≡ first ∷ others
 
-all_cons : {A : Type 0} (o : Option A) (os : List (Option A)) (ys : List A) → all_there (o ∷ os) ≡ Some ys → AreAll o os ys
+pub all_cons : {A : Type 0} (o : Option A) (os : List (Option A)) (ys : List A) → all_there (o ∷ os) ≡ Some ys → AreAll o os ys
 all_cons None os ys e = absurd cc
 all_cons (Some x) os ys e = go (all_there os) refl e
   where
@@ -95,29 +95,29 @@ choice_typed (Some kind.Bool) (Some j) (Some l) k e =
     record { test = kind.Bool; first = j; second = l; test_kind = refl; first_kind = refl; second_kind = refl }
 choice_typed _ _ _ k e = absurd cc
 
-record AreTwo (make : bound.PlainExpr → bound.PlainExpr → bound.PlainExpr) (o p : Option bound.PlainExpr) (x : bound.PlainExpr) : Type 0 where
-  left : bound.PlainExpr
-  right : bound.PlainExpr
-  left_there : o ≡ Some left
-  right_there : p ≡ Some right
-  gives : make left right ≡ x
+pub record AreTwo (make : bound.PlainExpr → bound.PlainExpr → bound.PlainExpr) (o p : Option bound.PlainExpr) (x : bound.PlainExpr) : Type 0 where
+  pub left : bound.PlainExpr
+  pub right : bound.PlainExpr
+  pub left_there : o ≡ Some left
+  pub right_there : p ≡ Some right
+  pub gives : make left right ≡ x
 
-two_some : (make : bound.PlainExpr → bound.PlainExpr → bound.PlainExpr) (o p : Option bound.PlainExpr) (x : bound.PlainExpr)
+pub two_some : (make : bound.PlainExpr → bound.PlainExpr → bound.PlainExpr) (o p : Option bound.PlainExpr) (x : bound.PlainExpr)
     → of_two make o p ≡ Some x → AreTwo make o p x
 two_some make (Some y) (Some z) x e = record { left = y; right = z; left_there = refl; right_there = refl; gives = cc }
 two_some make (Some y) None x e = absurd cc
 two_some make None p x e = absurd cc
 
-record AreThree (o p q : Option bound.PlainExpr) (x : bound.PlainExpr) : Type 0 where
-  test : bound.PlainExpr
-  first : bound.PlainExpr
-  second : bound.PlainExpr
-  test_there : o ≡ Some test
-  first_there : p ≡ Some first
-  second_there : q ≡ Some second
-  gives : bound.If test first second ≡ x
+pub record AreThree (o p q : Option bound.PlainExpr) (x : bound.PlainExpr) : Type 0 where
+  pub test : bound.PlainExpr
+  pub first : bound.PlainExpr
+  pub second : bound.PlainExpr
+  pub test_there : o ≡ Some test
+  pub first_there : p ≡ Some first
+  pub second_there : q ≡ Some second
+  pub gives : bound.If test first second ≡ x
 
-three_some : (o p q : Option bound.PlainExpr) (x : bound.PlainExpr) → of_three bound.If o p q ≡ Some x → AreThree o p q x
+pub three_some : (o p q : Option bound.PlainExpr) (x : bound.PlainExpr) → of_three bound.If o p q ≡ Some x → AreThree o p q x
 three_some (Some t) (Some y) (Some z) x e =
     record { test = t; first = y; second = z; test_there = refl; first_there = refl; second_there = refl; gives = cc }
 three_some (Some t) (Some y) None x e = absurd cc
@@ -277,7 +277,7 @@ module _ (streams : Names) (schemas : List (List schema.Column)) where
   plan_rows (named.Concat left right) = concat_rows left right (plan_rows left) (plan_rows right)
   plan_rows (named.Order child keys) = order_rows child keys (plan_rows child)
 
-  bound_plan : (tree : PlainTree) (plan : PlainPlan) → binding streams schemas tree ≡ Ok plan → (b : Bound) × ((bound_to tree ≡ Some b) × (b.plan ≡ plan))
+  pub bound_plan : (tree : PlainTree) (plan : PlainPlan) → binding streams schemas tree ≡ Ok plan → (b : Bound) × ((bound_to tree ≡ Some b) × (b.plan ≡ plan))
   bound_plan tree plan is = go (absent_stream streams tree) (bound_to tree) refl is
     where
       go : (absent : Option (List ℕ)) (o : Option Bound) → bound_to tree ≡ o → present_or absent (plan_or_ill_typed o) ≡ Ok plan

@@ -4,3 +4,4 @@ pub mod BoundLeaves
 pub mod CallRowLaws
 pub mod OpRowLaws
 pub mod BindingExamples
+pub mod BoundCounts

@@ -1,6 +1,6 @@
 -- What a loop over rows has given so far, and one row more.
 use Rattle.std.proofs.Common.{◌≡◌, refl, sym, ap, ◌∙◌, subst, ℕ, ◌+◌, ◌<◌, Bool, true, false, cond, ◌||◌, List, [], ◌∷◌, ◌++◌, length, get_or, take, drop, append_assoc, ◌⊎◌, inl, inr, ◌↔◌, ℤ, ◌+ℤ◌, arith}
-use Rattle.std.specs.List.{Contains, list_any}
+use Rattle.std.specs.List.{Contains}
 use Rattle.std.proofs.lemmas.List.{at_drop_more, take_more, map-append}
 use Rattle.rows_core.specs.declared.value.Value.{Value}
 use Rattle.std.proofs.Math.IntN.{+ℤ_assoc}
@@ -9,9 +9,7 @@ use Rattle.rows_core.specs.Value.{row_eq}
 use Rattle.plan_core.specs.Columns.{Row, Rows, column_of, columns_of}
 use Rattle.plan_core.specs.Distinct.{distinct_rows}
 use Rattle.plan_core.specs.Group.{keys_of, members_of}
-use Rattle.plan_laws.proofs.FirstOfEqual.{if_new, one_more, same_test, has_all, has_no_more}
-use Rattle.rows_core.specs.Equality.{row_eq-Decides}
-use Rattle.plan_laws.proofs.Members.{at_front, behind, front_or_behind}
+use Rattle.plan_laws.proofs.FirstOfEqual.{if_new, one_more, same_members}
 
 -- F gives of a row and the others what f gives of the row, and then what it gives of the others
 pub more : (F : Rows → Rows) (f : Row → Rows) → ((row : Row) (rows : Rows) → F (row ∷ rows) ≡ f row ++ F rows) → (rows sofar next : Rows) (row : Row) (i : ℕ) → i < length rows
@@ -33,31 +31,6 @@ members_step keys key row rows = by (row_eq key (columns_of keys row))
     by false = refl
 
 -- ---- the first of equal rows
-
-has_it : (row : Row) (rows : Rows) → list_any (row_eq row) rows ≡ true → Contains rows row
-has_it row [] is = absurd (cc)
-has_it row (first ∷ others) is = by (row_eq row first) refl (has_it row others) is
-  where
-    by : (b : Bool) → row_eq row first ≡ b → (list_any (row_eq row) others ≡ true → Contains others row) → (b || list_any (row_eq row) others) ≡ true → Contains (first ∷ others) row
-    by true e rest h = subst (Contains (first ∷ others)) (sym ((row_eq-Decides row first).0 e)) (at_front first others)
-    by false e rest h = behind first others row (rest h)
-
-is_there : (row : Row) (rows : Rows) → Contains rows row → list_any (row_eq row) rows ≡ true
-is_there row [] at = absurd (omega (arith, at.1))
-is_there row (first ∷ others) at = by (is_there row others) (front_or_behind first others row at)
-  where
-    or_true : (b : Bool) → (b || true) ≡ true
-    or_true true = refl
-    or_true false = refl
-
-    by : (Contains others row → list_any (row_eq row) others ≡ true) → (first ≡ row) ⊎ Contains others row → (row_eq row first || list_any (row_eq row) others) ≡ true
-    by rest (inl here) = ap (λ b. b || list_any (row_eq row) others) ((row_eq-Decides row first).1 (sym here))
-    by rest (inr there) = ap (λ b. row_eq row first || b) (rest there) ∙ or_true (row_eq row first)
-
-same_members : (row : Row) (rows : Rows) → list_any (row_eq row) (distinct_rows rows) ≡ list_any (row_eq row) rows
-same_members row rows =
-    same_test _ _ (λ h. is_there row rows (has_no_more rows row (has_it row (distinct_rows rows) h)))
-    (λ h. is_there row (distinct_rows rows) (has_all rows row (has_it row rows h)))
 
 pub distinct_more : (rows different next : Rows) (row : Row) (i : ℕ) → i < length rows → row ≡ get_or rows i row → different ≡ distinct_rows (take i rows) → next ≡ different ++ if_new different row
     → next ≡ distinct_rows (take (i + 1) rows)

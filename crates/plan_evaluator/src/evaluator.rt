@@ -3,7 +3,7 @@ ghost use Rattle.std.specs.Prelude.{◌≡◌, ◌≤◌, ◌++◌, length, take
 ghost use Rattle.plan_core.specs.PlainPlan.{plan_of, leaf_count};
 ghost use Rattle.plan_core.specs.PlanMeaning.{plan_meaning, first_list};
 ghost use Rattle.plan_core.specs.Answer.{Means};
-ghost use Rattle.plan_evaluator.specs.Evaluation.{IsTypedOn};
+ghost use Rattle.plan_laws.specs.TypedOn.{IsTypedOn};
 
 use crate::aggregate::group_rows;
 use crate::operators::{

@@ -77,3 +77,30 @@ one_more (first ∷ others) row =
     let p : Row → Bool = others_than first in
     ap (λ l. first ∷ filter p l) (one_more others row)
     ∙ ap (λ l. first ∷ l) (filter-append p (distinct_rows others) (if_new others row) ∙ ap (λ l. filter p (distinct_rows others) ++ l) (new_behind first others row))
+
+-- ---- the first of equal rows have the same rows
+
+has_it : (row : Row) (rows : Rows) → list_any (row_eq row) rows ≡ true → Contains rows row
+has_it row [] is = absurd (cc)
+has_it row (first ∷ others) is = by (row_eq row first) refl (has_it row others) is
+  where
+    by : (b : Bool) → row_eq row first ≡ b → (list_any (row_eq row) others ≡ true → Contains others row) → (b || list_any (row_eq row) others) ≡ true → Contains (first ∷ others) row
+    by true e rest h = subst (Contains (first ∷ others)) (sym ((row_eq-Decides row first).0 e)) (at_front first others)
+    by false e rest h = behind first others row (rest h)
+
+pub is_there : (row : Row) (rows : Rows) → Contains rows row → list_any (row_eq row) rows ≡ true
+is_there row [] at = absurd (omega (arith, at.1))
+is_there row (first ∷ others) at = by (is_there row others) (front_or_behind first others row at)
+  where
+    or_true : (b : Bool) → (b || true) ≡ true
+    or_true true = refl
+    or_true false = refl
+
+    by : (Contains others row → list_any (row_eq row) others ≡ true) → (first ≡ row) ⊎ Contains others row → (row_eq row first || list_any (row_eq row) others) ≡ true
+    by rest (inl here) = ap (λ b. b || list_any (row_eq row) others) ((row_eq-Decides row first).1 (sym here))
+    by rest (inr there) = ap (λ b. row_eq row first || b) (rest there) ∙ or_true (row_eq row first)
+
+pub same_members : (row : Row) (rows : Rows) → list_any (row_eq row) (distinct_rows rows) ≡ list_any (row_eq row) rows
+same_members row rows =
+    same_test _ _ (λ h. is_there row rows (has_no_more rows row (has_it row (distinct_rows rows) h)))
+    (λ h. is_there row (distinct_rows rows) (has_all rows row (has_it row rows h)))

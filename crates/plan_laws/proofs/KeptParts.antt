@@ -60,7 +60,7 @@ kinds_there f (x ∷ xs) ks is =
     let tail : map (λ x. unwrap_or (f x) kind.Int) xs ≡ front.1 = kinds_there f xs front.1 front.3 in
     (λ i. head i ∷ tail i) ∙ front.4
 
-sum_is : (n : ℕ) (z : ℤ) → n ≤ 4294967295 → IsWithin n z → IsSum z
+pub sum_is : (n : ℕ) (z : ℤ) → n ≤ 4294967295 → IsWithin n z → IsSum z
 sum_is n (pos a) few within = omega (arith, ints, within.high)
 sum_is n (negsuc a) few within = omega (arith, ints, within.low)
 

@@ -27,7 +27,7 @@ value_kept rows (agg.Last c) = refl
 value_kept rows (agg.Avg c) = refl
 
 -- what f gives of what g gives is what h gives, one by one
-one_by_one : {X Y Z : Type 0} (g : X → Y) (f : Y → Z) (h : X → Z) → ((x : X) → f (g x) ≡ h x) → (xs : List X) → map f (map g xs) ≡ map h xs
+pub one_by_one : {X Y Z : Type 0} (g : X → Y) (f : Y → Z) (h : X → Z) → ((x : X) → f (g x) ≡ h x) → (xs : List X) → map f (map g xs) ≡ map h xs
 one_by_one g f h same [] = refl
 one_by_one g f h same (x ∷ xs) = ap (λ z. z ∷ map f (map g xs)) (same x) ∙ ap (λ l. h x ∷ l) (one_by_one g f h same xs)
 
@@ -36,10 +36,10 @@ group_kept keys aggs rows key =
     let members = members_of keys rows key in
     ap (λ l. all_of l >>= λ values. Ok (key ++ values)) (one_by_one (acc_of members) value_of_acc (λ a. aggregate_value a members) (value_kept members) aggs)
 
-groups_kept : (keys : List ℕ) (aggs : List Agg) (rows : Rows) → rows_of_kept (kept.Groups (map (kept_group keys aggs rows) (keys_of keys rows))) ≡ group_rows keys aggs rows
+pub groups_kept : (keys : List ℕ) (aggs : List Agg) (rows : Rows) → rows_of_kept (kept.Groups (map (kept_group keys aggs rows) (keys_of keys rows))) ≡ group_rows keys aggs rows
 groups_kept keys aggs rows = ap all_of (one_by_one (kept_group keys aggs rows) row_of_group (group_row keys aggs rows) (group_kept keys aggs rows) (keys_of keys rows))
 
-join_kept : (position : ℕ) (on : List (ℕ × ℕ)) (lefts rights : Rows) → map (λ tagged. tagged.row) (tagged_from position on lefts rights) ≡ join_rows on lefts rights
+pub join_kept : (position : ℕ) (on : List (ℕ × ℕ)) (lefts rights : Rows) → map (λ tagged. tagged.row) (tagged_from position on lefts rights) ≡ join_rows on lefts rights
 join_kept position on [] rights = refl
 join_kept position on (left ∷ lefts) rights =
     let agree = filter (rows_agree on left) rights in

@@ -63,7 +63,7 @@ module _ {X : Type 0} (lt : X → X → Bool) where
     none_ties z y (w ∷ ws) less none =
         ap (λ b. cond (not b && not (lt w z)) (w ∷ filter (ties lt z) ws) (filter (ties lt z) ws)) (less_too z y w less none.0) ∙ none_ties z y ws less none.1
 
-    none_below_itself : (y : X) (ys : List X) → Ascends (y ∷ ys) → NoneBelow y (y ∷ ys)
+    pub none_below_itself : (y : X) (ys : List X) → Ascends (y ∷ ys) → NoneBelow y (y ∷ ys)
     none_below_itself y ys h = (not_less_itself y, h.0)
 
     -- the first element stands in front of those that tie with it

@@ -193,12 +193,12 @@ pub record IsWithin (n : ℕ) (z : ℤ) : Type 0 where
   pub low : neg_ℤ (pos (n * 2 ^ 63)) ≤ℤ z
   pub high : z ≤ℤ pos (n * (2 ^ 63 - 1))
 
-number_within : (v : Value) → IsValid v → IsWithin 1 (number_of v)
+pub number_within : (v : Value) → IsValid v → IsWithin 1 (number_of v)
 number_within (value.Int (pos n)) valid = record { low = omega (arith, ints, valid.sfits); high = omega (arith, ints, valid.sfits) }
 number_within (value.Int (negsuc n)) valid = record { low = omega (arith, ints, valid.sfits); high = omega (arith, ints, valid.sfits) }
 number_within (value.Text t) valid = record { low = omega (arith, ints); high = omega (arith, ints) }
 
-added_within : (n : ℕ) (z s : ℤ) → IsWithin 1 z → IsWithin n s → IsWithin (suc n) (z +ℤ s)
+pub added_within : (n : ℕ) (z s : ℤ) → IsWithin 1 z → IsWithin n s → IsWithin (suc n) (z +ℤ s)
 added_within n z s one others =
     record { low = omega (arith, ints, one.low, others.low); high = omega (arith, ints, one.high, others.high) }
 
@@ -206,7 +206,7 @@ pub sum_within : (vs : List Value) → AllByRecursion IsValid vs → IsWithin (l
 sum_within [] all = record { low = omega (arith, ints); high = omega (arith, ints) }
 sum_within (v ∷ vs) all = added_within (length vs) (number_of v) (exact_sum vs) (number_within v all.0) (sum_within vs all.1)
 
-floor_valid : (z : ℤ) (n : ℕ) → IsWithin n z → FitsSigned w64 (floor_div z (pos n))
+pub floor_valid : (z : ℤ) (n : ℕ) → IsWithin n z → FitsSigned w64 (floor_div z (pos n))
 floor_valid (pos a) n within =
     let most : a ≤ n * (2 ^ 63 - 1) = omega (arith, ints, within.high) in
     let quotient : a / n ≤ 2 ^ 63 - 1 = div-le_of_le-mul n most in

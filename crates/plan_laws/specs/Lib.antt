@@ -1,4 +1,9 @@
 pub mod Examples
+pub mod GroupBounds
+pub mod GrowthOfGroups
+pub mod GrowthOfJoins
+pub mod GrowthOfRows
 pub mod KeptForm
 pub mod PlanShape
+pub mod TypedOn
 pub mod ValidRows

@@ -6,6 +6,7 @@ use Rattle.mem_outside.specs.Moments.{view_of}
 use Rattle.mem_outside.proofs.Calls.{passes}
 use Rattle.mem_outside.proofs.Changes.{changed_sound, others_stay}
 use Rattle.mem_outside.proofs.Images.{stable_sound}
+use Rattle.mem_outside.proofs.Numbers.{changed_differ}
 use Rattle.mem_outside.proofs.files.put.Goals as goal
 
 pub returns-clause-sound : goal.returns-clause-sound
@@ -21,3 +22,6 @@ pub returns-clause-time : goal.returns-clause-time
 returns-clause-time c =
     subst (λ (l : List (List Shown)). Passes (view_of c.args.past.now.items c.args.current.now.items) (view_of l c.change.new.current.items))
     (sym c.in_ok-change.ensures.past) (passes c.args.past.now.items c.args.current.now.items c.change.new.current.items)
+
+pub returns-clause-differ : goal.returns-clause-differ
+returns-clause-differ c = changed_differ true _ c.args.current.now.items _ c.in_ok-change.ensures.current

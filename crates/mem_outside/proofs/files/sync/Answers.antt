@@ -4,6 +4,7 @@ use Rattle.mem_outside.specs.Shown.{Shown}
 use Rattle.mem_outside.specs.Outcomes.{Outcome, state_in, synced, is_sound}
 use Rattle.mem_outside.specs.Sound.{number_of, synced_sound}
 use Rattle.mem_outside.proofs.Changes.{changed_state, changed_sound, changed_acts, others_stay, none_gone, here_sound, sync_here}
+use Rattle.mem_outside.proofs.Numbers.{changed_differ}
 use Rattle.mem_outside.proofs.files.sync.Goals as goal
 
 pub returns-clause-sound : goal.returns-clause-sound
@@ -54,3 +55,6 @@ returns-clause-others c =
     let next_is = c.in_ok-next.ensures ∙ ap (λ (s : Shown). synced s) from in
     others_stay c.args.file false _ c.args.current.now.items _ c.in_ok-change.ensures.current
     (ap (λ (s : Shown). s.number) next_is ∙ number_of c.args.file c.args.current.now.items)
+
+pub returns-clause-differ : goal.returns-clause-differ
+returns-clause-differ c = changed_differ false _ c.args.current.now.items _ c.in_ok-change.ensures.current

@@ -4,6 +4,7 @@ use Rattle.mem_outside.specs.Shown.{Shown}
 use Rattle.mem_outside.specs.Outcomes.{Outcome, state_in, written, is_sound}
 use Rattle.mem_outside.specs.Sound.{number_of, written_sound, written_outcome}
 use Rattle.mem_outside.proofs.Changes.{changed_state, changed_sound, changed_acts, others_stay, here_sound, write_seen}
+use Rattle.mem_outside.proofs.Numbers.{changed_differ}
 use Rattle.mem_outside.proofs.files.write.Goals as goal
 
 pub returns-clause-sound : goal.returns-clause-sound
@@ -42,3 +43,6 @@ returns-clause-others c =
     let next_is = c.in_ok-next.ensures ∙ ap (λ (s : Shown). written c.args.at c.args.bytes.now c.args.done s) from in
     others_stay c.args.file true _ c.args.current.now.items _ c.in_ok-change.ensures.current
     (ap (λ (s : Shown). s.number) next_is ∙ number_of c.args.file c.args.current.now.items)
+
+pub returns-clause-differ : goal.returns-clause-differ
+returns-clause-differ c = changed_differ true _ c.args.current.now.items _ c.in_ok-change.ensures.current

@@ -3,8 +3,8 @@ use Rattle.rows_core.specs.Value.{kind_of}
 use Rattle.plan_core.specs.ExpressionKind.{IsTyped}
 use Rattle.plan_core.specs.PlainExpr.{expr_of}
 use Rattle.plan_core.specs.PlainPlan.{plan_of, leaf_count}
-use Rattle.plan_evaluator.specs.Evaluation.{IsTypedOn}
-use Rattle.plan_evaluator.proofs.TypedParts.{test_typed, columns_typed, join_parts, concat_parts, typed_as, meaning_as}
+use Rattle.plan_laws.specs.TypedOn.{IsTypedOn}
+use Rattle.plan_laws.proofs.TypedParts.{test_typed, columns_typed, join_parts, concat_parts, typed_as, meaning_as}
 use Rattle.plan_evaluator.proofs.evaluator.+evaluate.Goals as goal
 
 pub filter_rows-requires : goal.filter_rows-requires

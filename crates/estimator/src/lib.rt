@@ -1,0 +1,9 @@
+//! What the bytes under a plan come to: of the extents of its leaves, and of those that are new since an
+//! earlier cut. It takes no memory.
+#![tactic(auto)]
+
+pub mod bytes;
+pub mod sizes;
+
+pub use bytes::{new_bytes, sides, whole_bytes};
+pub use sizes::Sizes;

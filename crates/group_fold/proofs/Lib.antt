@@ -1,0 +1,3 @@
+mod AccValues
+mod Places
+mod Tables

@@ -1,0 +1,12 @@
+-- The groups so far.
+use Rattle.std.proofs.Common.{◌≡◌, ◌++◌, length}
+use Rattle.std.specs.Vec.Iter.{into_iter_items, into_iter_len}
+use Rattle.group_fold.specs.Table.{groups_in}
+use Rattle.group_fold.proofs.table.table_of.Given as goal
+
+abbrev pub invariant-loop-group : goal.invariant-loop-group
+invariant-loop-group l = record {
+  whole : l.yielded ++ into_iter_items l.group-iterator ≡ l.fn.groups.items;
+  left : into_iter_len l.group-iterator ≡ length (into_iter_items l.group-iterator);
+  groups : groups_in (λ accs. accs.items) l.table.entries ≡ l.yielded;
+}

@@ -1,0 +1,136 @@
+-- The merge of two lists that ascend, in which of two elements that tie the one of the left list comes first.
+use Rattle.std.proofs.Common.{◌≡◌, refl, sym, ap, ◌∙◌, subst, Bool, true, false, cond, not, ◌&&◌, List, [], ◌∷◌, ◌++◌, append-nil}
+use Rattle.std.specs.Cmp.{IsTotalOrder, IsStrictWeakOrder}
+use Rattle.std.specs.List.{filter}
+use Rattle.std.specs.List.Sorted.{IsPermutation, IsSorted, IsSortedBy, IsStable, IsStableBy, ties}
+use Rattle.std.specs.Ordering.{is_le, is_lt, ordering_reverse}
+use Rattle.std.specs.declared.cmp.Ordering.{Ordering}
+use Rattle.std.specs.declared.cmp.Ordering.TheVariants.{Less, Equal, Greater}
+use Rattle.std.proofs.lemmas.List.Elements.{filter-append}
+use Rattle.std.proofs.lemmas.List.Sorted.{ranks_by, IsPermutation-refl, IsPermutation-cons, IsPermutation-trans, IsPermutation-middle}
+use Rattle.itertools.specs.List.{merge_at, merge_by}
+use Rattle.itertools.proofs.ListFactLemmas.{merge_by-sorted}
+use Rattle.plan_laws.proofs.StableLists.{Ascends, ascends_from_sorted, none_below_itself, none_ties, one_list}
+
+-- ---- the elements of both lists
+
+module _ {X : Type 0} (first : X → X → Bool) where
+  has_both_at : (x : X) (xs : List X) → ((ys : List X) → IsPermutation (xs ++ ys) (merge_by first xs ys)) → (ys : List X) → IsPermutation (x ∷ (xs ++ ys)) (merge_at first x xs (merge_by first xs) ys)
+  has_both_at x xs rest [] = subst (λ l. IsPermutation (x ∷ l) (x ∷ xs)) (sym (append-nil xs)) (IsPermutation-refl (x ∷ xs))
+  has_both_at x xs rest (y ∷ ys) = by (has_both_at x xs rest ys) (first x y)
+    where
+      by : IsPermutation (x ∷ (xs ++ ys)) (merge_at first x xs (merge_by first xs) ys) → (b : Bool)
+          → IsPermutation (x ∷ (xs ++ y ∷ ys)) (cond b (x ∷ merge_by first xs (y ∷ ys)) (y ∷ merge_at first x xs (merge_by first xs) ys))
+      by later true = IsPermutation-cons x _ _ (rest (y ∷ ys))
+      by later false = IsPermutation-trans _ (y ∷ x ∷ (xs ++ ys)) _ (IsPermutation-middle (x ∷ xs) y ys) (IsPermutation-cons y _ _ later)
+
+  -- whatever test picks the front element
+  pub merge_has_both : (xs ys : List X) → IsPermutation (xs ++ ys) (merge_by first xs ys)
+  merge_has_both [] ys = IsPermutation-refl ys
+  merge_has_both (x ∷ xs) ys = has_both_at x xs (merge_has_both xs) ys
+
+-- ---- in order, and as they were
+
+module _ {X : Type 0} (lt first : X → X → Bool) (o : IsStrictWeakOrder lt) (is_first : (x y : X) → first x y ≡ not (lt y x)) where
+  not_less : (x y : X) → first x y ≡ true → lt y x ≡ false
+  not_less x y h = by (lt y x) (sym (is_first x y) ∙ h)
+    where
+      by : (b : Bool) → not b ≡ true → b ≡ false
+      by true e = sym e
+      by false e = refl
+
+  less : (x y : X) → first x y ≡ false → lt y x ≡ true
+  less x y h = by (lt y x) (sym (is_first x y) ∙ h)
+    where
+      by : (b : Bool) → not b ≡ false → b ≡ true
+      by true e = refl
+      by false e = sym e
+
+  pub merge_sorted : (xs ys : List X) → IsSortedBy lt xs → IsSortedBy lt ys → IsSortedBy lt (merge_by first xs ys)
+  merge_sorted = merge_by-sorted lt first not_less (λ x y h. o.one_way y x (less x y h))
+
+  -- what ties with an element that is less than x is itself less than x
+  less_too : (z y x : X) → ties lt z y ≡ true → lt y x ≡ true → lt z x ≡ true
+  less_too z y x tie below = by (lt z x) refl
+    where
+      other : (p q : Bool) → not p && not q ≡ true → q ≡ false
+      other true q h = absurd (cc)
+      other false true h = absurd (cc)
+      other false false h = refl
+
+      by : (b : Bool) → lt z x ≡ b → b ≡ true
+      by true e = refl
+      by false e = sym (o.chain y z x (other (lt z y) (lt y z) tie) e) ∙ below
+
+  module _ (z : X) where
+    keeps_at : (x : X) (xs : List X) → Ascends lt (x ∷ xs) → ((ys : List X) → filter (ties lt z) (merge_by first xs ys) ≡ filter (ties lt z) (xs ++ ys))
+        → (ys : List X) → filter (ties lt z) (merge_at first x xs (merge_by first xs) ys) ≡ filter (ties lt z) (x ∷ (xs ++ ys))
+    keeps_at x xs up rest [] = ap (λ l. filter (ties lt z) (x ∷ l)) (sym (append-nil xs))
+    keeps_at x xs up rest (y ∷ ys) = by (keeps_at x xs up rest ys) (first x y) refl
+      where
+        kept : List X → List X
+        kept = filter (ties lt z)
+
+        later_list : List X
+        later_list = merge_at first x xs (merge_by first xs) ys
+
+        moved : kept later_list ≡ kept (x ∷ (xs ++ ys)) → first x y ≡ false → (b : Bool) → ties lt z y ≡ b → cond b (y ∷ kept later_list) (kept later_list) ≡ kept (x ∷ (xs ++ y ∷ ys))
+        moved later e true f =
+            let none : kept (x ∷ xs) ≡ [] = none_ties lt o z x (x ∷ xs) (less_too z y x f (less x y e)) (none_below_itself lt o x xs up) in
+            ap (λ l. y ∷ l) (later ∙ filter-append (ties lt z) (x ∷ xs) ys ∙ ap (λ l. l ++ kept ys) none)
+            ∙ ap (λ b. cond b (y ∷ kept ys) (kept ys)) (sym f) ∙ ap (λ l. l ++ kept (y ∷ ys)) (sym none) ∙ sym (filter-append (ties lt z) (x ∷ xs) (y ∷ ys))
+        moved later e false f =
+            later ∙ filter-append (ties lt z) (x ∷ xs) ys ∙ ap (λ b. kept (x ∷ xs) ++ cond b (y ∷ kept ys) (kept ys)) (sym f)
+            ∙ sym (filter-append (ties lt z) (x ∷ xs) (y ∷ ys))
+
+        by : kept later_list ≡ kept (x ∷ (xs ++ ys)) → (b : Bool) → first x y ≡ b
+            → kept (cond b (x ∷ merge_by first xs (y ∷ ys)) (y ∷ later_list)) ≡ kept (x ∷ (xs ++ y ∷ ys))
+        by later true e = ap (λ l. cond (ties lt z x) (x ∷ l) l) (rest (y ∷ ys))
+        by later false e = moved later e (ties lt z y) refl
+
+    keeps : (xs ys : List X) → Ascends lt xs → filter (ties lt z) (merge_by first xs ys) ≡ filter (ties lt z) (xs ++ ys)
+    keeps [] ys up = refl
+    keeps (x ∷ xs) ys up = keeps_at x xs up (λ zs. keeps xs zs up.1) ys
+
+  -- where the left list ascends, elements that tie stand as in the joined list
+  pub merge_stable : (xs ys : List X) → IsSortedBy lt xs → IsStableBy lt (xs ++ ys) (merge_by first xs ys)
+  merge_stable xs ys up z = keeps z xs ys (ascends_from_sorted lt o xs up)
+
+  -- a list that ascends, in which elements that tie stand as in the joined list, is the merge
+  pub one_merge : (xs ys zs : List X) → IsSortedBy lt xs → IsSortedBy lt ys → IsSortedBy lt zs → IsStableBy lt (xs ++ ys) zs → merge_by first xs ys ≡ zs
+  one_merge xs ys zs up_left up_right up stable =
+      one_list lt o (merge_by first xs ys) zs (ascends_from_sorted lt o _ (merge_sorted xs ys up_left up_right)) (ascends_from_sorted lt o zs up)
+      (λ z. merge_stable xs ys up_left z ∙ sym (stable z))
+
+-- ---- by an order
+
+module _ {X : Type 0} (cmp : X → X → Ordering) (total : IsTotalOrder cmp) where
+  abbrev pub is_below : X → X → Bool
+  is_below x y = is_lt (cmp x y)
+
+  -- of two elements the left one comes first where it is at most the right one
+  abbrev pub merged : List X → List X → List X
+  merged = merge_by (λ x y. is_le (cmp x y))
+
+  at_most : (x y : X) → is_le (cmp x y) ≡ not (is_below y x)
+  at_most x y = by (cmp x y) ∙ ap (λ r. not (is_lt r)) (sym (total.antisymm y x))
+    where
+      by : (r : Ordering) → is_le r ≡ not (is_lt (ordering_reverse r))
+      by Less = refl
+      by Equal = refl
+      by Greater = refl
+
+  weak : IsStrictWeakOrder is_below
+  weak = ranks_by total (λ x. x)
+
+  pub merged_has_both : (xs ys : List X) → IsPermutation (xs ++ ys) (merged xs ys)
+  merged_has_both = merge_has_both (λ x y. is_le (cmp x y))
+
+  pub merged_sorted : (xs ys : List X) → IsSorted cmp xs → IsSorted cmp ys → IsSorted cmp (merged xs ys)
+  merged_sorted = merge_sorted is_below (λ x y. is_le (cmp x y)) weak at_most
+
+  pub merged_stable : (xs ys : List X) → IsSorted cmp xs → IsStable cmp (xs ++ ys) (merged xs ys)
+  merged_stable = merge_stable is_below (λ x y. is_le (cmp x y)) weak at_most
+
+  pub one_merged : (xs ys zs : List X) → IsSorted cmp xs → IsSorted cmp ys → IsSorted cmp zs → IsStable cmp (xs ++ ys) zs → merged xs ys ≡ zs
+  one_merged = one_merge is_below (λ x y. is_le (cmp x y)) weak at_most
