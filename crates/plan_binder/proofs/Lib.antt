@@ -1,4 +1,5 @@
 pub mod BindingLaws
+pub mod BoundParts
 pub mod BoundKinds
 pub mod BoundLeaves
 pub mod CallRowLaws
