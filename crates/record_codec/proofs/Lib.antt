@@ -1,0 +1,10 @@
+pub mod Reaching
+pub mod NameOrder
+pub mod PartLaws
+pub mod ChangeLaws
+pub mod Keyless
+pub mod Told
+pub mod ChainLoop
+pub mod InnerPlan
+pub mod Joined
+pub mod Optional

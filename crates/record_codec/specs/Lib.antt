@@ -1,0 +1,6 @@
+pub mod Spelling
+pub mod Order
+pub mod Tags
+pub mod Formats
+pub mod Reading
+pub mod Place

@@ -1,0 +1,17 @@
+//! The bytes of changes: each change has one spelling, `spell_change` writes it and `read_change` reads it.
+//! The keys of a checkpoint's entries aren't spelled.
+#![tactic(auto)]
+
+mod entries;
+mod order;
+mod parts;
+mod programs;
+pub mod reading;
+pub mod refusal;
+mod snapshot;
+pub mod spelling;
+mod tag;
+
+pub use reading::{one_place, one_spelling, read_change};
+pub use refusal::ChangeRefusal;
+pub use spelling::spell_change;
