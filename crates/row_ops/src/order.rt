@@ -21,8 +21,8 @@ pub fn order_rows(alloc: Global, rows: Vec<Row>, keys: &[Key]) -> Result<Vec<Row
     Ok(ordered)
 }
 
-/// The rows of both lists in one pass. Where both are ordered by these keys, it is the ordered list of the old
-/// rows and then the new ones: of rows with equal keys the old ones come first.
+/// The rows of both lists in one pass. Where both are ordered by these keys, it is the ordered list of the
+/// old rows and then the new ones: of rows with equal keys the old ones come first.
 pub fn merge_ordered(
     alloc: Global,
     old: Vec<Row>,
