@@ -2,7 +2,7 @@
 
 use crate::shown;
 use anyhow::{Context, Result};
-use rows_core::Name;
+use rows_core::{Name, Row, Seq, Value};
 use script_text::{Answer, LimitKind, Refusal, line_count, print_line};
 use std::alloc::Global;
 
@@ -22,6 +22,44 @@ pub fn answer(alloc: Global, arguments: &str) -> Result<String> {
     shown::lines(alloc, &to)
 }
 
+/// The text of a result of so many rows of one number, with the results that were used and kept, numbers with
+/// commas or `-`, and the bytes that were read.
+pub fn result(alloc: Global, quiet: bool, arguments: &str) -> Result<String> {
+    let (count, others) = arguments.split_once(' ').context("no results")?;
+    let (used, others) = others.split_once(' ').context("no kept results")?;
+    let (kept, read) = others.split_once(' ').context("no bytes")?;
+    let answer = Answer::Result {
+        rows: Seq::new(rows(alloc, count.parse::<i64>()?)?),
+        used: Seq::new(ids(alloc, used)?),
+        kept: Seq::new(ids(alloc, kept)?),
+        read: read.parse::<u64>()?,
+    };
+    let mut to = Vec::new(alloc);
+    for line in 0..line_count(&answer, quiet) {
+        print_line(&answer, quiet, line, &mut to)?;
+    }
+    shown::lines(alloc, &to)
+}
+
+// The rows of the numbers below `count`.
+fn rows(alloc: Global, count: i64) -> Result<Vec<Row>> {
+    let mut rows = Vec::new(alloc);
+    for number in 0..count {
+        rows.push(Row::new(vec![in alloc; Value::Int(number)]?))?;
+    }
+    Ok(rows)
+}
+
+fn ids(alloc: Global, text: &str) -> Result<Vec<u32>> {
+    let mut ids = Vec::new(alloc);
+    if text != "-" {
+        for id in text.split(',') {
+            ids.push(id.parse::<u32>()?)?;
+        }
+    }
+    Ok(ids)
+}
+
 fn refusal(alloc: Global, word: &str, argument: &str) -> Result<Refusal> {
     Ok(match word {
         "limit" => Refusal::Limit(limit(argument)?),
@@ -30,6 +68,7 @@ fn refusal(alloc: Global, word: &str, argument: &str) -> Result<Refusal> {
         "exists" => Refusal::Exists(Name::new(alloc, argument.as_bytes())?),
         "type" => Refusal::IllTyped,
         "row" => Refusal::Row(argument.parse::<u64>()?),
+        "overflow" => Refusal::Overflow,
         "memory" => Refusal::Memory,
         _ => return None.context("no such answer"),
     })
@@ -39,11 +78,15 @@ fn limit(word: &str) -> Result<LimitKind> {
     Ok(match word {
         "line" => LimitKind::Line,
         "block" => LimitKind::Block,
+        "nodes" => LimitKind::Nodes,
+        "wide" => LimitKind::Wide,
+        "expr" => LimitKind::Expr,
         "text" => LimitKind::Text,
         "columns" => LimitKind::Columns,
         "streams" => LimitKind::Streams,
         "extents" => LimitKind::Extents,
         "allextents" => LimitKind::AllExtents,
+        "machine" => LimitKind::Machine,
         _ => return None.context("no such limit"),
     })
 }

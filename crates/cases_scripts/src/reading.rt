@@ -2,6 +2,7 @@
 
 use crate::{script, shown};
 use anyhow::{Context, Result};
+use plan_text::{NamedPlan, print_plan};
 use rows_core::{Column, Name, Text};
 use script_text::{Answer, Command, Item, Lines, Refusal, print_line};
 use std::alloc::Global;
@@ -31,7 +32,7 @@ pub fn block(alloc: Global, text: &str) -> Result<String> {
     let _ = reader.take(last.as_slice());
     let mut to = Vec::new(alloc);
     if let (_, Some(item)) = reader.take(b"end\n") {
-        push_item(item, &mut to)?;
+        push_item(alloc, item, &mut to)?;
     }
     shown::lines(alloc, &to)
 }
@@ -46,18 +47,18 @@ fn items(alloc: Global, script: &[u8], piece: usize) -> Result<Vec<u8>> {
         let (taken, item) = reader.take(next);
         rest = &rest[taken..];
         if let Some(item) = item {
-            push_item(item, &mut to)?;
+            push_item(alloc, item, &mut to)?;
         }
     }
     if let Some(item) = reader.finish() {
-        push_item(item, &mut to)?;
+        push_item(alloc, item, &mut to)?;
     }
     Ok(to)
 }
 
-fn push_item(item: Item, to: &mut Vec<u8>) -> Result<()> {
+fn push_item(alloc: Global, item: Item, to: &mut Vec<u8>) -> Result<()> {
     match item {
-        Item::Command(command) => push_command(&command, to),
+        Item::Command(command) => push_command(alloc, &command, to),
         Item::Refused(refusal) => push_refusal(refusal, to),
     }
 }
@@ -67,11 +68,12 @@ fn push_refusal(refusal: Refusal, to: &mut Vec<u8>) -> Result<()> {
     Ok(())
 }
 
-// A stream with its columns, or an append with its row lines behind `>`.
-fn push_command(command: &Command, to: &mut Vec<u8>) -> Result<()> {
+// A stream with its columns, an append with its row lines behind `>`, or a run with its plan.
+fn push_command(alloc: Global, command: &Command, to: &mut Vec<u8>) -> Result<()> {
     match command {
         Command::Stream { name, columns } => push_stream(name, columns.items(), to),
         Command::Append { name, lines } => push_append(name, lines.items(), to),
+        Command::Run { name, plan } => push_run(alloc, name, plan, to),
     }
 }
 
@@ -95,6 +97,16 @@ fn push_append(name: &Name, lines: &[Text], to: &mut Vec<u8>) -> Result<()> {
         to.push(b'>')?;
         to.extend_from_slice(line.items())?;
     }
+    to.push(b'\n')?;
+    Ok(())
+}
+
+fn push_run(alloc: Global, name: &Name, plan: &NamedPlan, to: &mut Vec<u8>) -> Result<()> {
+    let text = print_plan(alloc, plan)?;
+    to.extend_from_slice(b"run ")?;
+    to.extend_from_slice(name.bytes())?;
+    to.extend_from_slice(b" = ")?;
+    to.extend_from_slice(text.as_slice())?;
     to.push(b'\n')?;
     Ok(())
 }

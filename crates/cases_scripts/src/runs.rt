@@ -24,6 +24,18 @@ pub fn run(alloc: Global, text: &str) -> Result<String> {
     Ok(format!(in alloc; "{exit:?}: {answers}")?)
 }
 
+/// The exit, and how many bytes each line of the answers has, without its LF.
+pub fn lengths(alloc: Global, text: &str) -> Result<String> {
+    let script = script::bytes(alloc, text)?;
+    let (exit, sink) = outcome(alloc, &script, usize::MAX)?;
+    let mut shown = format!(in alloc; "{exit:?}:")?;
+    for line in sink.written().split_inclusive(|byte| *byte == b'\n') {
+        let len = line.len().saturating_sub(1);
+        shown.push_str(format!(in alloc; " {len}")?.as_str())?;
+    }
+    Ok(shown)
+}
+
 /// The exit and the answers over a reader of std and a writer that takes one byte a write.
 pub fn over_std(alloc: Global, text: &str) -> Result<String> {
     let script = script::bytes(alloc, text)?;

@@ -18,8 +18,9 @@ use rows_core::{Memory, Row};
 use std::alloc::Global;
 
 /// What is kept of the groups of rows with equal key columns, in the order in which their keys first occur:
-/// `GroupBy` of LINQ to Objects. Each row costs one look-up, and no row is copied. There are at most
-/// 4,294,967,295 rows, so that the groups are within the bounds of `merge` and `finish`.
+/// `GroupBy` of LINQ to Objects. Each row costs one look-up, and an insertion where its key is new; no row is
+/// copied. There are at most 4,294,967,295 rows, so that the groups are within the bounds of `merge` and
+/// `finish`.
 pub fn fold(
     alloc: Global,
     rows: &[Row],

@@ -18,8 +18,8 @@ use std::alloc::Global;
 
 /// The old groups, each with what the new group of the same key adds, and then the new groups with other
 /// keys: where the two are the groups of two lists of rows, the groups of the joined list. The groups are
-/// moved, and each costs one look-up. Within the bounds no count and no sum wraps; those of the result may lie
-/// outside of them.
+/// moved: an old one costs an insertion, a new one a look-up, and an insertion where its key is new. Within
+/// the bounds no count and no sum wraps; those of the result may lie outside of them.
 pub fn merge(
     alloc: Global,
     old: Vec<GroupRow>,

@@ -9,7 +9,9 @@ use row_blob::TaggedRow;
 use rows_core::{Memory, Row, Value};
 use std::alloc::Global;
 
-/// Each left row followed by each right row that agrees with it.
+/// Each left row followed by each right row that agrees with it, in the order of the left rows and, for each,
+/// of the right ones, with the position of the left row: `Join` of LINQ to Objects. Positions are counted
+/// from `first`, and none passes u64. It costs its lists and its result, and not their product.
 pub fn join_tagged(
     alloc: Global,
     left: &[Row],
@@ -40,7 +42,8 @@ fn join_found(
     joined: &mut Vec<TaggedRow>,
 ) -> Result<(), Memory>
     ensures { OnOk result (joined.new.items ≡ joined.old.items
-        ++ map (λ right. record { left = position; row = left.now ++ right }) (rows_under index.now key.now)) }
+        ++ map (λ right. record { left = position; row = left.now ++ right })
+        (rows_under index.now key.now)) }
 {
     match index.get(key) {
         Some(rights) => join_row(alloc, left, position, rights.as_slice(), joined),

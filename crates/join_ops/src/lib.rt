@@ -1,5 +1,5 @@
-//! Joins of lists of rows. The rows of a join are kept with the positions of their left rows, so that it can grow
-//! with either list.
+//! Joins of lists of rows. The rows of a join are kept with the positions of their left rows, so that it can
+//! grow with either list.
 #![tactic(auto)]
 
 mod index;

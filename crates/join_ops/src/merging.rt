@@ -10,9 +10,9 @@ use row_blob::TaggedRow;
 use rows_core::Memory;
 use std::alloc::Global;
 
-/// The rows of both lists by the positions of their left rows, the old ones first where these are equal: what a
-/// join gives with a longer right list, where the new rows are those with the right rows that have come. Both
-/// lists ascend by position. It takes no row anew.
+/// The rows of both lists by the positions of their left rows, the old ones first where these are equal: what
+/// a join gives with a longer right list, where the new rows are those with the right rows that have come.
+/// Both lists ascend by position. It copies no row.
 pub fn merge_tagged(
     alloc: Global,
     old: Vec<TaggedRow>,
@@ -41,8 +41,8 @@ fn merge_rows(
     Ok(merged.collect(alloc)?)
 }
 
-/// The rows of both lists, the old ones first: what a join gives with a longer left list, where the new rows are
-/// those of the left rows that have come. No position of the new rows is below one of the old ones.
+/// The rows of both lists, the old ones first: what a join gives with a longer left list, where the new rows
+/// are those of the left rows that have come. No position of the new rows is below one of the old ones.
 pub fn append_tagged(
     alloc: Global,
     old: Vec<TaggedRow>,

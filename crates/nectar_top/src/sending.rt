@@ -1,13 +1,13 @@
 //! Answers on their way to the sink.
-ghost use Rattle.std.specs.Prelude.{◌≡◌, ◌<◌, ◌≤◌, ◌++◌, List, All, false, ℕ, length, OnOk, OnErr};
+ghost use Rattle.std.specs.Prelude.{◌≡◌, ◌<◌, ◌≤◌, ◌++◌, List, ℕ, length, OnOk, OnErr};
 ghost use Rattle.std.specs.Prelude.{vec_capacity, vec_len};
 ghost use Rattle.std.specs.Io.KnownBytes.{Appends};
 ghost use Rattle.outside_traits.specs.Counts.{Rose};
-ghost use Rattle.script_text.specs.Answer.{IsShort, answer_lines, answer_text};
+ghost use Rattle.script_text.specs.Answer.{IsNarrow, answer_text};
 ghost use Rattle.nectar_top.specs.Sending.{SentInPart};
 
 use outside_traits::{Failed, Sink};
-use script_text::{Answer, line_count, print_line};
+use script_text::{Answer, line_count, line_is_short, print_line};
 
 /// The most bytes of a line of an answer, with its LF.
 pub const LINE_LEN: usize = 65_536;
@@ -15,7 +15,7 @@ pub const LINE_LEN: usize = 65_536;
 /// Writes an answer line by line, each by way of this room.
 pub fn send<K: Sink>(answer: &Answer, room: &mut Vec<u8>, sink: &mut K) -> Result<(), Failed>
     requires room { 65536 ≤ vec_capacity room.old }
-    requires short { All IsShort (answer_lines false answer.now) }
+    requires narrow { IsNarrow answer.now }
     ensures room { vec_capacity room.old ≤ vec_capacity room.new }
     ensures ok { OnOk result (Appends (K.written sink.old) (K.written sink.new) (answer_text answer.now)) }
     ensures err { OnErr result
@@ -25,6 +25,7 @@ pub fn send<K: Sink>(answer: &Answer, room: &mut Vec<u8>, sink: &mut K) -> Resul
 {
     for line in 0..line_count(answer, false) {
         room.clear();
+        line_is_short(answer, false, line);
         match print_line(answer, false, line, room) {
             Ok(()) => {}
             Err(_) => unreachable!(),

@@ -1,8 +1,8 @@
 //! What serves a script: the reader of its commands, the session, and the room for a line of an answer.
-ghost use Rattle.std.specs.Prelude.{◌≡◌, ℕ, ◌<◌, ◌≤◌, List, All, false, [], ◌++◌, length, take, drop, IfOk};
+ghost use Rattle.std.specs.Prelude.{◌≡◌, ℕ, ◌<◌, ◌≤◌, List, [], ◌++◌, length, take, drop, IfOk};
 ghost use Rattle.std.specs.Prelude.{IfErr, vec_capacity};
 ghost use Rattle.std.specs.Io.KnownBytes.{IsAtEnd};
-ghost use Rattle.script_text.specs.Answer.{IsShort, answer_lines};
+ghost use Rattle.script_text.specs.Answer.{IsNarrow};
 ghost use Rattle.script_text.specs.Script.{IsWholeItem};
 ghost use Rattle.session.specs.State.{State, empty_state, StandsFor};
 ghost use Rattle.nectar_top.specs.Machine.{Step};
@@ -15,7 +15,7 @@ use crate::exit::Exit;
 use crate::sending::{LINE_LEN, send};
 use outside_traits::{Failed, Sink};
 use rows_core::Memory;
-use script_text::{Answer, Item, Lines, refusal_is_short};
+use script_text::{Answer, Item, Lines};
 use session::Session;
 use std::alloc::Global;
 
@@ -165,13 +165,10 @@ fn answer<K: Sink>(
 fn perform(session: Session, item: Item) -> (Session, Answer)
     requires { IsWholeItem item }
     ensures step { Step session item result.1 result.0 }
-    ensures short { All IsShort (answer_lines false result.1) }
+    ensures narrow { IsNarrow result.1 }
 {
     match item {
         Item::Command(command) => session.step(command),
-        Item::Refused(refusal) => {
-            refusal_is_short(&refusal);
-            (session, Answer::Refused(refusal))
-        }
+        Item::Refused(refusal) => (session, Answer::Refused(refusal)),
     }
 }

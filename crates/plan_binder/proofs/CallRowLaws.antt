@@ -22,7 +22,8 @@ use Rattle.plan_binder.specs.Binding.{Names, Bound, kind_or_int, call1, call2, o
 use Rattle.plan_binder.specs.CallRows.{has_no_row, bound_kind, lacks_row, test_lacks_row, columns_lack_row, plan_lacks_row}
 use Rattle.plan_binder.proofs.OpRowLaws.{chosen_found}
 use Rattle.plan_core.proofs.ValueKinds.{then_some, map_some, both_some, unless_some, where_some}
-use Rattle.plan_binder.proofs.BoundKinds.{columns_some, bound_kinds}
+use Rattle.plan_binder.proofs.BoundParts.{BoundAs, scan, filter, select, distinct, group, join, concat, order, parts}
+use Rattle.plan_binder.proofs.BoundKinds.{bound_kinds}
 
 -- what is refused wherever it is found isn't there
 pub not_there : {A : Type 0} (o : Option A) (lacks : Bool) → ((x : A) → o ≡ Some x → lacks ≡ false) → lacks ≡ true → o ≡ None
@@ -30,14 +31,14 @@ not_there None lacks refused e = refl
 not_there (Some x) lacks refused e = absurd (false≢true (sym (refused x refl) ∙ e))
 
 -- two parts of a list that is all there
-record AreAll {A : Type 0} (o : Option A) (os : List (Option A)) (ys : List A) : Type 0 where
-  first : A
-  others : List A
-  first_there : o ≡ Some first
-  others_there : all_there os ≡ Some others
-  both : ys ≡ first ∷ others
+pub record AreAll {A : Type 0} (o : Option A) (os : List (Option A)) (ys : List A) : Type 0 where
+  pub first : A
+  pub others : List A
+  pub first_there : o ≡ Some first
+  pub others_there : all_there os ≡ Some others
+  pub both : ys ≡ first ∷ others
 
-all_cons : {A : Type 0} (o : Option A) (os : List (Option A)) (ys : List A) → all_there (o ∷ os) ≡ Some ys → AreAll o os ys
+pub all_cons : {A : Type 0} (o : Option A) (os : List (Option A)) (ys : List A) → all_there (o ∷ os) ≡ Some ys → AreAll o os ys
 all_cons None os ys e = absurd cc
 all_cons (Some x) os ys e = go (all_there os) refl e
   where
@@ -95,29 +96,29 @@ choice_typed (Some kind.Bool) (Some j) (Some l) k e =
     record { test = kind.Bool; first = j; second = l; test_kind = refl; first_kind = refl; second_kind = refl }
 choice_typed _ _ _ k e = absurd cc
 
-record AreTwo (make : bound.PlainExpr → bound.PlainExpr → bound.PlainExpr) (o p : Option bound.PlainExpr) (x : bound.PlainExpr) : Type 0 where
-  left : bound.PlainExpr
-  right : bound.PlainExpr
-  left_there : o ≡ Some left
-  right_there : p ≡ Some right
-  gives : make left right ≡ x
+pub record AreTwo (make : bound.PlainExpr → bound.PlainExpr → bound.PlainExpr) (o p : Option bound.PlainExpr) (x : bound.PlainExpr) : Type 0 where
+  pub left : bound.PlainExpr
+  pub right : bound.PlainExpr
+  pub left_there : o ≡ Some left
+  pub right_there : p ≡ Some right
+  pub gives : make left right ≡ x
 
-two_some : (make : bound.PlainExpr → bound.PlainExpr → bound.PlainExpr) (o p : Option bound.PlainExpr) (x : bound.PlainExpr)
+pub two_some : (make : bound.PlainExpr → bound.PlainExpr → bound.PlainExpr) (o p : Option bound.PlainExpr) (x : bound.PlainExpr)
     → of_two make o p ≡ Some x → AreTwo make o p x
 two_some make (Some y) (Some z) x e = record { left = y; right = z; left_there = refl; right_there = refl; gives = cc }
 two_some make (Some y) None x e = absurd cc
 two_some make None p x e = absurd cc
 
-record AreThree (o p q : Option bound.PlainExpr) (x : bound.PlainExpr) : Type 0 where
-  test : bound.PlainExpr
-  first : bound.PlainExpr
-  second : bound.PlainExpr
-  test_there : o ≡ Some test
-  first_there : p ≡ Some first
-  second_there : q ≡ Some second
-  gives : bound.If test first second ≡ x
+pub record AreThree (o p q : Option bound.PlainExpr) (x : bound.PlainExpr) : Type 0 where
+  pub test : bound.PlainExpr
+  pub first : bound.PlainExpr
+  pub second : bound.PlainExpr
+  pub test_there : o ≡ Some test
+  pub first_there : p ≡ Some first
+  pub second_there : q ≡ Some second
+  pub gives : bound.If test first second ≡ x
 
-three_some : (o p q : Option bound.PlainExpr) (x : bound.PlainExpr) → of_three bound.If o p q ≡ Some x → AreThree o p q x
+pub three_some : (o p q : Option bound.PlainExpr) (x : bound.PlainExpr) → of_three bound.If o p q ≡ Some x → AreThree o p q x
 three_some (Some t) (Some y) (Some z) x e =
     record { test = t; first = y; second = z; test_there = refl; first_there = refl; second_there = refl; gives = cc }
 three_some (Some t) (Some y) None x e = absurd cc
@@ -201,83 +202,38 @@ module _ (streams : Names) (schemas : List (List schema.Column)) where
   abbrev bound_to : PlainTree → Option Bound
   bound_to tree = bound_tree streams schemas tree
 
-  abbrev PlanHasRows : PlainTree → Type 0
-  PlanHasRows tree = (b : Bound) (kinds : Kinds) → bound_to tree ≡ Some b → typing b.plan ≡ Some kinds → lacks tree ≡ false
-
-  where_rows : (child : PlainTree) (test : named.PlainExpr) → PlanHasRows child → PlanHasRows (Where child test)
-  where_rows child test below b kinds is typed =
-      let input = then_some (bound_where test) (bound_to child) b is in
-      let e = map_some (λ e. record { plan = Filter input.0.plan e; names = input.0.names; kinds = input.0.kinds }) (bound_expr input.0.names input.0.kinds test) b input.1.1 in
-      let its = then_some (filter_kinds e.0) (typing input.0.plan) kinds (ap (λ (x : Bound). typing x.plan) e.1.1 ∙ typed) in
-      let same = bound_kinds streams schemas child input.0 input.1.0 its.0 its.1.0 in
-      let truth = truth_typed (expression_kind its.0 e.0) its.0 kinds its.1.1 in
+  rows : {tree : PlainTree} {b : Bound} → BoundAs streams schemas tree b → (kinds : Kinds) → typing b.plan ≡ Some kinds → lacks tree ≡ false
+  rows (scan at there) = λ kinds typed. refl
+  rows (filter {child = child} {test = test} {input = input} {e = e} is x at) = λ kinds typed.
+      let its = then_some (filter_kinds e) (typing input.plan) kinds typed in
+      let same = bound_kinds streams schemas child input is its.0 its.1.0 in
+      let truth = truth_typed (expression_kind its.0 e) its.0 kinds its.1.1 in
       or_from _ _
-      (ap (test_lacks_row test) input.1.0
-      ∙ typed_rows input.0.names input.0.kinds test e.0 truth.0 e.1.0 (ap (λ (ks : Kinds). expression_kind ks e.0) same ∙ truth.1))
-      (below input.0 its.0 input.1.0 its.1.0)
-
-  select_rows : (child : PlainTree) (columns : List PlainColumn) → PlanHasRows child → PlanHasRows (Select child columns)
-  select_rows child columns below b kinds is typed =
-      let input = then_some (bound_select columns) (bound_to child) b is in
-      let names : Names = map (λ column. column.name) columns in
-      let exprs = then_some (projected input.0 names) (all_there (map (λ column. bound_expr input.0.names input.0.kinds column.expr) columns)) b input.1.1 in
-      let plan = columns_some (Project input.0.plan exprs.0) names (map (λ e. kind_or_int (column_kind_of input.0.kinds e)) exprs.0) b exprs.1.1 in
-      let its = then_some (project_kinds exprs.0) (typing input.0.plan) kinds (ap (λ (x : Bound). typing x.plan) plan ∙ typed) in
-      let same = bound_kinds streams schemas child input.0 input.1.0 its.0 its.1.0 in
+      (ap (test_lacks_row test) is ∙ typed_rows input.names input.kinds test e truth.0 at (ap (λ (ks : Kinds). expression_kind ks e) same ∙ truth.1))
+      (rows x its.0 its.1.0)
+  rows (select {child = child} {columns = columns} {input = input} {exprs = exprs} is x there) = λ kinds typed.
+      let its = then_some (project_kinds exprs) (typing input.plan) kinds typed in
+      let same = bound_kinds streams schemas child input is its.0 its.1.0 in
       or_from _ _
-      (ap (columns_lack_row columns) input.1.0
-      ∙ columns_rows input.0.names input.0.kinds columns exprs.0 kinds exprs.1.0
-      (ap (λ (ks : Kinds). all_there (map (column_kind_of ks) exprs.0)) same ∙ unless_some (is_empty exprs.0) (all_there (map (column_kind_of its.0) exprs.0)) kinds its.1.1))
-      (below input.0 its.0 input.1.0 its.1.0)
+      (ap (columns_lack_row columns) is
+      ∙ columns_rows input.names input.kinds columns exprs kinds there
+      (ap (λ (ks : Kinds). all_there (map (column_kind_of ks) exprs)) same ∙ unless_some (is_empty exprs) (all_there (map (column_kind_of its.0) exprs)) kinds its.1.1))
+      (rows x its.0 its.1.0)
+  rows (distinct x) = λ kinds typed. rows x kinds typed
+  rows (group {input = input} {places = places} {aggs = aggs} x) = λ kinds typed.
+      let its = then_some (group_kinds places aggs) (typing input.plan) kinds typed in
+      rows x its.0 its.1.0
+  rows (join {l = l} {r = r} {pairs = pairs} x y) = λ kinds typed.
+      let its = both_some (join_kinds pairs) (typing l.plan) (typing r.plan) kinds typed in
+      or_from _ _ (rows x its.left its.left_there) (rows y its.right its.right_there)
+  rows (concat {l = l} {r = r} x y) = λ kinds typed.
+      let its = both_some concat_kinds (typing l.plan) (typing r.plan) kinds typed in
+      or_from _ _ (rows x its.left its.left_there) (rows y its.right its.right_there)
+  rows (order {input = input} {places = places} x) = λ kinds typed.
+      let its = then_some (order_kinds places) (typing input.plan) kinds typed in
+      rows x its.0 its.1.0
 
-  distinct_rows : (child : PlainTree) → PlanHasRows child → PlanHasRows (named.Distinct child)
-  distinct_rows child below b kinds is typed =
-      let input = map_some bound_distinct (bound_to child) b is in
-      below input.0 kinds input.1.0 (ap (λ (x : Bound). typing x.plan) input.1.1 ∙ typed)
-
-  group_rows : (child : PlainTree) (keys : Names) (results : List NamedResult) → PlanHasRows child → PlanHasRows (named.Group child keys results)
-  group_rows child keys results below b kinds is typed =
-      let input = then_some (bound_group keys results) (bound_to child) b is in
-      let names : Names = keys ++ map (λ result. result.name) results in
-      let both = both_some (grouped input.0 names) (all_there (map (place_of input.0.names) keys)) (all_there (map (λ result. bound_agg input.0.names result.agg) results)) b input.1.1 in
-      let plan = columns_some (Group input.0.plan both.left both.right) names
-      (map (λ place. kind_or_int (slice_get input.0.kinds place)) both.left ++ map (λ a. kind_or_int (agg_kind input.0.kinds a)) both.right) b both.gives in
-      let its = then_some (group_kinds both.left both.right) (typing input.0.plan) kinds (ap (λ (x : Bound). typing x.plan) plan ∙ typed) in
-      below input.0 its.0 input.1.0 its.1.0
-
-  order_rows : (child : PlainTree) (keys : List NamedKey) → PlanHasRows child → PlanHasRows (named.Order child keys)
-  order_rows child keys below b kinds is typed =
-      let input = then_some (bound_order keys) (bound_to child) b is in
-      let places = map_some (λ places. record { plan = Order input.0.plan places; names = input.0.names; kinds = input.0.kinds }) (all_there (map (bound_key input.0.names) keys)) b input.1.1 in
-      let its = then_some (order_kinds places.0) (typing input.0.plan) kinds (ap (λ (x : Bound). typing x.plan) places.1.1 ∙ typed) in
-      below input.0 its.0 input.1.0 its.1.0
-
-  join_rows : (left right : PlainTree) (on : List NamedPair) → PlanHasRows left → PlanHasRows right → PlanHasRows (named.Join left right on)
-  join_rows left right on first second b kinds is typed =
-      let both = both_some (bound_join on) (bound_to left) (bound_to right) b is in
-      let pairs = then_some (joined both.left both.right) (all_there (map (bound_pair both.left.names both.right.names) on)) b both.gives in
-      let plan = columns_some (Join both.left.plan both.right.plan pairs.0) (both.left.names ++ both.right.names) (both.left.kinds ++ both.right.kinds) b pairs.1.1 in
-      let its = both_some (join_kinds pairs.0) (typing both.left.plan) (typing both.right.plan) kinds (ap (λ (x : Bound). typing x.plan) plan ∙ typed) in
-      or_from _ _ (first both.left its.left both.left_there its.left_there) (second both.right its.right both.right_there its.right_there)
-
-  concat_rows : (left right : PlainTree) → PlanHasRows left → PlanHasRows right → PlanHasRows (named.Concat left right)
-  concat_rows left right first second b kinds is typed =
-      let both = both_some bound_concat (bound_to left) (bound_to right) b is in
-      let plan = where_some true (record { plan = Concat both.left.plan both.right.plan; names = both.left.names; kinds = both.left.kinds }) b both.gives in
-      let its = both_some concat_kinds (typing both.left.plan) (typing both.right.plan) kinds (ap (λ (x : Bound). typing x.plan) plan ∙ typed) in
-      or_from _ _ (first both.left its.left both.left_there its.left_there) (second both.right its.right both.right_there its.right_there)
-
-  plan_rows : (tree : PlainTree) → PlanHasRows tree
-  plan_rows (From stream) = λ b kinds is typed. refl
-  plan_rows (Where child test) = where_rows child test (plan_rows child)
-  plan_rows (Select child columns) = select_rows child columns (plan_rows child)
-  plan_rows (named.Distinct child) = distinct_rows child (plan_rows child)
-  plan_rows (named.Group child keys results) = group_rows child keys results (plan_rows child)
-  plan_rows (named.Join left right on) = join_rows left right on (plan_rows left) (plan_rows right)
-  plan_rows (named.Concat left right) = concat_rows left right (plan_rows left) (plan_rows right)
-  plan_rows (named.Order child keys) = order_rows child keys (plan_rows child)
-
-  bound_plan : (tree : PlainTree) (plan : PlainPlan) → binding streams schemas tree ≡ Ok plan → (b : Bound) × ((bound_to tree ≡ Some b) × (b.plan ≡ plan))
+  pub bound_plan : (tree : PlainTree) (plan : PlainPlan) → binding streams schemas tree ≡ Ok plan → (b : Bound) × ((bound_to tree ≡ Some b) × (b.plan ≡ plan))
   bound_plan tree plan is = go (absent_stream streams tree) (bound_to tree) refl is
     where
       go : (absent : Option (List ℕ)) (o : Option Bound) → bound_to tree ≡ o → present_or absent (plan_or_ill_typed o) ≡ Ok plan
@@ -289,4 +245,4 @@ module _ (streams : Names) (schemas : List (List schema.Column)) where
   pub plan_without_row : (tree : PlainTree) (plan : PlainPlan) → binding streams schemas tree ≡ Ok plan → lacks tree ≡ true → typing plan ≡ None
   plan_without_row tree plan is =
       let b = bound_plan tree plan is in
-      not_there (typing plan) (lacks tree) (λ kinds typed. plan_rows tree b.0 kinds b.1.0 (ap typing b.1.1 ∙ typed))
+      not_there (typing plan) (lacks tree) (λ kinds typed. rows (parts streams schemas tree b.0 b.1.0) kinds (ap typing b.1.1 ∙ typed))

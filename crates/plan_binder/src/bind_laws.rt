@@ -1,14 +1,16 @@
 //! Laws of binding.
-ghost use Rattle.std.specs.Prelude.{◌≡◌, [], ◌∷◌, map, ℕ, List, Option, None, Some, Ok, IsSome, IsTrue};
+ghost use Rattle.std.specs.Prelude.{◌≡◌, ◌≤◌, [], ◌∷◌, map, ℕ, List, Option, None, Some, Ok, IsSome, IsTrue};
 ghost use Rattle.rows_core.specs.declared.schema.Column.{Column};
 ghost use Rattle.rows_core.specs.Schema.{kinds_of};
 ghost use Rattle.scalar_ops.specs.declared.cell.CellKind.{CellKind};
 ghost use Rattle.scalar_ops.specs.declared.table.Op.{Op};
 ghost use Rattle.scalar_ops.specs.Meaning.{op_at};
+ghost use Rattle.plan_core.specs.Nesting.{expr_count, node_count};
 ghost use Rattle.plan_core.specs.PlainExpr.{PlainExpr};
-ghost use Rattle.plan_core.specs.PlainPlan.{PlainPlan, leaves};
+ghost use Rattle.plan_core.specs.PlainPlan.{PlainPlan, leaves, leaf_count};
 ghost use Rattle.plan_core.specs.ExpressionKind.{call_kind, expression_kind};
 ghost use Rattle.plan_core.specs.PlanTyping.{Kinds, plan_kinds};
+ghost use Rattle.plan_grammar.specs.Counts.{nodes, all_expr_nodes, IsWithinLimits};
 ghost use Rattle.plan_grammar.specs.PlainNamed.{PlainTree, streams_of};
 ghost use Rattle.plan_grammar.specs.PlainNamed as named;
 ghost use Rattle.plan_binder.specs.OpRows.{row_for};
@@ -58,4 +60,17 @@ pub fn plans_without_a_row_have_no_typing()
     ensures { (streams : Names) (schemas : List (List Column)) (tree : PlainTree) (plan : PlainPlan) →
         binding streams schemas tree ≡ Ok plan → IsTrue (plan_lacks_row streams schemas tree)
         → plan_kinds (map kinds_of schemas) plan ≡ None }
+{}
+
+/// A bound plan has as many operators and leaves, and as many nodes of expressions, as the plan that was
+/// written. So of a plan within the limits of written plans both are within them, and it has at most nine
+/// leaves.
+pub fn counts_are_of_the_written_plan()
+    ensures nodes { (streams : Names) (schemas : List (List Column)) (tree : PlainTree) (plan : PlainPlan) →
+        binding streams schemas tree ≡ Ok plan → node_count plan ≡ nodes tree }
+    ensures exprs { (streams : Names) (schemas : List (List Column)) (tree : PlainTree) (plan : PlainPlan) →
+        binding streams schemas tree ≡ Ok plan → expr_count plan ≡ all_expr_nodes tree }
+    ensures limits { (streams : Names) (schemas : List (List Column)) (tree : PlainTree) (plan : PlainPlan) →
+        binding streams schemas tree ≡ Ok plan → IsWithinLimits tree
+        → (node_count plan ≤ 40) × (expr_count plan ≤ 512) × (leaf_count plan ≤ 9) }
 {}

@@ -11,7 +11,7 @@ use Rattle.plan_canon.specs.PlanRules.{width, may_fuse, put_in, uses, uses_in, i
 use Rattle.plan_canon.specs.NormalExpr.{and_of, or_of, normal_expr, normal_exprs}
 use Rattle.plan_canon.specs.NormalPlan.{filter_of, project_last, project_of, normal_plan}
 use Rattle.plan_core.specs.Nesting.{size, sizes, expr_count, node_count, expr_nesting, greatest_nesting, nesting}
-use Rattle.plan_canon.proofs.NormalTyping.{two_parts}
+use Rattle.plan_canon.proofs.StepTyping.{two_parts}
 use Rattle.std.specs.List.{list_all}
 use Rattle.std.specs.Prelude.{not}
 
@@ -37,7 +37,7 @@ nested_size true f b w z n hb hw hz = hb
 nested_size false true b w z n hb hw hz = hw
 nested_size false false b w z n hb hw hz = hz
 
-and_size : (a b : PlainExpr) → size (and_of a b) ≤ 1 + size a + size b
+pub and_size : (a b : PlainExpr) → size (and_of a b) ≤ 1 + size a + size b
 and_size a (And b c) = nested_size (is_true a) (is_false a) (And b c) (truth false) (And (and_of a b) c) (1 + size a + (1 + size b + size c)) (omega arith) (omega arith) (omega (arith, and_size a b))
 and_size a b = flat_size (is_true a) (is_true b) (is_false a) a b (truth false) (And a b) refl refl
 

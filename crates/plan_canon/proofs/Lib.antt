@@ -4,8 +4,9 @@ pub mod NormalPlans
 pub mod SameValues
 pub mod TestLaws
 pub mod Fused
-pub mod NormalTyping
-pub mod NormalMeaning
+pub mod StepTyping
+pub mod StepMeaning
 pub mod Depth
 pub mod Later
 pub mod NormalParts
+pub mod Large

@@ -1,5 +1,5 @@
--- A normal expression has the kind and the values of the expression.
-use Rattle.std.proofs.Common.{◌≡◌, refl, sym, ap, ◌∙◌, ℕ, Bool, true, false, ◌&&◌, not, cond, List, [], ◌∷◌, map, Option, None, Some, unwrap_or, Result, Ok, Err}
+-- Each rule of expressions, and each step, keeps the kind and the values.
+use Rattle.std.proofs.Common.{◌≡◌, refl, sym, ap, ◌∙◌, subst, ℕ, Bool, true, false, ◌&&◌, not, cond, List, [], ◌∷◌, map, Option, None, Some, IfSome, Result, Ok, Err}
 use Rattle.std.specs.Option.{option_map, option_and_then, is_some}
 use Rattle.rows_core.specs.declared.overflow.Overflow.{Overflow}
 use Rattle.rows_core.specs.declared.kind.Kind as column
@@ -16,8 +16,8 @@ use Rattle.plan_core.specs.ExpressionKind.{expression_kind, call_kind, both_trut
 use Rattle.plan_core.specs.ExpressionValue.{◌>>=◌, expression_value}
 use Rattle.plan_core.specs.ExpressionValue.{is_true as holds}
 use Rattle.plan_core.proofs.ValueKinds.{typed_value}
-use Rattle.plan_canon.specs.ExprRules.{truth, is_true, is_false, cell_given, call1_rule, call2_rule}
-use Rattle.plan_canon.specs.NormalExpr.{and_of, or_of, normal_expr}
+use Rattle.plan_canon.specs.ExprRules.{truth, is_true, is_false, cell_given, call1_rule, call2_rule, and_to_the_left, or_to_the_left, and_rule, or_rule, if_rule, expr_step}
+use Rattle.plan_canon.proofs.Reached.{inside, each_of, both_of}
 
 pub true_is : (a : PlainExpr) → is_true a ≡ true → a ≡ truth true
 true_is (Literal (cell.Bool true)) e = refl
@@ -95,76 +95,101 @@ pub allowed : (d v : Bool) (o : Option CellKind) (k : CellKind) → o ≡ Some k
 allowed true v o k e h = ap (λ v. cond (not v) None o) (h refl) ∙ e
 allowed false v o k e h = e
 
-divisor_kept : (b : PlainExpr) → is_divisor b ≡ true → is_divisor (normal_expr b) ≡ true
-divisor_kept (Literal c) e = e
-divisor_kept _ e = absurd cc
+-- a literal has no step
+divisor_step : (b : PlainExpr) → IfSome (expr_step b) (λ x. is_divisor b ≡ true → is_divisor x ≡ true)
+divisor_step (Literal c) = tt
+divisor_step b = each_of (λ x. is_divisor b ≡ true → is_divisor x ≡ true) (expr_step b) (λ x step e. absurd cc)
 
 module _ (kinds : List column.Kind) where
   abbrev pub HasKind : PlainExpr → CellKind → Type 0
   HasKind e k = expression_kind kinds e ≡ Some k
 
-  literal_or : (o : Option Cell) (e : PlainExpr) (k : CellKind) → HasKind e k → ((c : Cell) → o ≡ Some c → kind_of_cell c ≡ k) → HasKind (unwrap_or (option_map Literal o) e) k
-  literal_or None e k typed h = typed
-  literal_or (Some c) e k typed h = ap Some (h c refl)
-
-  flat_kind : (t u f : Bool) (a b z : PlainExpr) (k : CellKind) → HasKind a k → HasKind b k → HasKind z k → (w : PlainExpr) → HasKind w k → HasKind (cond t b (cond u a (cond f w z))) k
-  flat_kind true u f a b z k ha hb hz w hw = hb
-  flat_kind false true f a b z k ha hb hz w hw = ha
-  flat_kind false false true a b z k ha hb hz w hw = hw
-  flat_kind false false false a b z k ha hb hz w hw = hz
-
   pub both : {A : Type 0} (f : Option CellKind → Option CellKind → A) {o p q r : Option CellKind} → o ≡ q → p ≡ r → f o p ≡ f q r
   both f e h = λ i. f (e i) (h i)
-
-  nested_kind : (t f : Bool) (b z w : PlainExpr) (k : CellKind) → HasKind b k → HasKind z k → HasKind w k → HasKind (cond t b (cond f w z)) k
-  nested_kind true f b z w k hb hz hw = hb
-  nested_kind false true b z w k hb hz hw = hw
-  nested_kind false false b z w k hb hz hw = hz
-
-  pub and_of-kind : (a b : PlainExpr) → HasKind a kind.Bool → HasKind b kind.Bool → HasKind (and_of a b) kind.Bool
-  and_of-kind a (And b c) ha hb =
-      let parts = truths (expression_kind kinds b) (expression_kind kinds c) kind.Bool hb in
-      nested_kind (is_true a) (is_false a) (And b c) (And (and_of a b) c) (truth false) kind.Bool hb
-      (both both_truths (and_of-kind a b ha parts.0) parts.1) refl
-  and_of-kind a b ha hb = flat_kind (is_true a) (is_true b) (is_false a) a b (And a b) kind.Bool ha hb (both both_truths ha hb) (truth false) refl
-
-  pub or_of-kind : (a b : PlainExpr) → HasKind a kind.Bool → HasKind b kind.Bool → HasKind (or_of a b) kind.Bool
-  or_of-kind a (Or b c) ha hb =
-      let parts = truths (expression_kind kinds b) (expression_kind kinds c) kind.Bool hb in
-      nested_kind (is_false a) (is_true a) (Or b c) (Or (or_of a b) c) (truth true) kind.Bool hb
-      (both both_truths (or_of-kind a b ha parts.0) parts.1) refl
-  or_of-kind a b ha hb = flat_kind (is_false a) (is_false b) (is_true a) a b (Or a b) kind.Bool ha hb (both both_truths ha hb) (truth true) refl
 
   pub if_kind : (c a b : PlainExpr) (k : CellKind) → HasKind c kind.Bool → HasKind a k → HasKind b k → HasKind (If c a b) k
   if_kind c a b k hc ha hb = (λ i. choice_kind (hc i) (ha i) (hb i)) ∙ ap (λ t. cond t (Some k) None) (same_kinds k)
 
-  pub normal_kind : (e : PlainExpr) (k : CellKind) → HasKind e k → HasKind (normal_expr e) k
-  normal_kind (Column i) k h = h
-  normal_kind (Literal c) k h = h
-  normal_kind (Call1 op a) k h =
+  -- ---- rules
+
+  computed_kind : (o : Option Cell) (k : CellKind) → ((c : Cell) → o ≡ Some c → kind_of_cell c ≡ k) → IfSome (option_map Literal o) (λ x. HasKind x k)
+  computed_kind None k h = tt
+  computed_kind (Some c) k h = ap Some (h c refl)
+
+  and_left_kind : (a b : PlainExpr) → HasKind a kind.Bool → HasKind b kind.Bool → IfSome (and_to_the_left a b) (λ x. HasKind x kind.Bool)
+  and_left_kind a (And b c) ha hb =
+      let parts = truths (expression_kind kinds b) (expression_kind kinds c) kind.Bool hb in
+      both both_truths (both both_truths ha parts.0) parts.1
+  and_left_kind a _ ha hb = tt
+
+  or_left_kind : (a b : PlainExpr) → HasKind a kind.Bool → HasKind b kind.Bool → IfSome (or_to_the_left a b) (λ x. HasKind x kind.Bool)
+  or_left_kind a (Or b c) ha hb =
+      let parts = truths (expression_kind kinds b) (expression_kind kinds c) kind.Bool hb in
+      both both_truths (both both_truths ha parts.0) parts.1
+  or_left_kind a _ ha hb = tt
+
+  flat_kind : (t u f w : Bool) (a b : PlainExpr) (left : Option PlainExpr) → HasKind a kind.Bool → HasKind b kind.Bool → IfSome left (λ x. HasKind x kind.Bool)
+      → IfSome (cond t (Some b) (cond u (Some a) (cond f (Some (truth w)) left))) (λ x. HasKind x kind.Bool)
+  flat_kind true u f w a b left ha hb hl = hb
+  flat_kind false true f w a b left ha hb hl = ha
+  flat_kind false false true w a b left ha hb hl = refl
+  flat_kind false false false w a b left ha hb hl = hl
+
+  and_rule_kind : (a b : PlainExpr) (k : CellKind) → HasKind (And a b) k → IfSome (and_rule a b) (λ x. HasKind x k)
+  and_rule_kind a b k h =
+      let parts = truths (expression_kind kinds a) (expression_kind kinds b) k h in
+      subst (λ k. IfSome (and_rule a b) (λ x. HasKind x k)) parts.2
+      (flat_kind (is_true a) (is_true b) (is_false a) false a b (and_to_the_left a b) parts.0 parts.1 (and_left_kind a b parts.0 parts.1))
+
+  or_rule_kind : (a b : PlainExpr) (k : CellKind) → HasKind (Or a b) k → IfSome (or_rule a b) (λ x. HasKind x k)
+  or_rule_kind a b k h =
+      let parts = truths (expression_kind kinds a) (expression_kind kinds b) k h in
+      subst (λ k. IfSome (or_rule a b) (λ x. HasKind x k)) parts.2
+      (flat_kind (is_false a) (is_false b) (is_true a) true a b (or_to_the_left a b) parts.0 parts.1 (or_left_kind a b parts.0 parts.1))
+
+  if_rule_kind : (c a b : PlainExpr) (k : CellKind) → HasKind a k → HasKind b k → IfSome (if_rule c a b) (λ x. HasKind x k)
+  if_rule_kind c a b k ha hb = by (is_true c) (is_false c)
+    where
+      by : (t f : Bool) → IfSome (cond t (Some a) (cond f (Some b) None)) (λ x. HasKind x k)
+      by true f = ha
+      by false true = hb
+      by false false = tt
+
+  -- ---- steps
+
+  pub step_kind : (e : PlainExpr) (k : CellKind) → HasKind e k → IfSome (expr_step e) (λ x. HasKind x k)
+  step_kind (Column i) k h = tt
+  step_kind (Literal c) k h = tt
+  step_kind (Call1 op a) k h =
       let arg = then_some (λ j. call_kind op (j ∷ [])) (expression_kind kinds a) k h in
-      let typed : HasKind (Call1 op (normal_expr a)) k = ap (option_and_then (λ j. call_kind op (j ∷ []))) (normal_kind a arg.0 arg.1) ∙ arg.2 in
-      literal_or (call1_rule op (normal_expr a)) (Call1 op (normal_expr a)) k typed (λ c e. call1_kind kinds op (normal_expr a) c k e typed)
-  normal_kind (Call2 op a b) k h =
+      inside (λ x. HasKind x arg.0) (λ x. HasKind x k) (Call1 op) (expr_step a) _ (λ x is. ap (option_and_then (λ j. call_kind op (j ∷ []))) is ∙ arg.2) (step_kind a arg.0 arg.1)
+      (computed_kind (call1_rule op a) k (λ c e. call1_kind kinds op a c k e h))
+  step_kind (Call2 op a b) k h =
       let whole = unless (is_division (op_at op)) (is_divisor b) _ k h in
       let args = both_some (λ j l. call_kind op (j ∷ l ∷ [])) (expression_kind kinds a) (expression_kind kinds b) k whole.0 in
-      let typed : HasKind (Call2 op (normal_expr a) (normal_expr b)) k =
-      allowed (is_division (op_at op)) (is_divisor (normal_expr b)) _ k
-      (both (of_both (λ j l. call_kind op (j ∷ l ∷ []))) (normal_kind a args.0 args.2) (normal_kind b args.1 args.3) ∙ args.4)
-      (λ d. divisor_kept b (whole.1 d)) in
-      literal_or (call2_rule op (normal_expr a) (normal_expr b)) (Call2 op (normal_expr a) (normal_expr b)) k typed (λ c e. call2_kind kinds op (normal_expr a) (normal_expr b) c k e typed)
-  normal_kind (And a b) k h =
+      inside (λ x. HasKind x args.0) (λ x. HasKind x k) (λ x. Call2 op x b) (expr_step a) _
+      (λ x is. allowed (is_division (op_at op)) (is_divisor b) _ k (both (of_both (λ j l. call_kind op (j ∷ l ∷ []))) is args.3 ∙ args.4) whole.1)
+      (step_kind a args.0 args.2)
+      (inside (λ x. HasKind x args.1 × (is_divisor b ≡ true → is_divisor x ≡ true)) (λ x. HasKind x k) (Call2 op a) (expr_step b) _
+      (λ x is. allowed (is_division (op_at op)) (is_divisor x) _ k (both (of_both (λ j l. call_kind op (j ∷ l ∷ []))) args.2 is.0 ∙ args.4) (λ d. is.1 (whole.1 d)))
+      (both_of (λ x. HasKind x args.1) (λ x. is_divisor b ≡ true → is_divisor x ≡ true) (expr_step b) (step_kind b args.1 args.3) (divisor_step b))
+      (computed_kind (call2_rule op a b) k (λ c e. call2_kind kinds op a b c k e h)))
+  step_kind (And a b) k h =
       let parts = truths (expression_kind kinds a) (expression_kind kinds b) k h in
-      and_of-kind (normal_expr a) (normal_expr b) (normal_kind a kind.Bool parts.0) (normal_kind b kind.Bool parts.1) ∙ ap Some parts.2
-  normal_kind (Or a b) k h =
+      inside (λ x. HasKind x kind.Bool) (λ x. HasKind x k) (λ x. And x b) (expr_step a) _ (λ x is. both both_truths is parts.1 ∙ ap Some parts.2) (step_kind a kind.Bool parts.0)
+      (inside (λ x. HasKind x kind.Bool) (λ x. HasKind x k) (And a) (expr_step b) _ (λ x is. both both_truths parts.0 is ∙ ap Some parts.2) (step_kind b kind.Bool parts.1)
+      (and_rule_kind a b k h))
+  step_kind (Or a b) k h =
       let parts = truths (expression_kind kinds a) (expression_kind kinds b) k h in
-      or_of-kind (normal_expr a) (normal_expr b) (normal_kind a kind.Bool parts.0) (normal_kind b kind.Bool parts.1) ∙ ap Some parts.2
-  normal_kind (If c a b) k h =
+      inside (λ x. HasKind x kind.Bool) (λ x. HasKind x k) (λ x. Or x b) (expr_step a) _ (λ x is. both both_truths is parts.1 ∙ ap Some parts.2) (step_kind a kind.Bool parts.0)
+      (inside (λ x. HasKind x kind.Bool) (λ x. HasKind x k) (Or a) (expr_step b) _ (λ x is. both both_truths parts.0 is ∙ ap Some parts.2) (step_kind b kind.Bool parts.1)
+      (or_rule_kind a b k h))
+  step_kind (If c a b) k h =
       let parts = choices (expression_kind kinds c) (expression_kind kinds a) (expression_kind kinds b) k h in
-      let ha = normal_kind a k parts.1 in
-      let hb = normal_kind b k parts.2 in
-      nested_kind (is_true (normal_expr c)) (is_false (normal_expr c)) (normal_expr a) (If (normal_expr c) (normal_expr a) (normal_expr b)) (normal_expr b) k ha
-      (if_kind (normal_expr c) (normal_expr a) (normal_expr b) k (normal_kind c kind.Bool parts.0) ha hb) hb
+      inside (λ x. HasKind x kind.Bool) (λ x. HasKind x k) (λ x. If x a b) (expr_step c) _ (λ x is. if_kind x a b k is parts.1 parts.2) (step_kind c kind.Bool parts.0)
+      (inside (λ x. HasKind x k) (λ x. HasKind x k) (λ x. If c x b) (expr_step a) _ (λ x is. if_kind c x b k parts.0 is parts.2) (step_kind a k parts.1)
+      (inside (λ x. HasKind x k) (λ x. HasKind x k) (If c a) (expr_step b) _ (λ x is. if_kind c a x k parts.0 parts.1 is) (step_kind b k parts.2)
+      (if_rule_kind c a b k parts.1 parts.2)))
 
 -- ---- values
 
@@ -194,13 +219,13 @@ or_assoc (Ok c) y z = by (holds c)
     by false = refl
 
 -- a truth value is itself `and true`, and `or false`
-and_true : (x : Given) → ((c : Cell) → x ≡ Ok c → kind_of_cell c ≡ kind.Bool) → and_value x (Ok (cell.Bool true)) ≡ x
+and_true : (x : Given) → ((c : Cell) → x ≡ Ok c → kind_of_cell c ≡ kind.Bool) → x ≡ and_value x (Ok (cell.Bool true))
 and_true (Err o) h = refl
 and_true (Ok (cell.Bool true)) h = refl
 and_true (Ok (cell.Bool false)) h = refl
 and_true (Ok c) h = let e = h c refl in absurd cc
 
-or_false : (x : Given) → ((c : Cell) → x ≡ Ok c → kind_of_cell c ≡ kind.Bool) → or_value x (Ok (cell.Bool false)) ≡ x
+or_false : (x : Given) → ((c : Cell) → x ≡ Ok c → kind_of_cell c ≡ kind.Bool) → x ≡ or_value x (Ok (cell.Bool false))
 or_false (Err o) h = refl
 or_false (Ok (cell.Bool true)) h = refl
 or_false (Ok (cell.Bool false)) h = refl
@@ -216,75 +241,93 @@ module _ (row : Row) where
   is_truth : (e : PlainExpr) → IsTest e → (c : Cell) → Value e ≡ Ok c → kind_of_cell c ≡ kind.Bool
   is_truth e typed c is = typed_value e row kind.Bool c typed is
 
-  literal_value : (o : Option Cell) (e : PlainExpr) → ((c : Cell) → o ≡ Some c → Value e ≡ Ok c) → Value (unwrap_or (option_map Literal o) e) ≡ Value e
-  literal_value None e h = refl
-  literal_value (Some c) e h = sym (h c refl)
+  -- ---- rules
 
-  flat_and : (t u f : Bool) (a b : PlainExpr) → is_true a ≡ t → is_true b ≡ u → is_false a ≡ f → IsTest a
-      → Value (cond t b (cond u a (cond f (truth false) (And a b)))) ≡ Value (And a b)
-  flat_and true u f a b p q r ha = sym (ap (λ x. Value (And x b)) (true_is a p))
-  flat_and false true f a b p q r ha = sym (and_true (Value a) (is_truth a ha)) ∙ sym (ap (λ x. Value (And a x)) (true_is b q))
-  flat_and false false true a b p q r ha = sym (ap (λ x. Value (And x b)) (false_is a r))
-  flat_and false false false a b p q r ha = refl
+  pub with_true : (a : PlainExpr) → IsTest a → Value a ≡ Value (And a (truth true))
+  with_true a typed = and_true (Value a) (is_truth a typed)
 
-  pub and_of-value : (a b : PlainExpr) → IsTest a → IsTest b → Value (and_of a b) ≡ Value (And a b)
-  and_of-value a (And b c) ha hb =
-      let parts = truths (expression_kind (map kind_of row) b) (expression_kind (map kind_of row) c) kind.Bool hb in
-      by (is_true a) (is_false a) refl refl (and_of-value a b ha parts.0)
+  pub with_false : (a : PlainExpr) → IsTest a → Value a ≡ Value (Or a (truth false))
+  with_false a typed = or_false (Value a) (is_truth a typed)
+
+  pub and_left_value : (a b c : PlainExpr) → Value (And (And a b) c) ≡ Value (And a (And b c))
+  and_left_value a b c = and_assoc (Value a) (Value b) (Value c)
+
+  pub or_left_value : (a b c : PlainExpr) → Value (Or (Or a b) c) ≡ Value (Or a (Or b c))
+  or_left_value a b c = or_assoc (Value a) (Value b) (Value c)
+
+  computed_value : (o : Option Cell) (v : Given) → ((c : Cell) → o ≡ Some c → v ≡ Ok c) → IfSome (option_map Literal o) (λ x. Value x ≡ v)
+  computed_value None v h = tt
+  computed_value (Some c) v h = sym (h c refl)
+
+  and_rule_value : (a b : PlainExpr) → IsTest a → IfSome (and_rule a b) (λ x. Value x ≡ Value (And a b))
+  and_rule_value a b ha = by (is_true a) (is_true b) (is_false a) refl refl refl
     where
-      by : (t f : Bool) → is_true a ≡ t → is_false a ≡ f → Value (and_of a b) ≡ Value (And a b)
-          → Value (cond t (And b c) (cond f (truth false) (And (and_of a b) c))) ≡ Value (And a (And b c))
-      by true f p r rest = sym (ap (λ x. Value (And x (And b c))) (true_is a p))
-      by false true p r rest = sym (ap (λ x. Value (And x (And b c))) (false_is a r))
-      by false false p r rest = ap (λ v. and_value v (Value c)) rest ∙ and_assoc (Value a) (Value b) (Value c)
-  and_of-value a b ha hb = flat_and (is_true a) (is_true b) (is_false a) a b refl refl refl ha
+      left : (b : PlainExpr) → IfSome (and_to_the_left a b) (λ x. Value x ≡ Value (And a b))
+      left (And b c) = and_left_value a b c
+      left _ = tt
 
-  flat_or : (t u f : Bool) (a b : PlainExpr) → is_false a ≡ t → is_false b ≡ u → is_true a ≡ f → IsTest a
-      → Value (cond t b (cond u a (cond f (truth true) (Or a b)))) ≡ Value (Or a b)
-  flat_or true u f a b p q r ha = sym (ap (λ x. Value (Or x b)) (false_is a p))
-  flat_or false true f a b p q r ha = sym (or_false (Value a) (is_truth a ha)) ∙ sym (ap (λ x. Value (Or a x)) (false_is b q))
-  flat_or false false true a b p q r ha = sym (ap (λ x. Value (Or x b)) (true_is a r))
-  flat_or false false false a b p q r ha = refl
+      by : (t u f : Bool) → is_true a ≡ t → is_true b ≡ u → is_false a ≡ f
+          → IfSome (cond t (Some b) (cond u (Some a) (cond f (Some (truth false)) (and_to_the_left a b)))) (λ x. Value x ≡ Value (And a b))
+      by true u f p q r = sym (ap (λ x. Value (And x b)) (true_is a p))
+      by false true f p q r = with_true a ha ∙ sym (ap (λ x. Value (And a x)) (true_is b q))
+      by false false true p q r = sym (ap (λ x. Value (And x b)) (false_is a r))
+      by false false false p q r = left b
 
-  pub or_of-value : (a b : PlainExpr) → IsTest a → IsTest b → Value (or_of a b) ≡ Value (Or a b)
-  or_of-value a (Or b c) ha hb =
-      let parts = truths (expression_kind (map kind_of row) b) (expression_kind (map kind_of row) c) kind.Bool hb in
-      by (is_false a) (is_true a) refl refl (or_of-value a b ha parts.0)
+  or_rule_value : (a b : PlainExpr) → IsTest a → IfSome (or_rule a b) (λ x. Value x ≡ Value (Or a b))
+  or_rule_value a b ha = by (is_false a) (is_false b) (is_true a) refl refl refl
     where
-      by : (t f : Bool) → is_false a ≡ t → is_true a ≡ f → Value (or_of a b) ≡ Value (Or a b)
-          → Value (cond t (Or b c) (cond f (truth true) (Or (or_of a b) c))) ≡ Value (Or a (Or b c))
-      by true f p r rest = sym (ap (λ x. Value (Or x (Or b c))) (false_is a p))
-      by false true p r rest = sym (ap (λ x. Value (Or x (Or b c))) (true_is a r))
-      by false false p r rest = ap (λ v. or_value v (Value c)) rest ∙ or_assoc (Value a) (Value b) (Value c)
-  or_of-value a b ha hb = flat_or (is_false a) (is_false b) (is_true a) a b refl refl refl ha
+      left : (b : PlainExpr) → IfSome (or_to_the_left a b) (λ x. Value x ≡ Value (Or a b))
+      left (Or b c) = or_left_value a b c
+      left _ = tt
 
-  if_of-value : (t f : Bool) (c a b : PlainExpr) → is_true c ≡ t → is_false c ≡ f → Value (cond t a (cond f b (If c a b))) ≡ Value (If c a b)
-  if_of-value true f c a b p r = sym (ap (λ x. Value (If x a b)) (true_is c p))
-  if_of-value false true c a b p r = sym (ap (λ x. Value (If x a b)) (false_is c r))
-  if_of-value false false c a b p r = refl
+      by : (t u f : Bool) → is_false a ≡ t → is_false b ≡ u → is_true a ≡ f
+          → IfSome (cond t (Some b) (cond u (Some a) (cond f (Some (truth true)) (or_to_the_left a b)))) (λ x. Value x ≡ Value (Or a b))
+      by true u f p q r = sym (ap (λ x. Value (Or x b)) (false_is a p))
+      by false true f p q r = with_false a ha ∙ sym (ap (λ x. Value (Or a x)) (false_is b q))
+      by false false true p q r = sym (ap (λ x. Value (Or x b)) (true_is a r))
+      by false false false p q r = left b
 
-  pub normal_value : (e : PlainExpr) (k : CellKind) → expression_kind (map kind_of row) e ≡ Some k → Value (normal_expr e) ≡ Value e
-  normal_value (Column i) k h = refl
-  normal_value (Literal c) k h = refl
-  normal_value (Call1 op a) k h =
+  if_rule_value : (c a b : PlainExpr) → IfSome (if_rule c a b) (λ x. Value x ≡ Value (If c a b))
+  if_rule_value c a b = by (is_true c) (is_false c) refl refl
+    where
+      by : (t f : Bool) → is_true c ≡ t → is_false c ≡ f → IfSome (cond t (Some a) (cond f (Some b) None)) (λ x. Value x ≡ Value (If c a b))
+      by true f p q = sym (ap (λ x. Value (If x a b)) (true_is c p))
+      by false true p q = sym (ap (λ x. Value (If x a b)) (false_is c q))
+      by false false p q = tt
+
+  -- ---- steps
+
+  pub step_value : (e : PlainExpr) (k : CellKind) → expression_kind (map kind_of row) e ≡ Some k → IfSome (expr_step e) (λ x. Value x ≡ Value e)
+  step_value (Column i) k h = tt
+  step_value (Literal c) k h = tt
+  step_value (Call1 op a) k h =
       let arg = then_some (λ j. call_kind op (j ∷ [])) (expression_kind (map kind_of row) a) k h in
-      literal_value (call1_rule op (normal_expr a)) (Call1 op (normal_expr a)) (λ c e. call1_value op (normal_expr a) c e row)
-      ∙ ap (λ v. v >>= λ x. meaning op (x ∷ [])) (normal_value a arg.0 arg.1)
-  normal_value (Call2 op a b) k h =
+      inside (λ x. Value x ≡ Value a) (λ x. Value x ≡ Value (Call1 op a)) (Call1 op) (expr_step a) _ (λ x is. ap (λ v. v >>= λ x. meaning op (x ∷ [])) is) (step_value a arg.0 arg.1)
+      (computed_value (call1_rule op a) (Value (Call1 op a)) (λ c e. call1_value op a c e row))
+  step_value (Call2 op a b) k h =
       let whole = unless (is_division (op_at op)) (is_divisor b) _ k h in
       let args = both_some (λ j l. call_kind op (j ∷ l ∷ [])) (expression_kind (map kind_of row) a) (expression_kind (map kind_of row) b) k whole.0 in
-      literal_value (call2_rule op (normal_expr a) (normal_expr b)) (Call2 op (normal_expr a) (normal_expr b)) (λ c e. call2_value op (normal_expr a) (normal_expr b) c e row)
-      ∙ ap (λ v. v >>= λ x. Value (normal_expr b) >>= λ y. meaning op (x ∷ y ∷ [])) (normal_value a args.0 args.2)
-      ∙ ap (λ w. Value a >>= λ x. w >>= λ y. meaning op (x ∷ y ∷ [])) (normal_value b args.1 args.3)
-  normal_value (And a b) k h =
+      inside (λ x. Value x ≡ Value a) (λ x. Value x ≡ Value (Call2 op a b)) (λ x. Call2 op x b) (expr_step a) _
+      (λ x is. ap (λ v. v >>= λ x. Value b >>= λ y. meaning op (x ∷ y ∷ [])) is) (step_value a args.0 args.2)
+      (inside (λ x. Value x ≡ Value b) (λ x. Value x ≡ Value (Call2 op a b)) (Call2 op a) (expr_step b) _
+      (λ x is. ap (λ w. Value a >>= λ x. w >>= λ y. meaning op (x ∷ y ∷ [])) is) (step_value b args.1 args.3)
+      (computed_value (call2_rule op a b) (Value (Call2 op a b)) (λ c e. call2_value op a b c e row)))
+  step_value (And a b) k h =
       let parts = truths (expression_kind (map kind_of row) a) (expression_kind (map kind_of row) b) k h in
-      and_of-value (normal_expr a) (normal_expr b) (normal_kind (map kind_of row) a kind.Bool parts.0) (normal_kind (map kind_of row) b kind.Bool parts.1)
-      ∙ (λ i. and_value (normal_value a kind.Bool parts.0 i) (normal_value b kind.Bool parts.1 i))
-  normal_value (Or a b) k h =
+      inside (λ x. Value x ≡ Value a) (λ x. Value x ≡ Value (And a b)) (λ x. And x b) (expr_step a) _ (λ x is. ap (λ v. and_value v (Value b)) is) (step_value a kind.Bool parts.0)
+      (inside (λ x. Value x ≡ Value b) (λ x. Value x ≡ Value (And a b)) (And a) (expr_step b) _ (λ x is. ap (and_value (Value a)) is) (step_value b kind.Bool parts.1)
+      (and_rule_value a b parts.0))
+  step_value (Or a b) k h =
       let parts = truths (expression_kind (map kind_of row) a) (expression_kind (map kind_of row) b) k h in
-      or_of-value (normal_expr a) (normal_expr b) (normal_kind (map kind_of row) a kind.Bool parts.0) (normal_kind (map kind_of row) b kind.Bool parts.1)
-      ∙ (λ i. or_value (normal_value a kind.Bool parts.0 i) (normal_value b kind.Bool parts.1 i))
-  normal_value (If c a b) k h =
+      inside (λ x. Value x ≡ Value a) (λ x. Value x ≡ Value (Or a b)) (λ x. Or x b) (expr_step a) _ (λ x is. ap (λ v. or_value v (Value b)) is) (step_value a kind.Bool parts.0)
+      (inside (λ x. Value x ≡ Value b) (λ x. Value x ≡ Value (Or a b)) (Or a) (expr_step b) _ (λ x is. ap (or_value (Value a)) is) (step_value b kind.Bool parts.1)
+      (or_rule_value a b parts.0))
+  step_value (If c a b) k h =
       let parts = choices (expression_kind (map kind_of row) c) (expression_kind (map kind_of row) a) (expression_kind (map kind_of row) b) k h in
-      if_of-value (is_true (normal_expr c)) (is_false (normal_expr c)) (normal_expr c) (normal_expr a) (normal_expr b) refl refl
-      ∙ (λ i. normal_value c kind.Bool parts.0 i >>= λ x. cond (holds x) (normal_value a k parts.1 i) (normal_value b k parts.2 i))
+      inside (λ x. Value x ≡ Value c) (λ x. Value x ≡ Value (If c a b)) (λ x. If x a b) (expr_step c) _
+      (λ x is. ap (λ v. v >>= λ t. cond (holds t) (Value a) (Value b)) is) (step_value c kind.Bool parts.0)
+      (inside (λ x. Value x ≡ Value a) (λ x. Value x ≡ Value (If c a b)) (λ x. If c x b) (expr_step a) _
+      (λ x is. ap (λ v. Value c >>= λ t. cond (holds t) v (Value b)) is) (step_value a k parts.1)
+      (inside (λ x. Value x ≡ Value b) (λ x. Value x ≡ Value (If c a b)) (If c a) (expr_step b) _
+      (λ x is. ap (λ v. Value c >>= λ t. cond (holds t) (Value a) v) is) (step_value b k parts.2)
+      (if_rule_value c a b)))

@@ -1,6 +1,6 @@
 -- The tokens of a text are those that `tokens_in` gives.
 use Prim.Native.Nat.{zero, suc}
-use Rattle.std.proofs.Common.{◌≡◌, refl, sym, ap, ◌∙◌, subst, ℕ, ◌+◌, ◌-◌, ◌≤◌, ◌<◌, Bool, true, false, cond, ◌&&◌, ◌||◌, ◌==◌, not, nat_le, List, [], ◌∷◌, length, drop, take, Option, Some, None, IsTrue, arith}
+use Rattle.std.proofs.Common.{◌≡◌, refl, ap, ◌∙◌, subst, ℕ, ◌+◌, ◌≤◌, ◌<◌, Bool, true, false, cond, ◌&&◌, ◌==◌, not, nat_le, List, [], ◌∷◌, length, drop, take, Option, Some, None, arith}
 use Rattle.std.proofs.lemmas.Bool.Decides.{nat_tests}
 use Rattle.std.proofs.lemmas.List.{length-drop}
 use Rattle.std.proofs.lemmas.Str.{IsUtf8-from_is_utf8, is_utf8-from_IsUtf8}
@@ -8,13 +8,13 @@ use Rattle.std.specs.List.{list_all}
 use Rattle.std.specs.Option.{option_map, option_and_then}
 use Rattle.std.specs.Str.{is_utf8}
 use Rattle.rows_core.specs.Name.{is_name_byte}
-use Rattle.rows_core.specs.Txt.{IsTxt, is_text_byte}
+use Rattle.rows_core.specs.Txt.{is_text_byte}
 use Rattle.plan_grammar.specs.declared.token.Token.{Token}
 use Rattle.plan_grammar.specs.declared.token.Token.TheVariants.{Name, Word, Number, Text, Mark}
 use Rattle.plan_grammar.specs.declared.token.Mark as the_mark
 use Rattle.plan_grammar.specs.declared.token.Mark.TheVariants as mark
-use Rattle.plan_grammar.specs.Token.{At, before, word_len, word_token, word_at, begins_with, begins_with_digit, with_equal, single_mark, mark_at, is_escaped, with_byte, text_step, text_behind, text_at, mark_token, token_at, IsToken, trimmed, AreTokens}
-use Rattle.plan_grammar.specs.TextTokens.{is_txt, is_token, with_token, tokens_step, tokens_by, tokens_in}
+use Rattle.plan_grammar.specs.Token.{At, word_len, word_token, word_at, begins_with, begins_with_digit, with_equal, single_mark, mark_at, is_escaped, with_byte, text_behind, text_at, mark_token, token_at, IsToken, trimmed, AreTokens}
+use Rattle.plan_grammar.specs.TextTokens.{is_token, with_token, tokens_step, tokens_by, tokens_in}
 
 map_some : {A B : Type 0} (f : A → B) (o : Option A) (y : B) → option_map f o ≡ Some y → (x : A) × (o ≡ Some x) × (f x ≡ y)
 map_some f None y q = absurd (cc q)

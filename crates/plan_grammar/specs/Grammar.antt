@@ -1,14 +1,12 @@
 -- The grammar of plans over tokens. What is spelled stands between two places: the tokens from `from` on, up to those of
 -- `rest`. At most `n` levels of nesting may be open within it: each parenthesis, `not` and `-` before an operand is one.
 use Prim.Native.Nat.{suc}
-use Rattle.std.specs.Prelude.{◌≡◌, ℕ, ◌<◌, Bool, if◌then◌else◌, List, [], ◌∷◌, ◌++◌, Option, None, Some, codes, ℤ, pos, neg_ℤ, FitsSigned}
+use Rattle.std.specs.Prelude.{◌≡◌, ℕ, ◌<◌, ◌≤◌, Bool, if◌then◌else◌, List, [], ◌∷◌, ◌++◌, Some, codes, ℤ, pos, neg_ℤ, FitsSigned}
 use Rattle.std.specs.Int.{w64}
 use Rattle.scalar_ops.specs.declared.cell.Cell.TheVariants as cell
 use Rattle.scalar_ops.specs.declared.table.Op.{Op}
-use Rattle.scalar_ops.specs.declared.table.Op.TheVariants as op
 use Rattle.plan_grammar.specs.declared.token.Token.{Token}
 use Rattle.plan_grammar.specs.declared.token.Token.TheVariants.{Name, Word, Number, Text, Mark}
-use Rattle.plan_grammar.specs.declared.token.Mark as the_mark
 use Rattle.plan_grammar.specs.declared.token.Mark.TheVariants as mark
 use Rattle.plan_grammar.specs.declared.token.Word as the_word
 use Rattle.plan_grammar.specs.declared.token.Word.TheVariants as word
@@ -17,76 +15,19 @@ use Rattle.plan_grammar.specs.declared.plan.NamedAgg.TheVariants as agg
 use Rattle.plan_grammar.specs.declared.plan.NamedResult.{NamedResult}
 use Rattle.plan_grammar.specs.declared.plan.NamedPair.{NamedPair}
 use Rattle.plan_grammar.specs.declared.plan.NamedKey.{NamedKey}
-use Rattle.plan_grammar.specs.PlainNamed.{PlainExpr, Column, Literal, Call1, Call2, And, Or, If, PlainColumn, PlainTree, From, Where, Select, Distinct, Group, Join, Concat, Order}
-
-abbrev pub compare_op : the_mark.Mark → Option Op
-compare_op mark.Equal = Some op.Eq
-compare_op mark.NotEqual = Some op.Ne
-compare_op mark.Less = Some op.Lt
-compare_op mark.LessEqual = Some op.Le
-compare_op mark.Greater = Some op.Gt
-compare_op mark.GreaterEqual = Some op.Ge
-compare_op _ = None
-
--- a `-` between operands may stand directly before a digit
-abbrev pub sum_op : the_mark.Mark → Option Op
-sum_op mark.Plus = Some op.Add
-sum_op mark.Minus = Some op.Sub
-sum_op mark.Sign = Some op.Sub
-sum_op _ = None
-
-abbrev pub mul_op : the_mark.Mark → Option Op
-mul_op mark.Times = Some op.Mul
-mul_op mark.Divide = Some op.Div
-mul_op mark.Rest = Some op.Mod
-mul_op _ = None
-
--- the functions of one argument, and of two
-abbrev pub call1_op : the_word.Word → Option Op
-call1_op word.Len = Some op.Len
-call1_op word.Abs = Some op.Abs
-call1_op _ = None
-
-abbrev pub call2_op : the_word.Word → Option Op
-call2_op word.Starts = Some op.Starts
-call2_op word.Least = Some op.Least
-call2_op word.Most = Some op.Most
-call2_op _ = None
-
--- the rules of expressions, the loosest first
-pub data Rule : Type 0 where
-  E : Rule
-  AND : Rule
-  NOT : Rule
-  CMP : Rule
-  SUM : Rule
-  MUL : Rule
-  UN : Rule
-  ATOM : Rule
+use Rattle.plan_grammar.specs.declared.operator.Infix.{Infix}
+use Rattle.plan_grammar.specs.declared.operator.Prefix.{Prefix}
+use Rattle.plan_grammar.specs.Operators.{Rule, E, ATOM, joined, infix_of, prefix_of, call1_op, call2_op}
+use Rattle.plan_grammar.specs.PlainNamed.{PlainExpr, Column, Literal, Call1, Call2, If, PlainColumn, PlainTree, From, Where, Select, Distinct, Group, Join, Concat, Order}
 
 -- by this rule, and with at most n levels open, the expression stands between `from` and `rest`
 pub data Spells : Rule → ℕ → PlainExpr → List Token → List Token → Type 0 where
-  -- E := AND { or AND }
-  of_and : {n : ℕ} {e : PlainExpr} {from rest : List Token} → Spells AND n e from rest → Spells E n e from rest
-  or : {n : ℕ} {a b : PlainExpr} {from mid rest : List Token} → Spells E n a from (Word word.Or ∷ mid) → Spells AND n b mid rest → Spells E n (Or a b) from rest
-  -- AND := NOT { and NOT }
-  of_not : {n : ℕ} {e : PlainExpr} {from rest : List Token} → Spells NOT n e from rest → Spells AND n e from rest
-  and : {n : ℕ} {a b : PlainExpr} {from mid rest : List Token} → Spells AND n a from (Word word.And ∷ mid) → Spells NOT n b mid rest → Spells AND n (And a b) from rest
-  -- NOT := not NOT | CMP
-  not : {n : ℕ} {a : PlainExpr} {mid rest : List Token} → Spells NOT n a mid rest → Spells NOT (suc n) (Call1 op.Not a) (Word word.Not ∷ mid) rest
-  of_cmp : {n : ℕ} {e : PlainExpr} {from rest : List Token} → Spells CMP n e from rest → Spells NOT n e from rest
-  -- CMP := SUM [ ( = | != | < | <= | > | >= ) SUM ]
-  of_sum : {n : ℕ} {e : PlainExpr} {from rest : List Token} → Spells SUM n e from rest → Spells CMP n e from rest
-  compare : {n : ℕ} {a b : PlainExpr} {from mid rest : List Token} (m : the_mark.Mark) {o : Op} → compare_op m ≡ Some o → Spells SUM n a from (Mark m ∷ mid) → Spells SUM n b mid rest → Spells CMP n (Call2 o a b) from rest
-  -- SUM := MUL { ( + | - ) MUL }
-  of_mul : {n : ℕ} {e : PlainExpr} {from rest : List Token} → Spells MUL n e from rest → Spells SUM n e from rest
-  sum : {n : ℕ} {a b : PlainExpr} {from mid rest : List Token} (m : the_mark.Mark) {o : Op} → sum_op m ≡ Some o → Spells SUM n a from (Mark m ∷ mid) → Spells MUL n b mid rest → Spells SUM n (Call2 o a b) from rest
-  -- MUL := UN { ( * | / | % ) UN }
-  of_un : {n : ℕ} {e : PlainExpr} {from rest : List Token} → Spells UN n e from rest → Spells MUL n e from rest
-  mul : {n : ℕ} {a b : PlainExpr} {from mid rest : List Token} (m : the_mark.Mark) {o : Op} → mul_op m ≡ Some o → Spells MUL n a from (Mark m ∷ mid) → Spells UN n b mid rest → Spells MUL n (Call2 o a b) from rest
-  -- UN := - UN | ATOM
-  neg : {n : ℕ} {a : PlainExpr} {mid rest : List Token} → Spells UN n a mid rest → Spells UN (suc n) (Call1 op.Neg a) (Mark mark.Minus ∷ mid) rest
-  of_atom : {n : ℕ} {e : PlainExpr} {from rest : List Token} → Spells ATOM n e from rest → Spells UN n e from rest
+  -- a looser rule spells what a tighter one does
+  looser : {r s n : ℕ} {e : PlainExpr} {from rest : List Token} → r ≤ s → Spells r n e from rest → Spells s n e from rest
+  -- OPERAND operator OPERAND
+  operation : {n : ℕ} {a b : PlainExpr} {from mid rest : List Token} (t : Token) {o : Infix} → infix_of t ≡ Some o → Spells o.left n a from (t ∷ mid) → Spells o.right n b mid rest → Spells o.rule n (joined o.operator a b) from rest
+  -- operation OPERAND
+  prefixed : {n : ℕ} {a : PlainExpr} {mid rest : List Token} (t : Token) {p : Prefix} → prefix_of t ≡ Some p → Spells p.rule n a mid rest → Spells p.rule (suc n) (Call1 p.op a) (t ∷ mid) rest
   -- ATOM := INT | TEXT | true | false | NAME
   an_int : {n number : ℕ} {rest : List Token} → FitsSigned w64 (pos number) → Spells ATOM n (Literal (cell.Int (pos number))) (Number number ∷ rest) rest
   a_minus_int : {n number : ℕ} {z : ℤ} {rest : List Token} → z ≡ neg_ℤ (pos number) → FitsSigned w64 z → Spells ATOM n (Literal (cell.Int z)) (Mark mark.Sign ∷ Number number ∷ rest) rest

@@ -3,7 +3,8 @@ use Rattle.std.specs.Prelude.{ℕ, List, []}
 use Rattle.plan_grammar.specs.declared.token.Token.{Token}
 use Rattle.plan_grammar.specs.Token.{AreTokens}
 use Rattle.plan_grammar.specs.PlainNamed.{PlainExpr, PlainTree}
-use Rattle.plan_grammar.specs.Grammar.{Spells, E, SpellsPlan}
+use Rattle.plan_grammar.specs.Operators.{E}
+use Rattle.plan_grammar.specs.Grammar.{Spells, SpellsPlan}
 use Rattle.plan_grammar.specs.Counts.{IsWithinLimits}
 
 -- The text spells the expression, with at most 32 levels open.

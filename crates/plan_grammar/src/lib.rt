@@ -11,6 +11,9 @@ pub mod token;
 pub use expr::NamedExpr;
 pub use limit::PlanLimit;
 pub use named_plan::NamedPlan;
-pub use operator::Operator;
+pub use operator::{
+    ATOM, COMPARISON, CONJUNCTION, EXPRESSION, Infix, NEGATION, Operator, PRODUCT, Prefix, SIGNED,
+    SUM,
+};
 pub use plan::{NamedAgg, NamedColumn, NamedKey, NamedPair, NamedResult, NamedTree};
 pub use token::{Mark, Token, Word};

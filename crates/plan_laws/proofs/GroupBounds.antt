@@ -1,5 +1,5 @@
 -- The groups of at most 2^32 - 1 rows are within the bounds of merging and finishing.
-use Rattle.std.proofs.Common.{◌≢◌, sym, subst, ℕ, ◌≤◌, Bool, List, [], ◌∷◌, map, length, FitsSigned, arith}
+use Rattle.std.proofs.Common.{◌≡◌, ◌≢◌, ◌∙◌, ◌++◌, true≢false, append_assoc, append-nil, slice_index_or, sym, subst, ℕ, ◌≤◌, Bool, List, [], ◌∷◌, map, length, FitsSigned, arith}
 use Rattle.std.specs.Int.{w64}
 use Rattle.std.specs.List.{All, AllByRecursion, AllPairs, Contains}
 use Rattle.std.proofs.lemmas.List.Elements.{All-from_recursion, All-contains_itself, recursion_from_All}
@@ -8,7 +8,18 @@ use Rattle.rows_core.specs.declared.value.Value.TheVariants as value
 use Rattle.rows_core.specs.Value.{row_eq}
 use Rattle.std.proofs.lemmas.Int.{ints}
 use Rattle.row_blob.specs.declared.kept.Acc.{Acc}
-use Rattle.row_blob.specs.Kept.{AreEach}
+use Rattle.row_blob.specs.declared.kept.Acc.TheVariants as acc
+use Rattle.row_blob.specs.declared.kept.GroupRow.{GroupRow}
+use Rattle.row_blob.specs.declared.kept.Kept.TheVariants as kept
+use Rattle.row_blob.specs.declared.shape.Shape.TheVariants as shape
+use Rattle.row_blob.specs.Kept.{AreEach, AreInOrder, IsAcc, IsKept, IsNextGroup, keys_of as group_keys}
+use Rattle.rows_core.specs.Equality.{row_eq-Decides}
+use Rattle.std.proofs.lemmas.List.{map-append}
+use Rattle.std.proofs.lemmas.List.Folds.{list_any_at}
+use Rattle.std.proofs.lemmas.List.Quantifiers.{all_pairs_push}
+use Rattle.plan_core.specs.PlainPlan.{PlainPlan, Group}
+use Rattle.plan_core.specs.PlanTyping.{Kinds}
+use Rattle.plan_laws.specs.PlanShape.{kinds_given, kind_at, acc_kind_of, plan_shape}
 use Rattle.plan_core.specs.declared.agg.Agg.{Agg}
 use Rattle.plan_core.specs.declared.agg.Agg.TheVariants as agg
 use Rattle.plan_core.specs.Aggregate.{number_of, exact_sum, values_of}
@@ -137,3 +148,46 @@ groups_of_valid_rows keys aggs rows valid few = are_groups keys aggs rows (all_n
 
 pub averages_of_valid_rows : (keys : List ℕ) (aggs : List Agg) (rows : Rows) → AreValidRows rows → length rows ≤ 4294967295 → HaveAverages (groups_of keys aggs rows)
 averages_of_valid_rows keys aggs rows valid few = have_averages keys aggs rows (all_numbers aggs rows valid) few
+
+-- ---- groups of a file
+
+acc_within : (kinds : Kinds) (a : Agg) (x : Acc) → IsAcc (acc_kind_of kinds a) x → IsAccOf a x
+acc_within kinds agg.Count (acc.Count n) h = h
+acc_within kinds (agg.Sum c) (acc.Sum s) h = h
+acc_within kinds (agg.Avg c) (acc.Avg s n) h = h
+acc_within kinds (agg.Min c) (acc.Pick v) h = tt
+acc_within kinds (agg.Max c) (acc.Pick v) h = tt
+acc_within kinds (agg.First c) (acc.Pick v) h = tt
+acc_within kinds (agg.Last c) (acc.Pick v) h = tt
+acc_within kinds _ _ h = absurd h
+
+accs_within : (kinds : Kinds) (aggs : List Agg) (xs : List Acc) → AreEach IsAcc (map (acc_kind_of kinds) aggs) xs → AreEach IsAccOf aggs xs
+accs_within kinds [] [] each = tt
+accs_within kinds [] (x ∷ xs) each = absurd each
+accs_within kinds (a ∷ aggs) [] each = absurd each
+accs_within kinds (a ∷ aggs) (x ∷ xs) each = (acc_within kinds a x each.0, accs_within kinds aggs xs each.1)
+
+module _ (keys : Kinds) (kinds : Kinds) (aggs : List Agg) where
+  all_within : (before groups : List GroupRow) → AreInOrder (IsNextGroup keys (map (acc_kind_of kinds) aggs)) before groups → AllByRecursion (λ group. AreEach IsAccOf aggs group.accs) groups
+  all_within before [] order = tt
+  all_within before (group ∷ groups) order = (accs_within kinds aggs group.accs order.0.1, all_within (before ++ group ∷ []) groups order.1)
+
+  all_differ : (before groups : List GroupRow) → AllPairs (λ a b. a ≢ b) (group_keys before) → AreInOrder (IsNextGroup keys (map (acc_kind_of kinds) aggs)) before groups
+      → AllPairs (λ a b. a ≢ b) (group_keys (before ++ groups))
+  all_differ before [] pairs order = subst (λ (l : List GroupRow). AllPairs (λ a b. a ≢ b) (group_keys l)) (sym (append-nil before)) pairs
+  all_differ before (group ∷ groups) pairs order =
+      subst (λ (l : List GroupRow). AllPairs (λ a b. a ≢ b) (group_keys l)) (append_assoc before (group ∷ []) groups)
+      (all_differ (before ++ group ∷ []) groups
+      (subst (AllPairs (λ a b. a ≢ b)) (sym (map-append (λ g. g.key) before (group ∷ [])))
+      (all_pairs_push (λ a b. a ≢ b) (group_keys before) group.key pairs
+      (λ i other within same. true≢false (sym (list_any_at (row_eq group.key) (group_keys before) i other within ((row_eq-Decides group.key (slice_index_or (group_keys before) i other)).1 (sym same))) ∙ order.0.2))))
+      order.1)
+
+  pub kept_groups : (groups : List GroupRow) → IsKept (shape.Groups keys (map (acc_kind_of kinds) aggs)) (kept.Groups groups) → AreGroups aggs groups
+  kept_groups groups is = (
+    all_differ [] groups (λ i j key before within. absurd (omega (arith, within))) is.1,
+    All-from_recursion (λ group. AreEach IsAccOf aggs group.accs) groups (all_within [] groups is.1),
+  )
+
+pub kept_within_bounds : (schemas : List Kinds) (child : PlainPlan) (keys : List ℕ) (aggs : List Agg) (groups : List GroupRow) → IsKept (plan_shape schemas (Group child keys aggs)) (kept.Groups groups) → AreGroups aggs groups
+kept_within_bounds schemas child keys aggs groups = kept_groups (map (kind_at (kinds_given schemas child)) keys) (kinds_given schemas child) aggs groups

@@ -2,6 +2,7 @@ pub mod Answers
 pub mod FirstOfEqual
 pub mod GroupBounds
 pub mod Growing
+pub mod GrowingTwo
 pub mod Insertion
 pub mod JoinedAccumulators
 pub mod JoinedKeys

@@ -1,9 +1,14 @@
 //! The rows of a join whose lists have grown.
-ghost use Rattle.std.specs.Prelude.{◌≡◌, ℕ, ◌+◌, List, ◌++◌, length};
+ghost use Rattle.std.specs.Prelude.{◌≡◌, ℕ, ◌+◌, List, ◌++◌, length, take, drop, Ok};
 ghost use Rattle.row_blob.specs.declared.kept.TaggedRow.{TaggedRow};
 ghost use Rattle.plan_core.specs.Columns.{Rows};
+ghost use Rattle.plan_core.specs.Join.{join_rows};
+ghost use Rattle.plan_core.specs.MachineTime.{rows_taken_in};
+ghost use Rattle.plan_core.specs.PlainPlan.{PlainPlan, Join, Concat, leaf_count};
+ghost use Rattle.plan_core.specs.PlanMeaning.{plan_meaning};
 ghost use Rattle.plan_laws.specs.GrowthOfJoins.{AscendsByPosition, ArePositionsWithin, IsMergedByPosition};
 ghost use Rattle.plan_laws.specs.GrowthOfJoins.{merge_by_position};
+ghost use Rattle.plan_laws.specs.GrowthOfRows.{Grows};
 ghost use Rattle.plan_laws.specs.KeptForm.{tagged_from};
 
 /// The rows of a join whose left list has grown are those that were there and then those of the new left
@@ -38,4 +43,43 @@ pub fn one_merge_by_position()
         → IsMergedByPosition old new (merge_by_position old new) }
     ensures only { (old new merged : List TaggedRow) → AscendsByPosition old → AscendsByPosition new
         → IsMergedByPosition old new merged → merged ≡ merge_by_position old new }
+{}
+
+/// Where the left input of a join grows by new rows behind the old ones and its right one stays, the join
+/// grows by that of the new left rows; a concatenation grows by the new rows of its right input, where its
+/// left one stays.
+pub fn growth_of_two_inputs()
+    ensures join { (left right : PlainPlan) (on : List (ℕ × ℕ)) (before after : List Rows)
+        (old new rights : Rows) (more : ℕ)
+        → Grows left (take (leaf_count left) before) (take (leaf_count left) after) old new more
+        → drop (leaf_count left) before ≡ drop (leaf_count left) after
+        → plan_meaning right (drop (leaf_count left) before) ≡ Ok rights
+        → Grows (Join left right on) before after (join_rows on old rights) (join_rows on new rights)
+        (length new + more) }
+    ensures concat { (left right : PlainPlan) (before after : List Rows) (old new lefts : Rows) (more : ℕ)
+        → take (leaf_count left) before ≡ take (leaf_count left) after
+        → plan_meaning left (take (leaf_count left) before) ≡ Ok lefts
+        → Grows right (drop (leaf_count left) before) (drop (leaf_count left) after) old new more
+        → Grows (Concat left right) before after (lefts ++ old) new (length new + more) }
+{}
+
+/// Where the inputs of a join or of a concatenation grow by new rows behind the old ones, either of them or
+/// both, it takes in these beside what the inputs take in more.
+pub fn rows_that_two_inputs_take_in()
+    ensures join { (left right : PlainPlan) (on : List (ℕ × ℕ)) (before after : List Rows)
+        (left_old left_new right_old right_new : Rows) (left_more right_more : ℕ)
+        → Grows left (take (leaf_count left) before) (take (leaf_count left) after)
+        left_old left_new left_more
+        → Grows right (drop (leaf_count left) before) (drop (leaf_count left) after)
+        right_old right_new right_more
+        → rows_taken_in (Join left right on) after ≡ rows_taken_in (Join left right on) before
+        + (length left_new + left_more + (length right_new + right_more)) }
+    ensures concat { (left right : PlainPlan) (before after : List Rows)
+        (left_old left_new right_old right_new : Rows) (left_more right_more : ℕ)
+        → Grows left (take (leaf_count left) before) (take (leaf_count left) after)
+        left_old left_new left_more
+        → Grows right (drop (leaf_count left) before) (drop (leaf_count left) after)
+        right_old right_new right_more
+        → rows_taken_in (Concat left right) after ≡ rows_taken_in (Concat left right) before
+        + (length left_new + left_more + (length right_new + right_more)) }
 {}

@@ -15,9 +15,13 @@ pub mod valid;
 pub use distinct::first_of_equal_rows;
 pub use groups::keys_of_groups;
 pub use growth_of_groups::{
-    groups_are_within_bounds, groups_of_joined_lists, rows_of_groups, rows_that_groups_take_in,
+    groups_are_within_bounds, groups_of_files_are_within_bounds, groups_of_joined_lists,
+    rows_of_groups, rows_that_groups_take_in,
 };
-pub use growth_of_joins::{joins_ascend_by_position, joins_of_longer_lists, one_merge_by_position};
+pub use growth_of_joins::{
+    growth_of_two_inputs, joins_ascend_by_position, joins_of_longer_lists, one_merge_by_position,
+    rows_that_two_inputs_take_in,
+};
 pub use growth_of_rows::{
     first_of_equal_rows_of_joined_lists, growth_of_one_input, order_of_joined_lists,
     rows_of_joined_lists,

@@ -1,7 +1,6 @@
 -- Worked examples of the grammar.
 use Rattle.std.proofs.Common.{◌≡◌, refl, Some, ℕ, List, [], ◌∷◌, codes, true, false, arith}
 use Rattle.scalar_ops.specs.declared.table.Op.TheVariants as op
-use Rattle.plan_grammar.specs.declared.token.Token.{Token}
 use Rattle.plan_grammar.specs.declared.token.Token.TheVariants.{Name, Word, Number, Mark}
 use Rattle.plan_grammar.specs.declared.token.Mark.TheVariants as mark
 use Rattle.plan_grammar.specs.declared.token.Word.TheVariants as word
@@ -13,7 +12,8 @@ use Rattle.plan_parser.specs.PlanDraft.{limits, plan_draft_of}
 use Rattle.plan_parser.specs.Reader.{repeated}
 use Rattle.plan_parser.specs.PlanReading.{plan_at, inner_plan}
 use Rattle.plan_grammar.specs.Spelled.{SpellsText}
-use Rattle.plan_grammar.specs.Grammar.{Spells, E, UN, or, and, not, compare, sum, of_and, of_not, of_cmp, of_sum, of_mul, of_un, of_atom, a_column, stream, select, distinct, group, join, order}
+use Rattle.plan_grammar.specs.Operators.{E}
+use Rattle.plan_grammar.specs.Grammar.{Spells, looser, operation, prefixed, a_column, stream, select, distinct, group, join, order}
 
 abbrev a : List ℕ
 a = codes "a"
@@ -23,9 +23,6 @@ b = codes "b"
 
 abbrev c : List ℕ
 c = codes "c"
-
-name_at : (n : ℕ) (name : List ℕ) (rest : List Token) → Spells UN n (Column name) (Name name ∷ rest) rest
-name_at n name rest = of_atom a_column
 
 -- a run of letters is one word; a `-` directly before a digit is a sign
 a_less_five : AreTokens (Name a ∷ Mark mark.Sign ∷ Number 5 ∷ []) (codes " a -5 ")
@@ -38,17 +35,15 @@ last_two = (codes " 2|", refl, tt, (codes "|", refl, tt, ([], refl, tt, refl)))
 
 -- `a - b - c` is `(a - b) - c`
 to_the_left : Spells E 0 (Call2 op.Sub (Call2 op.Sub (Column a) (Column b)) (Column c)) (Name a ∷ Mark mark.Minus ∷ Name b ∷ Mark mark.Minus ∷ Name c ∷ []) []
-to_the_left = of_and (of_not (of_cmp (of_sum (sum mark.Minus refl (sum mark.Minus refl (of_mul (of_un (name_at 0 a _))) (of_un (name_at 0 b _))) (of_un (name_at 0 c []))))))
+to_the_left = looser (omega arith) (operation (Mark mark.Minus) refl (operation (Mark mark.Minus) refl (looser (omega arith) a_column) (looser (omega arith) a_column)) (looser (omega arith) a_column))
 
 -- `not a = b` is `not (a = b)`, and opens one level
 not_of_comparison : Spells E 1 (Call1 op.Not (Call2 op.Eq (Column a) (Column b))) (Word word.Not ∷ Name a ∷ Mark mark.Equal ∷ Name b ∷ []) []
-not_of_comparison = of_and (of_not (not (of_cmp (compare mark.Equal refl (of_mul (of_un (name_at 0 a _))) (of_mul (of_un (name_at 0 b [])))))))
+not_of_comparison = looser (omega arith) (prefixed (Word word.Not) refl (looser (omega arith) (operation (Mark mark.Equal) refl (looser (omega arith) a_column) (looser (omega arith) a_column))))
 
 -- `a or b and c` is `a or (b and c)`
 and_before_or : Spells E 0 (Or (Column a) (And (Column b) (Column c))) (Name a ∷ Word word.Or ∷ Name b ∷ Word word.And ∷ Name c ∷ []) []
-and_before_or =
-    or (of_and (of_not (of_cmp (of_sum (of_mul (of_un (name_at 0 a _)))))))
-    (and (of_not (of_cmp (of_sum (of_mul (of_un (name_at 0 b _)))))) (of_cmp (of_sum (of_mul (of_un (name_at 0 c []))))))
+and_before_or = operation (Word word.Or) refl (looser (omega arith) a_column) (operation (Word word.And) refl (looser (omega arith) a_column) (looser (omega arith) a_column))
 
 -- `from orders | group item with n = sum(qty)`
 grouped_plan : SpellsText (Group (From (codes "orders")) (codes "item" ∷ []) (record { name = codes "n"; agg = agg.Sum (codes "qty") } ∷ [])) (codes "from orders | group item with n = sum(qty)")
@@ -74,7 +69,7 @@ unfolding token_at word_at mark_at word_with is_name is_reserved
 ordered_plan = record {
   tokens = Word word.From ∷ Name (codes "s") ∷ Mark mark.Bar ∷ Word word.Select ∷ Name (codes "k") ∷ Mark mark.Equal ∷ Name (codes "a") ∷ Mark mark.Bar ∷ Word word.Distinct ∷ Mark mark.Bar ∷ Word word.Order ∷ Name (codes "k") ∷ Word word.Desc ∷ [];
   are = (_, refl, tt, (_, refl, tt, (_, refl, tt, (_, refl, tt, (_, refl, tt, (_, refl, tt, (_, refl, tt, (_, refl, tt, (_, refl, tt, (_, refl, tt, (_, refl, tt, (_, refl, tt, (_, refl, tt, refl)))))))))))));
-  spells = order (distinct (select stream (_, refl, of_and (of_not (of_cmp (of_sum (of_mul (of_un (of_atom a_column))))))))) refl;
+  spells = order (distinct (select stream (_, refl, looser (omega arith) a_column))) refl;
 }
 
 -- `from l | join (from r | distinct) on id = k, a = b | order id, a desc`, as it is read

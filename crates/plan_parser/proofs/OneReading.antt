@@ -1,27 +1,32 @@
 -- Reading and grammar say the same of expressions.
-use Rattle.std.proofs.Common.{◌≡◌, refl, sym, ap, ◌∙◌, ℕ, ◌≤◌, Bool, true, false, cond, nat_le, List, [], ◌∷◌, Some, arith}
+use Rattle.std.proofs.Common.{◌≡◌, refl, sym, ap, ◌∙◌, ℕ, ◌≤◌, Bool, true, false, cond, nat_le, List, [], ◌∷◌, Some, None, arith}
 use Rattle.std.proofs.lemmas.Bool.Decides.{nat_tests}
 use Rattle.plan_grammar.specs.declared.token.Token.{Token}
 use Rattle.plan_grammar.specs.declared.token.Token.TheVariants.{Mark}
 use Rattle.plan_grammar.specs.declared.token.Mark.TheVariants as mark
 use Rattle.plan_grammar.specs.PlainNamed.{PlainExpr}
 use Rattle.plan_grammar.specs.Counts.{expr_nodes}
-use Rattle.plan_grammar.specs.Grammar.{E, Spells, EndsExpr}
+use Rattle.plan_grammar.specs.Operators.{E}
+use Rattle.plan_grammar.specs.Grammar.{Spells, EndsExpr}
 use Rattle.plan_parser.specs.Draft.{Whole, TooMany, draft_of}
-use Rattle.plan_parser.specs.Reading.{expr_at, and_at, or_operator, inner}
+use Rattle.plan_parser.specs.Reading.{operator_at, expr_at, inner}
 use Rattle.plan_grammar.proofs.TokenLemmas.{both}
-use Rattle.plan_parser.proofs.Complete.{NoOr, complete}
-use Rattle.plan_parser.proofs.ReadingLemmas.{Continues-end}
+use Rattle.plan_parser.proofs.Complete.{Loose, ended, complete}
 
-ends : (rest : List Token) → EndsExpr rest → NoOr rest
-ends [] e = record { no_and = record { no_compare = record { mul = refl; sum = refl; compare = refl }; and = refl }; or = refl }
-ends (Mark mark.Bar ∷ rest) e = record { no_and = record { no_compare = record { mul = refl; sum = refl; compare = refl }; and = refl }; or = refl }
-ends (Mark mark.Comma ∷ rest) e = record { no_and = record { no_compare = record { mul = refl; sum = refl; compare = refl }; and = refl }; or = refl }
-ends (Mark mark.Close ∷ rest) e = record { no_and = record { no_compare = record { mul = refl; sum = refl; compare = refl }; and = refl }; or = refl }
+-- no operator stands behind an expression
+record NoOperator (rest : List Token) : Type 0 where
+  loose : Loose E rest
+  stops : operator_at E rest ≡ None
+
+ends : (rest : List Token) → EndsExpr rest → NoOperator rest
+ends [] e = record { loose = tt; stops = refl }
+ends (Mark mark.Bar ∷ rest) e = record { loose = λ o e. absurd (cc e); stops = refl }
+ends (Mark mark.Comma ∷ rest) e = record { loose = λ o e. absurd (cc e); stops = refl }
+ends (Mark mark.Close ∷ rest) e = record { loose = λ o e. absurd (cc e); stops = refl }
 ends _ e = absurd e
 
 pub spelled_is_read : (most levels : ℕ) (e : PlainExpr) (from rest : List Token) → EndsExpr rest → Spells E levels e from rest → expr_at most (inner most levels) from ≡ Some (draft_of most e, rest)
-spelled_is_read most n e from rest behind s = let no = ends rest behind in Continues-end most or_operator (and_at most (inner most n)) from (draft_of most e) rest (complete most s no.no_and) no.or
+spelled_is_read most n e from rest behind s = let no = ends rest behind in ended most E E n e from rest (complete most s no.loose E (omega arith)) no.stops
 
 -- an expression that is kept whole is told by what is kept
 kept_one_expression : (most : ℕ) (a b : PlainExpr) → expr_nodes a ≤ most → draft_of most a ≡ draft_of most b → a ≡ b

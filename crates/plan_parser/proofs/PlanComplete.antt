@@ -11,21 +11,23 @@ use Rattle.plan_grammar.specs.declared.plan.NamedKey.{NamedKey}
 use Rattle.plan_parser.specs.declared.plan_draft.Counts.{Counts}
 use Rattle.plan_grammar.specs.PlainNamed.{PlainExpr, PlainColumn, PlainTree, From, Where, Select, Distinct, Group, Join, Concat, Order}
 use Rattle.plan_grammar.specs.Grammar as g
-use Rattle.plan_grammar.specs.Grammar.{E, Spells, EndsExpr, EndsPlan, Listed, SpellsName, SpellsColumn, SpellsPair, SpellsKey, SpellsResult, SpellsPlan}
-use Rattle.plan_parser.specs.Reader.{and_then, comma_at, close_at, bar_at, with_at, on_at, up_to}
+use Rattle.plan_grammar.specs.Operators.{E}
+use Rattle.plan_grammar.specs.Grammar.{Spells, EndsExpr, EndsPlan, Listed, SpellsName, SpellsColumn, SpellsPair, SpellsKey, SpellsResult, SpellsPlan}
+use Rattle.plan_parser.specs.declared.parser.Terminal.TheVariants.{Bar, Close, Comma, On, With}
+use Rattle.plan_parser.specs.Reader.{and_then, terminal_at, up_to}
 use Rattle.plan_parser.specs.PlanDraft.{PlanDraft, with_column, columns_draft_of, plan_draft_of, where_draft, select_draft, group_draft, join_draft, concat_draft, order_draft}
-use Rattle.plan_parser.specs.PlanReading.{list_at, at_end, name_at, column_at, columns_at, pair_at, pairs_at, key_at, keys_at, result_at, results_at, inner_plan_at, where_at, select_at, group_at, join_at, concat_at, order_at, stage_at, inner_plan, plan_at}
+use Rattle.plan_parser.specs.PlanReading.{list_at, column_at, columns_at, pairs_at, results_at, inner_plan_at, where_at, select_at, group_at, join_at, concat_at, order_at, stage_at, inner_plan, plan_at}
 use Rattle.plan_parser.proofs.Complete.{shorter}
 use Rattle.plan_parser.proofs.OneReading.{spelled_is_read}
 use Rattle.plan_parser.proofs.PlanDraftLemmas.{no_columns_kept, where_kept, select_kept, distinct_kept, group_kept, join_kept, concat_kept, order_kept}
-use Rattle.plan_parser.proofs.PlanItems.{itself, Anything, NoDesc, names_listed, pairs_listed, keys_listed, results_listed, columns_listed, column_value}
+use Rattle.plan_parser.proofs.PlanItems.{NoDesc, names_listed, pairs_listed, keys_listed, results_listed, columns_listed}
 use Rattle.plan_parser.proofs.RepeatLemmas.{Repeats, Repeats-start, Repeats-next, Repeats-end}
 use Rattle.plan_parser.proofs.ListLemmas.{list_complete, list_shorter}
 
 -- what may stand behind a stage: a bar, or what may stand behind a plan
 record EndsStage (rest : List Token) : Type 0 where
   expr : EndsExpr rest
-  no_comma : comma_at rest ≡ None
+  no_comma : terminal_at Comma rest ≡ None
   no_desc : NoDesc rest
 
 bar_ends : (rest : List Token) → EndsStage (Mark mark.Bar ∷ rest)
@@ -39,52 +41,36 @@ plan_ends [] e = record { expr = tt; no_comma = refl; no_desc = λ name. refl }
 plan_ends (Mark mark.Close ∷ rest) e = close_ends rest
 plan_ends _ e = absurd e
 
-plan_no_bar : (rest : List Token) → EndsPlan rest → bar_at rest ≡ None
+plan_no_bar : (rest : List Token) → EndsPlan rest → terminal_at Bar rest ≡ None
 plan_no_bar [] e = refl
 plan_no_bar (Mark mark.Close ∷ rest) e = refl
 plan_no_bar _ e = absurd e
-
--- each list takes a token at least
-names_shorter : (keys : List (List ℕ)) (from rest : List Token) → Listed SpellsName keys from rest → length rest < length from
-names_shorter = list_shorter SpellsName Anything name_at at_end itself itself names_listed
-
-pairs_shorter : (on : List NamedPair) (from rest : List Token) → Listed SpellsPair on from rest → length rest < length from
-pairs_shorter = list_shorter SpellsPair Anything pair_at at_end itself itself pairs_listed
-
-keys_shorter : (keys : List NamedKey) (from rest : List Token) → Listed SpellsKey keys from rest → length rest < length from
-keys_shorter = list_shorter SpellsKey NoDesc key_at at_end itself itself keys_listed
-
-results_shorter : (n : ℕ) (results : List NamedResult) (from rest : List Token) → Listed (SpellsResult n) results from rest → length rest < length from
-results_shorter n = list_shorter (SpellsResult n) Anything (result_at n) at_end itself itself (results_listed n)
-
-columns_shorter : (m n : ℕ) (columns : List PlainColumn) (from rest : List Token) → Listed (SpellsColumn n) columns from rest → length rest < length from
-columns_shorter m n = list_shorter (SpellsColumn n) EndsExpr (column_at m n) (with_column m) (columns_draft_of m) (column_value m n) (columns_listed m n)
 
 -- each plan takes a token at least
 pub plan_shorter : {n : ℕ} {p : PlainTree} {from rest : List Token} → SpellsPlan n p from rest → length rest < length from
 plan_shorter g.stream = omega arith
 plan_shorter (g.filter s t) = omega (arith, plan_shorter s, shorter t)
-plan_shorter (g.select {n = n} {columns = columns} {mid = mid} {rest = rest} s t) = let less = columns_shorter 0 n columns mid rest t in omega (arith, plan_shorter s, less)
+plan_shorter (g.select {n = n} {columns = columns} {mid = mid} {rest = rest} s t) = let less = list_shorter (columns_listed 0 n) columns mid rest t in omega (arith, plan_shorter s, less)
 plan_shorter (g.distinct s) = omega (arith, plan_shorter s)
 plan_shorter (g.group {n = n} {keys = keys} {results = results} {mid = mid} {rest = rest} behind s t u) =
-    let first = names_shorter keys mid (Word word.With ∷ behind) t in
-    let second = results_shorter n results behind rest u in
+    let first = list_shorter names_listed keys mid (Word word.With ∷ behind) t in
+    let second = list_shorter (results_listed n) results behind rest u in
     omega (arith, plan_shorter s, first, second)
-plan_shorter (g.join {on = on} {next = behind} {rest = rest} s t u) = let less = pairs_shorter on behind rest u in omega (arith, plan_shorter s, plan_shorter t, less)
+plan_shorter (g.join {on = on} {next = behind} {rest = rest} s t u) = let less = list_shorter pairs_listed on behind rest u in omega (arith, plan_shorter s, plan_shorter t, less)
 plan_shorter (g.concat s t) = omega (arith, plan_shorter s, plan_shorter t)
-plan_shorter (g.order {keys = keys} {mid = mid} {rest = rest} s t) = let less = keys_shorter keys mid rest t in omega (arith, plan_shorter s, less)
+plan_shorter (g.order {keys = keys} {mid = mid} {rest = rest} s t) = let less = list_shorter keys_listed keys mid rest t in omega (arith, plan_shorter s, less)
 
 module _ (most : Counts) where
   -- up to a rest the plan is read, and stages may follow
   abbrev Reading : ℕ → PlainTree → List Token → List Token → Type 0
-  Reading n p from rest = Repeats bar_at (λ _. stage_at most (inner_plan most n) n) (plan_at most n from) (plan_draft_of most p) rest
+  Reading n p from rest = Repeats (terminal_at Bar) (λ _. stage_at most (inner_plan most n) n) (plan_at most n from) (plan_draft_of most p) rest
 
   stage_more : (n : ℕ) (p q : PlainTree) (from behind rest : List Token) → Reading n p from (Mark mark.Bar ∷ behind) → stage_at most (inner_plan most n) n (plan_draft_of most p) behind ≡ Some (plan_draft_of most q, rest) → length rest < length behind → Reading n q from rest
   stage_more n p q from behind rest l read less =
-      Repeats-next bar_at (λ _. stage_at most (inner_plan most n) n) (plan_at most n from) (plan_draft_of most p) (Mark mark.Bar ∷ behind) l tt behind refl (plan_draft_of most q) rest read (omega (arith, less))
+      Repeats-next (terminal_at Bar) (λ _. stage_at most (inner_plan most n) n) (plan_at most n from) (plan_draft_of most p) (Mark mark.Bar ∷ behind) l tt behind refl (plan_draft_of most q) rest read (omega (arith, less))
 
-  ended : (n : ℕ) (p : PlainTree) (from rest : List Token) → bar_at rest ≡ None → Reading n p from rest → plan_at most n from ≡ Some (plan_draft_of most p, rest)
-  ended n p from rest none l = Repeats-end bar_at (λ _. stage_at most (inner_plan most n) n) (plan_at most n from) (plan_draft_of most p) rest l none
+  ended : (n : ℕ) (p : PlainTree) (from rest : List Token) → terminal_at Bar rest ≡ None → Reading n p from rest → plan_at most n from ≡ Some (plan_draft_of most p, rest)
+  ended n p from rest none l = Repeats-end (terminal_at Bar) (λ _. stage_at most (inner_plan most n) n) (plan_at most n from) (plan_draft_of most p) rest l none
 
   -- a plan in parentheses
   inner_is : (n : ℕ) (ts : List Token) → inner_plan most (suc n) ts ≡ plan_at most n ts
@@ -92,26 +78,14 @@ module _ (most : Counts) where
   inner_is n ts = refl
 
   inside : (n : ℕ) (q : PlainTree) (mid rest : List Token) → plan_at most n mid ≡ Some (plan_draft_of most q, Mark mark.Close ∷ rest) → inner_plan_at (inner_plan most (suc n)) (Mark mark.Open ∷ mid) ≡ Some (plan_draft_of most q, rest)
-  inside n q mid rest e = ap (up_to close_at) (inner_is n mid ∙ e)
+  inside n q mid rest e = ap (up_to (terminal_at Close)) (inner_is n mid ∙ e)
 
-  -- the lists of the stages
-  names_read : (keys : List (List ℕ)) (mid behind : List Token) → Listed SpellsName keys mid (Word word.With ∷ behind) → list_at name_at at_end [] mid ≡ Some (keys, Word word.With ∷ behind)
-  names_read keys mid behind s = list_complete SpellsName Anything name_at at_end itself itself names_listed keys mid (Word word.With ∷ behind) s tt refl
-
-  results_read : (n : ℕ) (results : List NamedResult) (mid rest : List Token) → EndsStage rest → Listed (SpellsResult n) results mid rest → results_at n mid ≡ Some (results, rest)
-  results_read n results mid rest ends s = list_complete (SpellsResult n) Anything (result_at n) at_end itself itself (results_listed n) results mid rest s tt ends.no_comma
-
-  pairs_read : (on : List NamedPair) (mid rest : List Token) → EndsStage rest → Listed SpellsPair on mid rest → pairs_at mid ≡ Some (on, rest)
-  pairs_read on mid rest ends s = list_complete SpellsPair Anything pair_at at_end itself itself pairs_listed on mid rest s tt ends.no_comma
-
-  keys_read : (keys : List NamedKey) (mid rest : List Token) → EndsStage rest → Listed SpellsKey keys mid rest → keys_at mid ≡ Some (keys, rest)
-  keys_read keys mid rest ends s = list_complete SpellsKey NoDesc key_at at_end itself itself keys_listed keys mid rest s ends.no_desc ends.no_comma
-
+  -- the columns of a projection
   columns_read : (n : ℕ) (columns : List PlainColumn) (mid rest : List Token) → EndsStage rest → Listed (SpellsColumn n) columns mid rest → columns_at most.exprs n mid ≡ Some (columns_draft_of most.exprs columns, rest)
   columns_read n columns mid rest ends s =
       let m = most.exprs in
       sym (ap (λ none. list_at (column_at m n) (with_column m) none mid) (no_columns_kept m))
-      ∙ list_complete (SpellsColumn n) EndsExpr (column_at m n) (with_column m) (columns_draft_of m) (column_value m n) (columns_listed m n) columns mid rest s ends.expr ends.no_comma
+      ∙ list_complete (columns_listed m n) columns mid rest s ends.expr ends.no_comma
 
   -- each stage
   module _ (n : ℕ) (p : PlainTree) (mid rest : List Token) (ends : EndsStage rest) where
@@ -130,13 +104,13 @@ module _ (most : Counts) where
 
     group_read : (keys : List (List ℕ)) (results : List NamedResult) (next : List Token) → Listed SpellsName keys mid (Word word.With ∷ next) → Listed (SpellsResult n) results next rest → group_at most n kept mid ≡ Some (plan_draft_of most (Group p keys results), rest)
     group_read keys results next s t =
-        ap (λ r. and_then (up_to with_at r) (λ keys next. and_then (results_at n next) (λ results rest. Some (group_draft most kept keys results, rest)))) (names_read keys mid next s)
-        ∙ ap (λ r. and_then r (λ results rest. Some (group_draft most kept keys results, rest))) (results_read n results next rest ends t)
+        ap (λ r. and_then (up_to (terminal_at With) r) (λ keys next. and_then (results_at n next) (λ results rest. Some (group_draft most kept keys results, rest)))) (list_complete names_listed keys mid (Word word.With ∷ next) s tt refl)
+        ∙ ap (λ r. and_then r (λ results rest. Some (group_draft most kept keys results, rest))) (list_complete (results_listed n) results next rest t tt ends.no_comma)
         ∙ ap (λ d. Some (d, rest)) (group_kept most p keys results)
 
     order_read : (keys : List NamedKey) → Listed SpellsKey keys mid rest → order_at most kept mid ≡ Some (plan_draft_of most (Order p keys), rest)
     order_read keys s =
-        ap (λ r. and_then r (λ keys rest. Some (order_draft most kept keys, rest))) (keys_read keys mid rest ends s)
+        ap (λ r. and_then r (λ keys rest. Some (order_draft most kept keys, rest))) (list_complete keys_listed keys mid rest s ends.no_desc ends.no_comma)
         ∙ ap (λ d. Some (d, rest)) (order_kept most p keys)
 
     concat_read : (q : PlainTree) → plan_at most n mid ≡ Some (plan_draft_of most q, Mark mark.Close ∷ rest) → concat_at most (inner_plan most (suc n)) kept (Mark mark.Open ∷ mid) ≡ Some (plan_draft_of most (Concat p q), rest)
@@ -146,33 +120,33 @@ module _ (most : Counts) where
 
     join_read : (q : PlainTree) (on : List NamedPair) (next : List Token) → plan_at most n mid ≡ Some (plan_draft_of most q, Mark mark.Close ∷ Word word.On ∷ next) → Listed SpellsPair on next rest → join_at most (inner_plan most (suc n)) kept (Mark mark.Open ∷ mid) ≡ Some (plan_draft_of most (Join p q on), rest)
     join_read q on next e s =
-        ap (λ r. and_then (up_to on_at r) (λ right next. and_then (pairs_at next) (λ on rest. Some (join_draft most kept right on, rest)))) (inside n q mid (Word word.On ∷ next) e)
-        ∙ ap (λ r. and_then r (λ on rest. Some (join_draft most kept (plan_draft_of most q) on, rest))) (pairs_read on next rest ends s)
+        ap (λ r. and_then (up_to (terminal_at On) r) (λ right next. and_then (pairs_at next) (λ on rest. Some (join_draft most kept right on, rest)))) (inside n q mid (Word word.On ∷ next) e)
+        ∙ ap (λ r. and_then r (λ on rest. Some (join_draft most kept (plan_draft_of most q) on, rest))) (list_complete pairs_listed on next rest s tt ends.no_comma)
         ∙ ap (λ d. Some (d, rest)) (join_kept most p q on)
 
   plan_complete : {n : ℕ} {p : PlainTree} {from rest : List Token} → SpellsPlan n p from rest → EndsStage rest → Reading n p from rest
   plan_complete (g.stream {n = n} {name = name} {rest = rest}) ends =
-      Repeats-start bar_at (λ _. stage_at most (inner_plan most n) n) (plan_at most n (Word word.From ∷ Name name ∷ rest)) (plan_draft_of most (From name)) rest refl
+      Repeats-start (terminal_at Bar) (λ _. stage_at most (inner_plan most n) n) (plan_at most n (Word word.From ∷ Name name ∷ rest)) (plan_draft_of most (From name)) rest refl
   plan_complete (g.filter {n = n} {p = p} {test = test} {from = from} {mid = mid} {rest = rest} s t) ends =
       stage_more n p (Where p test) from (Word word.Where ∷ mid) rest (plan_complete s (bar_ends (Word word.Where ∷ mid))) (where_read n p mid rest ends test t) (omega (arith, shorter t))
   plan_complete (g.select {n = n} {p = p} {columns = columns} {from = from} {mid = mid} {rest = rest} s t) ends =
-      let less = columns_shorter most.exprs n columns mid rest t in
+      let less = list_shorter (columns_listed most.exprs n) columns mid rest t in
       stage_more n p (Select p columns) from (Word word.Select ∷ mid) rest (plan_complete s (bar_ends (Word word.Select ∷ mid))) (select_read n p mid rest ends columns t) (omega (arith, less))
   plan_complete (g.distinct {n = n} {p = p} {from = from} {rest = rest} s) ends =
       stage_more n p (Distinct p) from (Word word.Distinct ∷ rest) rest (plan_complete s (bar_ends (Word word.Distinct ∷ rest))) (ap (λ d. Some (d, rest)) (distinct_kept most p)) (omega arith)
   plan_complete (g.group {n = n} {p = p} {keys = keys} {results = results} {from = from} {mid = mid} {rest = rest} next s t u) ends =
-      let first = names_shorter keys mid (Word word.With ∷ next) t in
-      let second = results_shorter n results next rest u in
+      let first = list_shorter names_listed keys mid (Word word.With ∷ next) t in
+      let second = list_shorter (results_listed n) results next rest u in
       stage_more n p (Group p keys results) from (Word word.Group ∷ mid) rest (plan_complete s (bar_ends (Word word.Group ∷ mid))) (group_read n p mid rest ends keys results next t u) (omega (arith, first, second))
   plan_complete (g.join {n = n} {p = p} {q = q} {on = on} {from = from} {mid = mid} {next = next} {rest = rest} s t u) ends =
-      let less = pairs_shorter on next rest u in
+      let less = list_shorter pairs_listed on next rest u in
       let right = ended n q mid (Mark mark.Close ∷ Word word.On ∷ next) refl (plan_complete t (close_ends (Word word.On ∷ next))) in
       stage_more (suc n) p (Join p q on) from (Word word.Join ∷ Mark mark.Open ∷ mid) rest (plan_complete s (bar_ends (Word word.Join ∷ Mark mark.Open ∷ mid))) (join_read n p mid rest ends q on next right u) (omega (arith, plan_shorter t, less))
   plan_complete (g.concat {n = n} {p = p} {q = q} {from = from} {mid = mid} {rest = rest} s t) ends =
       let right = ended n q mid (Mark mark.Close ∷ rest) refl (plan_complete t (close_ends rest)) in
       stage_more (suc n) p (Concat p q) from (Word word.Concat ∷ Mark mark.Open ∷ mid) rest (plan_complete s (bar_ends (Word word.Concat ∷ Mark mark.Open ∷ mid))) (concat_read n p mid rest ends q right) (omega (arith, plan_shorter t))
   plan_complete (g.order {n = n} {p = p} {keys = keys} {from = from} {mid = mid} {rest = rest} s t) ends =
-      let less = keys_shorter keys mid rest t in
+      let less = list_shorter keys_listed keys mid rest t in
       stage_more n p (Order p keys) from (Word word.Order ∷ mid) rest (plan_complete s (bar_ends (Word word.Order ∷ mid))) (order_read n p mid rest ends keys t) (omega (arith, less))
 
   -- what is spelled is read

@@ -10,7 +10,7 @@ use Rattle.plan_grammar.specs.declared.limit.PlanLimit.TheVariants.{Nodes, Wide,
 use Rattle.scalar_ops.specs.declared.table.Op.TheVariants as op
 use Rattle.plan_grammar.specs.PlainNamed.{Column, Call2, From, Where, Select, Group}
 use Rattle.plan_parser.specs.PlanDraft.{TooLarge, limits, first_above, plan_draft_of}
-use Rattle.plan_parser.specs.Reading.{inner}
+use Rattle.plan_parser.specs.Reading.{below, inner}
 use Rattle.plan_parser.specs.Reader.{repeated}
 use Rattle.plan_parser.specs.PlanReading.{plan_at, inner_plan}
 
@@ -35,7 +35,7 @@ selected_read : plan_at limits 0
     (from_s (Word word.Select ∷ Name a ∷ Mark mark.Equal ∷ Name b ∷ Mark mark.Plus ∷ Name a ∷ Mark mark.Comma ∷ Name b ∷ Mark mark.Equal ∷ Name b
     ∷ Mark mark.Bar ∷ Word word.Where ∷ Name a ∷ Mark mark.Equal ∷ Name b ∷ Mark mark.Close ∷ []))
     ≡ Some (plan_draft_of limits (Where (Select (From s) (record { name = a; expr = Call2 op.Add (Column b) (Column a) } ∷ record { name = b; expr = Column b } ∷ [])) (Call2 op.Eq (Column a) (Column b))), Mark mark.Close ∷ [])
-unfolding repeated inner_plan inner
+unfolding repeated inner_plan inner below
 selected_read = refl
 
 -- `from s | group a with b = count(), a = last(b)` opens one level
@@ -69,7 +69,7 @@ bare_concat = refl
 
 -- of a plan that is too large the counts are kept, each up to one above the most
 too_large_read : plan_at (counts 1 8 512) 0 (from_s (Word word.Distinct ∷ Mark mark.Bar ∷ Word word.Distinct ∷ Mark mark.Bar ∷ Word word.Where ∷ Name a ∷ [])) ≡ Some (TooLarge (counts 2 2 1), [])
-unfolding repeated inner_plan inner
+unfolding repeated inner_plan inner below
 too_large_read = refl
 
 -- the first limit that is passed

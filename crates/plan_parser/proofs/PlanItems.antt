@@ -15,7 +15,8 @@ use Rattle.plan_grammar.specs.declared.plan.NamedKey.{NamedKey}
 use Rattle.plan_grammar.specs.PlainNamed.{PlainColumn}
 use Rattle.plan_grammar.specs.Grammar.{EndsExpr, SpellsName, SpellsColumn, SpellsPair, SpellsKey, SpellsResult, agg_word, agg_argument}
 use Rattle.plan_parser.specs.Draft.{PlainDraft, draft_of}
-use Rattle.plan_parser.specs.Reader.{and_then, open_at, close_at}
+use Rattle.plan_parser.specs.declared.parser.Terminal.TheVariants.{Close, Open}
+use Rattle.plan_parser.specs.Reader.{and_then, terminal_at}
 use Rattle.plan_parser.specs.Reading.{expr_at, inner}
 use Rattle.plan_parser.specs.PlanDraft.{columns_draft_of, with_column}
 use Rattle.plan_parser.specs.PlanReading.{at_end, name_at, named_at, column_at, pair_at, key_of, key_at, agg_named, agg_of, count_of, closed_at, argument_at, agg_at, result_at}
@@ -25,12 +26,8 @@ use Rattle.plan_parser.proofs.Sound.{read_is_spelled}
 use Rattle.plan_parser.proofs.OneReading.{spelled_is_read}
 use Rattle.plan_parser.proofs.PlanDraftLemmas.{one_column_more}
 use Rattle.plan_parser.proofs.RepeatLemmas.{then_some}
-use Rattle.plan_parser.proofs.ReadingLemmas.{open_some, close_some, up_to_some}
-use Rattle.plan_parser.proofs.ListLemmas.{ListsItems, ItemSo}
-
--- the item itself
-abbrev pub itself : {A : Type 0} → A → A
-itself x = x
+use Rattle.plan_parser.proofs.ReadingLemmas.{terminal_some, up_to_some}
+use Rattle.plan_parser.proofs.ListLemmas.{itself, ListsItems, ItemSo}
 
 -- anything may stand behind the item
 abbrev pub Anything : List Token → Type 0
@@ -41,22 +38,6 @@ abbrev pub NoDesc : List Token → Type 0
 NoDesc rest = (name : List ℕ) → key_of name rest ≡ Some (record { column = name; down = false }, rest)
 
 -- what is spelled is read
-pub names_listed : ListsItems SpellsName Anything name_at at_end itself itself
-names_listed = record {
-  shorter = λ x from rest e. omega (arith, ap length e);
-  complete = λ x from rest e ends. ap name_at e;
-  comma = λ rest. tt;
-  adds = λ done x. refl;
-}
-
-pub pairs_listed : ListsItems SpellsPair Anything pair_at at_end itself itself
-pairs_listed = record {
-  shorter = λ x from rest e. omega (arith, ap length e);
-  complete = λ x from rest e ends. ap pair_at e;
-  comma = λ rest. tt;
-  adds = λ done x. refl;
-}
-
 key_shorter : (down : Bool) (column : List ℕ) (from rest : List Token) → from ≡ Name column ∷ cond down (Word word.Desc ∷ rest) rest → length rest < length from
 key_shorter true column from rest e = omega (arith, ap length e)
 key_shorter false column from rest e = omega (arith, ap length e)
@@ -64,14 +45,6 @@ key_shorter false column from rest e = omega (arith, ap length e)
 key_complete : (down : Bool) (column : List ℕ) (rest : List Token) → NoDesc rest → key_of column (cond down (Word word.Desc ∷ rest) rest) ≡ Some (record { column = column; down = down }, rest)
 key_complete true column rest ends = refl
 key_complete false column rest ends = ends column
-
-pub keys_listed : ListsItems SpellsKey NoDesc key_at at_end itself itself
-keys_listed = record {
-  shorter = λ x from rest e. key_shorter x.down x.column from rest e;
-  complete = λ x from rest e ends. ap key_at e ∙ key_complete x.down x.column rest ends;
-  comma = λ rest name. refl;
-  adds = λ done x. refl;
-}
 
 agg_shorter : (a : NamedAgg) (rest : List Token) → length rest < length (agg_argument a ++ Mark mark.Close ∷ rest)
 agg_shorter agg.Count rest = omega arith
@@ -99,14 +72,6 @@ result_complete (suc k) name a rest some = ap (λ r. and_then r (λ a rest. Some
 result_shorter : (x : NamedResult) (from rest : List Token) → from ≡ Name x.name ∷ Mark mark.Equal ∷ Name (agg_word x.agg) ∷ Mark mark.Open ∷ (agg_argument x.agg ++ Mark mark.Close ∷ rest) → length rest < length from
 result_shorter x from rest e = let less = agg_shorter x.agg rest in omega (arith, less, ap length e)
 
-pub results_listed : (n : ℕ) → ListsItems (SpellsResult n) Anything (result_at n) at_end itself itself
-results_listed n = record {
-  shorter = λ x from rest s. result_shorter x from rest s.1;
-  complete = λ x from rest s ends. ap (result_at n) s.1 ∙ result_complete n x.name x.agg rest s.0;
-  comma = λ rest. tt;
-  adds = λ done x. refl;
-}
-
 module _ (m n : ℕ) where
   -- what is kept of a column
   abbrev pub column_value : PlainColumn → List ℕ × PlainDraft
@@ -120,14 +85,6 @@ module _ (m n : ℕ) where
       ap (column_at m n) s.1
       ∙ ap (λ r. and_then r (λ e rest. Some ((x.name, e), rest))) (spelled_is_read m n x.expr s.0 rest ends s.2)
 
-  pub columns_listed : ListsItems (SpellsColumn n) EndsExpr (column_at m n) (with_column m) (columns_draft_of m) column_value
-  columns_listed = record {
-    shorter = column_shorter;
-    complete = column_complete;
-    comma = λ rest. tt;
-    adds = λ done x. one_column_more m done x.name x.expr;
-  }
-
 -- what is read is spelled
 name_some : (from rest : List Token) (a : List ℕ) → name_at from ≡ Some (a, rest) → from ≡ Name a ∷ rest
 name_some (Name name ∷ ts) rest a q = let p = both name a ts rest q in λ i. Name (p.0 i) ∷ p.1 i
@@ -137,10 +94,10 @@ named_some : (from rest : List Token) (a : List ℕ) → named_at from ≡ Some 
 named_some (Name name ∷ Mark mark.Equal ∷ ts) rest a q = let p = both name a ts rest q in λ i. Name (p.0 i) ∷ Mark mark.Equal ∷ p.1 i
 named_some _ rest a q = absurd (cc q)
 
-pub name_sound : (from rest : List Token) (a : List ℕ) → name_at from ≡ Some (a, rest) → ItemSo SpellsName itself a from rest
+name_sound : (from rest : List Token) (a : List ℕ) → name_at from ≡ Some (a, rest) → ItemSo SpellsName itself a from rest
 name_sound from rest a q = record { item = a; is = refl; spells = name_some from rest a q }
 
-pub pair_sound : (from rest : List Token) (a : NamedPair) → pair_at from ≡ Some (a, rest) → ItemSo SpellsPair itself a from rest
+pair_sound : (from rest : List Token) (a : NamedPair) → pair_at from ≡ Some (a, rest) → ItemSo SpellsPair itself a from rest
 pair_sound from rest a q =
     let one = then_some (named_at from) (λ left behind. and_then (name_at behind) (λ right rest. Some (record { left = left; right = right }, rest))) (a, rest) q in
     let two = then_some (name_at one.1) (λ right rest. Some (record { left = one.0; right = right }, rest)) (a, rest) one.3 in
@@ -156,7 +113,7 @@ desc_some : (name : List ℕ) (ts rest : List Token) (a : NamedKey) → key_of n
 desc_some name (Word word.Desc ∷ ts) rest a q = let p = both (record { column = name; down = true }) a ts rest q in (true, sym p.0, ap (λ r. Word word.Desc ∷ r) p.1)
 desc_some name ts rest a q = let p = both (record { column = name; down = false }) a ts rest q in (false, sym p.0, p.1)
 
-pub key_sound : (from rest : List Token) (a : NamedKey) → key_at from ≡ Some (a, rest) → ItemSo SpellsKey itself a from rest
+key_sound : (from rest : List Token) (a : NamedKey) → key_at from ≡ Some (a, rest) → ItemSo SpellsKey itself a from rest
 key_sound from rest a q =
     let one = then_some (name_at from) key_of (a, rest) q in
     let two = desc_some one.0 one.1 rest a one.3 in
@@ -197,9 +154,8 @@ ArgumentSo name a ts rest = (name ≡ agg_word a) × (ts ≡ agg_argument a ++ M
 closed_some : (found : Option NamedAgg) (ts rest : List Token) (a : NamedAgg) → closed_at found ts ≡ Some (a, rest) → (found ≡ Some a) × (ts ≡ Mark mark.Close ∷ rest)
 closed_some None ts rest a q = absurd (cc q)
 closed_some (Some b) ts rest a q =
-    let read = up_to_some close_at (Some (b, ts)) a rest q in
-    let p = both b a ts read.0 read.1 in
-    (ap Some p.0, p.1 ∙ close_some read.0 rest read.2)
+    let p = both b a ts (Mark mark.Close ∷ rest) (up_to_some Close (Some (b, ts)) a rest q) in
+    (ap Some p.0, p.1)
 
 counted_some : (name : List ℕ) (ts rest : List Token) (a : NamedAgg) → closed_at (count_of name) ts ≡ Some (a, rest) → ArgumentSo name a ts rest
 counted_some name ts rest a q = by (bytes_eq name (codes "count")) refl (closed_some (count_of name) ts rest a q).0
@@ -226,12 +182,12 @@ argument_some name ts rest a q = counted_some name ts rest a q
 agg_some : (n : ℕ) (ts rest : List Token) (a : NamedAgg) → agg_at n ts ≡ Some (a, rest) → (0 < n) × (ts ≡ Name (agg_word a) ∷ Mark mark.Open ∷ (agg_argument a ++ Mark mark.Close ∷ rest))
 agg_some zero ts rest a q = absurd (cc q)
 agg_some (suc k) ts rest a q =
-    let one = then_some (name_at ts) (λ name behind. and_then (open_at behind) (λ _. argument_at name)) (a, rest) q in
-    let two = then_some (open_at one.1) (λ _. argument_at one.0) (a, rest) one.3 in
+    let one = then_some (name_at ts) (λ name behind. and_then (terminal_at Open behind) (λ _. argument_at name)) (a, rest) q in
+    let two = then_some (terminal_at Open one.1) (λ _. argument_at one.0) (a, rest) one.3 in
     let so = argument_some one.0 two.1 rest a two.3 in
-    (omega arith, name_some ts one.1 one.0 one.2 ∙ ap (λ r. Name one.0 ∷ r) (open_some one.1 two.1 two.2) ∙ (λ i. Name (so.0 i) ∷ Mark mark.Open ∷ so.1 i))
+    (omega arith, name_some ts one.1 one.0 one.2 ∙ ap (λ r. Name one.0 ∷ r) (terminal_some Open one.1 two.1 two.2) ∙ (λ i. Name (so.0 i) ∷ Mark mark.Open ∷ so.1 i))
 
-pub result_sound : (n : ℕ) (from rest : List Token) (a : NamedResult) → result_at n from ≡ Some (a, rest) → ItemSo (SpellsResult n) itself a from rest
+result_sound : (n : ℕ) (from rest : List Token) (a : NamedResult) → result_at n from ≡ Some (a, rest) → ItemSo (SpellsResult n) itself a from rest
 result_sound n from rest a q =
     let one = then_some (named_at from) (λ name behind. and_then (agg_at n behind) (λ a rest. Some (record { name = name; agg = a }, rest))) (a, rest) q in
     let two = then_some (agg_at n one.1) (λ a rest. Some (record { name = one.0; agg = a }, rest)) (a, rest) one.3 in
@@ -245,7 +201,7 @@ result_sound n from rest a q =
     }
 
 module _ (m n : ℕ) where
-  pub column_sound : (from rest : List Token) (a : List ℕ × PlainDraft) → column_at m n from ≡ Some (a, rest) → ItemSo (SpellsColumn n) (column_value m n) a from rest
+  column_sound : (from rest : List Token) (a : List ℕ × PlainDraft) → column_at m n from ≡ Some (a, rest) → ItemSo (SpellsColumn n) (column_value m n) a from rest
   column_sound from rest a q =
       let one = then_some (named_at from) (λ name behind. and_then (expr_at m (inner m n) behind) (λ e rest. Some ((name, e), rest))) (a, rest) q in
       let two = then_some (expr_at m (inner m n) one.1) (λ e rest. Some ((one.0, e), rest)) (a, rest) one.3 in
@@ -256,3 +212,49 @@ module _ (m n : ℕ) where
         is = sym p.0 ∙ ap (λ e. (one.0, e)) s.is;
         spells = (one.1, named_some from one.1 one.0 one.2, s.spells);
       }
+
+  pub columns_listed : ListsItems (SpellsColumn n) EndsExpr (column_at m n) (with_column m) (columns_draft_of m) (column_value m n)
+  columns_listed = record {
+    shorter = column_shorter m n;
+    complete = column_complete m n;
+    sound = column_sound;
+    comma = λ rest. tt;
+    adds = λ done x. one_column_more m done x.name x.expr;
+  }
+
+-- the lists of the stages
+pub names_listed : ListsItems SpellsName Anything name_at at_end itself itself
+names_listed = record {
+  shorter = λ x from rest e. omega (arith, ap length e);
+  complete = λ x from rest e ends. ap name_at e;
+  sound = name_sound;
+  comma = λ rest. tt;
+  adds = λ done x. refl;
+}
+
+pub pairs_listed : ListsItems SpellsPair Anything pair_at at_end itself itself
+pairs_listed = record {
+  shorter = λ x from rest e. omega (arith, ap length e);
+  complete = λ x from rest e ends. ap pair_at e;
+  sound = pair_sound;
+  comma = λ rest. tt;
+  adds = λ done x. refl;
+}
+
+pub keys_listed : ListsItems SpellsKey NoDesc key_at at_end itself itself
+keys_listed = record {
+  shorter = λ x from rest e. key_shorter x.down x.column from rest e;
+  complete = λ x from rest e ends. ap key_at e ∙ key_complete x.down x.column rest ends;
+  sound = key_sound;
+  comma = λ rest name. refl;
+  adds = λ done x. refl;
+}
+
+pub results_listed : (n : ℕ) → ListsItems (SpellsResult n) Anything (result_at n) at_end itself itself
+results_listed n = record {
+  shorter = λ x from rest s. result_shorter x from rest s.1;
+  complete = λ x from rest s ends. ap (result_at n) s.1 ∙ result_complete n x.name x.agg rest s.0;
+  sound = result_sound n;
+  comma = λ rest. tt;
+  adds = λ done x. refl;
+}

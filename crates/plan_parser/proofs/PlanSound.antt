@@ -5,24 +5,22 @@ use Rattle.plan_grammar.specs.declared.token.Token.{Token}
 use Rattle.plan_grammar.specs.declared.token.Token.TheVariants.{Name, Word, Mark}
 use Rattle.plan_grammar.specs.declared.token.Mark.TheVariants as mark
 use Rattle.plan_grammar.specs.declared.token.Word.TheVariants as word
-use Rattle.plan_grammar.specs.declared.plan.NamedResult.{NamedResult}
-use Rattle.plan_grammar.specs.declared.plan.NamedPair.{NamedPair}
-use Rattle.plan_grammar.specs.declared.plan.NamedKey.{NamedKey}
 use Rattle.plan_parser.specs.declared.plan_draft.Counts.{Counts}
 use Rattle.plan_grammar.specs.PlainNamed.{PlainTree, From, Where, Select, Distinct, Group, Join, Concat, Order}
 use Rattle.plan_grammar.specs.Grammar as g
 use Rattle.plan_grammar.specs.Grammar.{Listed, SpellsName, SpellsColumn, SpellsPair, SpellsKey, SpellsResult, SpellsPlan}
 use Rattle.plan_parser.specs.Reading.{expr_at, inner}
 use Rattle.plan_parser.specs.PlanDraft.{PlanDraft, ColumnsDraft, with_column, columns_draft_of, plan_draft_of, from_draft, where_draft, select_draft, distinct_draft, group_draft, join_draft, concat_draft, order_draft}
-use Rattle.plan_parser.specs.Reader.{ReadOf, and_then, open_at, close_at, bar_at, with_at, on_at, up_to, all_repeated}
-use Rattle.plan_parser.specs.PlanReading.{PlanReader, list_at, at_end, name_at, names_at, column_at, columns_at, pair_at, pairs_at, key_at, keys_at, result_at, results_at, inner_plan_at, where_at, select_at, group_at, join_at, concat_at, order_at, stage_at, from_at, plan_with, inner_plan, plan_at}
+use Rattle.plan_parser.specs.declared.parser.Terminal.TheVariants.{Bar, Close, On, Open, With}
+use Rattle.plan_parser.specs.Reader.{ReadOf, and_then, terminal_at, up_to, all_repeated}
+use Rattle.plan_parser.specs.PlanReading.{PlanReader, list_at, names_at, column_at, columns_at, pairs_at, keys_at, results_at, inner_plan_at, where_at, select_at, group_at, join_at, concat_at, order_at, stage_at, from_at, plan_with, inner_plan, plan_at}
 use Rattle.plan_grammar.proofs.TokenLemmas.{both}
 use Rattle.plan_parser.proofs.Sound.{read_is_spelled}
-use Rattle.plan_parser.proofs.PlanDraftLemmas.{no_columns_kept, one_column_more, where_kept, select_kept, distinct_kept, group_kept, join_kept, concat_kept, order_kept}
-use Rattle.plan_parser.proofs.PlanItems.{itself, column_value, name_sound, pair_sound, key_sound, result_sound, column_sound}
+use Rattle.plan_parser.proofs.PlanDraftLemmas.{no_columns_kept, where_kept, select_kept, distinct_kept, group_kept, join_kept, concat_kept, order_kept}
+use Rattle.plan_parser.proofs.PlanItems.{names_listed, pairs_listed, keys_listed, results_listed, columns_listed}
 use Rattle.plan_parser.proofs.RepeatLemmas.{then_some, repeated_keeps}
-use Rattle.plan_parser.proofs.ReadingLemmas.{open_some, close_some, bar_some, with_some, on_some, up_to_some}
-use Rattle.plan_parser.proofs.ListLemmas.{ListedSo, list_sound}
+use Rattle.plan_parser.proofs.ReadingLemmas.{terminal_some, up_to_some}
+use Rattle.plan_parser.proofs.ListLemmas.{ListedSo, list_sound, plain_list_sound}
 
 -- the grammar spells a plan of which this is kept
 pub record PlanSpelled (most : Counts) (n : ℕ) (d : PlanDraft) (from rest : List Token) : Type 0 where
@@ -30,30 +28,10 @@ pub record PlanSpelled (most : Counts) (n : ℕ) (d : PlanDraft) (from rest : Li
   pub is : d ≡ plan_draft_of most plan
   pub spells : SpellsPlan n plan from rest
 
--- the lists of the stages
-names_sound : (from : List Token) (keys : List (List ℕ)) (rest : List Token) → names_at from ≡ Some (keys, rest) → Listed SpellsName keys from rest
-names_sound from keys rest q =
-    let s = list_sound SpellsName name_at at_end itself itself (λ done x. refl) name_sound from keys rest q in
-    subst (λ keys. Listed SpellsName keys from rest) (sym s.is) s.spells
-
-results_sound : (n : ℕ) (from : List Token) (results : List NamedResult) (rest : List Token) → results_at n from ≡ Some (results, rest) → Listed (SpellsResult n) results from rest
-results_sound n from results rest q =
-    let s = list_sound (SpellsResult n) (result_at n) at_end itself itself (λ done x. refl) (result_sound n) from results rest q in
-    subst (λ results. Listed (SpellsResult n) results from rest) (sym s.is) s.spells
-
-pairs_sound : (from : List Token) (on : List NamedPair) (rest : List Token) → pairs_at from ≡ Some (on, rest) → Listed SpellsPair on from rest
-pairs_sound from on rest q =
-    let s = list_sound SpellsPair pair_at at_end itself itself (λ done x. refl) pair_sound from on rest q in
-    subst (λ on. Listed SpellsPair on from rest) (sym s.is) s.spells
-
-keys_sound : (from : List Token) (keys : List NamedKey) (rest : List Token) → keys_at from ≡ Some (keys, rest) → Listed SpellsKey keys from rest
-keys_sound from keys rest q =
-    let s = list_sound SpellsKey key_at at_end itself itself (λ done x. refl) key_sound from keys rest q in
-    subst (λ keys. Listed SpellsKey keys from rest) (sym s.is) s.spells
-
+-- the columns of a projection
 columns_sound : (m n : ℕ) (from : List Token) (columns : ColumnsDraft) (rest : List Token) → columns_at m n from ≡ Some (columns, rest) → ListedSo (SpellsColumn n) (columns_draft_of m) from columns rest
 columns_sound m n from columns rest q =
-    list_sound (SpellsColumn n) (column_at m n) (with_column m) (columns_draft_of m) (column_value m n) (λ done x. one_column_more m done x.name x.expr) (column_sound m n) from columns rest
+    list_sound (columns_listed m n) from columns rest
     (ap (λ none. list_at (column_at m n) (with_column m) none from) (no_columns_kept m) ∙ q)
 
 module _ (most : Counts) where
@@ -64,9 +42,8 @@ module _ (most : Counts) where
   module _ (within : PlanReader) (n : ℕ) (sound : SoundWithin n within) where
     inner_some : (ts rest : List Token) (d : PlanDraft) → inner_plan_at within ts ≡ Some (d, rest) → (mid : List Token) × (ts ≡ Mark mark.Open ∷ mid) × (within mid ≡ Some (d, Mark mark.Close ∷ rest))
     inner_some ts rest d q =
-        let o = then_some (open_at ts) (λ _ mid. up_to close_at (within mid)) (d, rest) q in
-        let read = up_to_some close_at (within o.1) d rest o.3 in
-        (o.1, open_some ts o.1 o.2, read.1 ∙ ap (λ r. Some (d, r)) (close_some read.0 rest read.2))
+        let o = then_some (terminal_at Open ts) (λ _ mid. up_to (terminal_at Close) (within mid)) (d, rest) q in
+        (o.1, terminal_some Open ts o.1 o.2, up_to_some Close (within o.1) d rest o.3)
 
     -- a stage on a plan that is spelled
     module _ (p : PlainTree) (from : List Token) where
@@ -92,19 +69,18 @@ module _ (most : Counts) where
 
       group_sound : (ts rest : List Token) (d : PlanDraft) → SpellsPlan n p from (Mark mark.Bar ∷ Word word.Group ∷ ts) → group_at most n kept ts ≡ Some (d, rest) → So d rest
       group_sound ts rest d s q =
-          let keys = then_some (up_to with_at (names_at ts)) (λ keys next. and_then (results_at n next) (λ results rest. Some (group_draft most kept keys results, rest))) (d, rest) q in
-          let next = up_to_some with_at (names_at ts) keys.0 keys.1 keys.2 in
+          let keys = then_some (up_to (terminal_at With) (names_at ts)) (λ keys next. and_then (results_at n next) (λ results rest. Some (group_draft most kept keys results, rest))) (d, rest) q in
           let read = then_some (results_at n keys.1) (λ results rest. Some (group_draft most kept keys.0 results, rest)) (d, rest) keys.3 in
           let e = both (group_draft most kept keys.0 read.0) d read.1 rest read.3 in
-          let first = names_sound ts keys.0 (Word word.With ∷ keys.1) (next.1 ∙ ap (λ r. Some (keys.0, r)) (with_some next.0 keys.1 next.2)) in
-          let second = results_sound n keys.1 read.0 rest (read.2 ∙ ap (λ r. Some (read.0, r)) e.1) in
+          let first = plain_list_sound names_listed ts keys.0 (Word word.With ∷ keys.1) (up_to_some With (names_at ts) keys.0 keys.1 keys.2) in
+          let second = plain_list_sound (results_listed n) keys.1 read.0 rest (read.2 ∙ ap (λ r. Some (read.0, r)) e.1) in
           record { plan = Group p keys.0 read.0; is = sym e.0 ∙ group_kept most p keys.0 read.0; spells = g.group keys.1 s first second }
 
       order_sound : (ts rest : List Token) (d : PlanDraft) → SpellsPlan n p from (Mark mark.Bar ∷ Word word.Order ∷ ts) → order_at most kept ts ≡ Some (d, rest) → So d rest
       order_sound ts rest d s q =
           let read = then_some (keys_at ts) (λ keys rest. Some (order_draft most kept keys, rest)) (d, rest) q in
           let e = both (order_draft most kept read.0) d read.1 rest read.3 in
-          let keys = keys_sound ts read.0 rest (read.2 ∙ ap (λ r. Some (read.0, r)) e.1) in
+          let keys = plain_list_sound keys_listed ts read.0 rest (read.2 ∙ ap (λ r. Some (read.0, r)) e.1) in
           record { plan = Order p read.0; is = sym e.0 ∙ order_kept most p read.0; spells = g.order s keys }
 
       distinct_sound : (ts rest : List Token) (d : PlanDraft) → SpellsPlan n p from (Mark mark.Bar ∷ Word word.Distinct ∷ ts) → ◌≡◌ {A = ReadOf PlanDraft} (Some (distinct_draft most kept, ts)) (Some (d, rest)) → So d rest
@@ -128,12 +104,11 @@ module _ (most : Counts) where
 
       join_sound : (ts rest : List Token) (d : PlanDraft) → SpellsPlan n p from (Mark mark.Bar ∷ Word word.Join ∷ ts) → join_at most within kept ts ≡ Some (d, rest) → So d rest
       join_sound ts rest d s q =
-          let right = then_some (up_to on_at (inner_plan_at within ts)) (λ right next. and_then (pairs_at next) (λ on rest. Some (join_draft most kept right on, rest))) (d, rest) q in
-          let next = up_to_some on_at (inner_plan_at within ts) right.0 right.1 right.2 in
+          let right = then_some (up_to (terminal_at On) (inner_plan_at within ts)) (λ right next. and_then (pairs_at next) (λ on rest. Some (join_draft most kept right on, rest))) (d, rest) q in
           let read = then_some (pairs_at right.1) (λ on rest. Some (join_draft most kept right.0 on, rest)) (d, rest) right.3 in
           let e = both (join_draft most kept right.0 read.0) d read.1 rest read.3 in
-          let on = pairs_sound right.1 read.0 rest (read.2 ∙ ap (λ r. Some (read.0, r)) e.1) in
-          let i = inner_some ts (Word word.On ∷ right.1) right.0 (next.1 ∙ ap (λ r. Some (right.0, r)) (on_some next.0 right.1 next.2)) in
+          let on = plain_list_sound pairs_listed right.1 read.0 rest (read.2 ∙ ap (λ r. Some (read.0, r)) e.1) in
+          let i = inner_some ts (Word word.On ∷ right.1) right.0 (up_to_some On (inner_plan_at within ts) right.0 right.1 right.2) in
           let t = sound i.0 (Mark mark.Close ∷ Word word.On ∷ right.1) right.0 i.2 in
           let left : SpellsPlan (suc t.0) p from (Mark mark.Bar ∷ Word word.Join ∷ Mark mark.Open ∷ i.0) = subst (λ k. SpellsPlan k p from (Mark mark.Bar ∷ Word word.Join ∷ Mark mark.Open ∷ i.0)) t.1 (subst (λ r. SpellsPlan n p from (Mark mark.Bar ∷ Word word.Join ∷ r)) i.1 s) in
           let whole : SpellsPlan (suc t.0) (Join p t.2.plan read.0) from rest = g.join left t.2.spells on in
@@ -163,14 +138,14 @@ module _ (most : Counts) where
               record { plan = From name; is = sym e.0; spells = subst (λ r. SpellsPlan n (From name) (Word word.From ∷ Name name ∷ ts) r) e.1 g.stream }
           by _ rest d q = absurd (cc q)
 
-      keeps : (d : PlanDraft) (ts : List Token) (o : Unit {0}) (behind : List Token) (t : PlanDraft) (after : List Token) → PlanSpelled most n d from ts → bar_at ts ≡ Some (o, behind) → stage_at most within n d behind ≡ Some (t, after) → PlanSpelled most n t from after
+      keeps : (d : PlanDraft) (ts : List Token) (o : Unit {0}) (behind : List Token) (t : PlanDraft) (after : List Token) → PlanSpelled most n d from ts → terminal_at Bar ts ≡ Some (o, behind) → stage_at most within n d behind ≡ Some (t, after) → PlanSpelled most n t from after
       keeps d ts o behind t after k found q =
-          stage_sound k.plan from behind after t (subst (λ ts. SpellsPlan n k.plan from ts) (bar_some ts behind found) k.spells) (sym (ap (λ d. stage_at most within n d behind) k.is) ∙ q)
+          stage_sound k.plan from behind after t (subst (λ ts. SpellsPlan n k.plan from ts) (terminal_some Bar ts behind found) k.spells) (sym (ap (λ d. stage_at most within n d behind) k.is) ∙ q)
 
       plan_sound : (rest : List Token) (d : PlanDraft) → plan_with most within n from ≡ Some (d, rest) → PlanSpelled most n d from rest
       plan_sound rest d q =
-          let read = then_some (from_at most from) (all_repeated bar_at (λ _. stage_at most within n)) (d, rest) q in
-          repeated_keeps bar_at (λ _. stage_at most within n) (λ d ts. PlanSpelled most n d from ts) keeps (suc (length read.1)) read.0 read.1 d rest (first_sound read.1 read.0 read.2) read.3
+          let read = then_some (from_at most from) (all_repeated (terminal_at Bar) (λ _. stage_at most within n)) (d, rest) q in
+          repeated_keeps (terminal_at Bar) (λ _. stage_at most within n) (λ d ts. PlanSpelled most n d from ts) keeps (suc (length read.1)) read.0 read.1 d rest (first_sound read.1 read.0 read.2) read.3
 
   inner_plan_sound : (n : ℕ) → SoundWithin n (inner_plan most n)
   unfolding inner_plan

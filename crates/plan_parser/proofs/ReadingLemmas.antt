@@ -1,78 +1,60 @@
 -- How tokens are read as an expression.
 use Prim.Native.Nat.{zero, suc}
-use Rattle.std.proofs.Common.{◌≡◌, refl, sym, ap, ◌∙◌, ℕ, ◌<◌, ◌-◌, List, ◌∷◌, length, Some, None, arith}
+use Rattle.std.proofs.Common.{◌≡◌, refl, sym, ap, ◌∙◌, ℕ, ◌<◌, ◌-◌, Bool, true, false, cond, nat_eq, List, ◌∷◌, Some, None, arith}
+use Rattle.std.proofs.lemmas.Bool.Decides.{nat_tests}
 use Rattle.plan_grammar.specs.declared.token.Token.{Token}
 use Rattle.plan_grammar.specs.declared.token.Token.TheVariants.{Word, Mark}
 use Rattle.plan_grammar.specs.declared.token.Mark.TheVariants as mark
 use Rattle.plan_grammar.specs.declared.token.Word.TheVariants as word
-use Rattle.plan_grammar.specs.declared.operator.Operator as the_operator
-use Rattle.plan_parser.specs.Draft.{PlainDraft, with2}
-use Rattle.plan_parser.specs.Reader.{ReadOf, ReaderOf, and_then, comma_at, open_at, close_at, bar_at, with_at, on_at, up_to}
-use Rattle.plan_parser.specs.Reading.{Reader, Operators, operand_onto, left_at, joined, inner, expr_at, not_at, un_at}
+use Rattle.plan_grammar.specs.Operators.{Rule}
+use Rattle.plan_parser.specs.declared.parser.Terminal.{Terminal}
+use Rattle.plan_parser.specs.declared.parser.Terminal.TheVariants.{Comma, Open, Close, Bar, With, On}
+use Rattle.plan_parser.specs.Reader.{ReadOf, and_then, terminal_at, up_to}
+use Rattle.plan_parser.specs.Reading.{Reader, Readers, read_by, below, rule_at, inner}
 use Rattle.plan_grammar.proofs.TokenLemmas.{both}
-use Rattle.plan_parser.proofs.RepeatLemmas.{then_some, Repeats, Repeats-first, Repeats-next, Repeats-end}
+use Rattle.plan_parser.proofs.RepeatLemmas.{then_some}
 
 -- within a construct one level less may be open, and with none left nothing is read
-pub inner_expr : (most n : ℕ) (ts : List Token) → (n ≡ 0 → (inner most n).expr ts ≡ None) × (0 < n → (inner most n).expr ts ≡ expr_at most (inner most (n - 1)) ts)
+pub inner_rule : (most n : ℕ) (rule : Rule) (ts : List Token) → (n ≡ 0 → inner most n rule ts ≡ None) × (0 < n → inner most n rule ts ≡ rule_at most (inner most (n - 1)) rule ts)
 unfolding inner
-inner_expr most zero ts = (λ e. refl, λ some. absurd (omega (arith, some)))
-inner_expr most (suc n) ts = (λ e. absurd (omega (arith, e)), λ some. let same : suc n - 1 ≡ n = omega arith in ap (λ k. expr_at most (inner most k) ts) (sym same))
+inner_rule most zero rule ts = (λ e. refl, λ some. absurd (omega (arith, some)))
+inner_rule most (suc n) rule ts = (λ e. absurd (omega (arith, e)), λ some. let same : suc n - 1 ≡ n = omega arith in ap (λ k. rule_at most (inner most k) rule ts) (sym same))
 
-pub inner_not : (most n : ℕ) (ts : List Token) → (n ≡ 0 → (inner most n).not ts ≡ None) × (0 < n → (inner most n).not ts ≡ not_at most (inner most (n - 1)) ts)
-unfolding inner
-inner_not most zero ts = (λ e. refl, λ some. absurd (omega (arith, some)))
-inner_not most (suc n) ts = (λ e. absurd (omega (arith, e)), λ some. let same : suc n - 1 ≡ n = omega arith in ap (λ k. not_at most (inner most k) ts) (sym same))
+-- the reader of a rule below another is its own
+pub below_is : (most : ℕ) (readers : Readers) (k : ℕ) (rule : Rule) (ts : List Token) → rule < k → below most readers k rule ts ≡ rule_at most readers rule ts
+unfolding below
+below_is most readers zero rule ts less = absurd (omega (arith, less))
+below_is most readers (suc k) rule ts less = by (nat_eq rule k) refl (below_is most readers k rule ts)
+  where
+    own : Reader
+    own ts = read_by most readers (below most readers k) k ts
 
-pub inner_un : (most n : ℕ) (ts : List Token) → (n ≡ 0 → (inner most n).un ts ≡ None) × (0 < n → (inner most n).un ts ≡ un_at most (inner most (n - 1)) ts)
-unfolding inner
-inner_un most zero ts = (λ e. refl, λ some. absurd (omega (arith, some)))
-inner_un most (suc n) ts = (λ e. absurd (omega (arith, e)), λ some. let same : suc n - 1 ≡ n = omega arith in ap (λ k. un_at most (inner most k) ts) (sym same))
+    by : (b : Bool) → nat_eq rule k ≡ b → (rule < k → below most readers k rule ts ≡ rule_at most readers rule ts) → cond b own (below most readers k rule) ts ≡ rule_at most readers rule ts
+    by true e again = let same : k ≡ rule = grind (arith, nat_tests, e) in ap (λ j. read_by most readers (below most readers j) j ts) same
+    by false e again = again (grind (arith, nat_tests, e, less))
 
 -- where a mark or a word was read it stands
-pub comma_some : (ts rest : List Token) → comma_at ts ≡ Some (tt, rest) → ts ≡ Mark mark.Comma ∷ rest
-comma_some (Mark mark.Comma ∷ ts) rest q = ap (λ r. Mark mark.Comma ∷ r) (both tt tt ts rest q).1
-comma_some _ rest q = absurd (cc q)
+abbrev pub token_of : Terminal → Token
+token_of Comma = Mark mark.Comma
+token_of Open = Mark mark.Open
+token_of Close = Mark mark.Close
+token_of Bar = Mark mark.Bar
+token_of With = Word word.With
+token_of On = Word word.On
 
-pub open_some : (ts rest : List Token) → open_at ts ≡ Some (tt, rest) → ts ≡ Mark mark.Open ∷ rest
-open_some (Mark mark.Open ∷ ts) rest q = ap (λ r. Mark mark.Open ∷ r) (both tt tt ts rest q).1
-open_some _ rest q = absurd (cc q)
+pub terminal_some : (t : Terminal) (ts rest : List Token) → terminal_at t ts ≡ Some (tt, rest) → ts ≡ token_of t ∷ rest
+terminal_some Comma (Mark mark.Comma ∷ ts) rest q = ap (λ r. Mark mark.Comma ∷ r) (both tt tt ts rest q).1
+terminal_some Open (Mark mark.Open ∷ ts) rest q = ap (λ r. Mark mark.Open ∷ r) (both tt tt ts rest q).1
+terminal_some Close (Mark mark.Close ∷ ts) rest q = ap (λ r. Mark mark.Close ∷ r) (both tt tt ts rest q).1
+terminal_some Bar (Mark mark.Bar ∷ ts) rest q = ap (λ r. Mark mark.Bar ∷ r) (both tt tt ts rest q).1
+terminal_some With (Word word.With ∷ ts) rest q = ap (λ r. Word word.With ∷ r) (both tt tt ts rest q).1
+terminal_some On (Word word.On ∷ ts) rest q = ap (λ r. Word word.On ∷ r) (both tt tt ts rest q).1
+terminal_some _ _ rest q = absurd (cc q)
 
-pub close_some : (ts rest : List Token) → close_at ts ≡ Some (tt, rest) → ts ≡ Mark mark.Close ∷ rest
-close_some (Mark mark.Close ∷ ts) rest q = ap (λ r. Mark mark.Close ∷ r) (both tt tt ts rest q).1
-close_some _ rest q = absurd (cc q)
-
-pub bar_some : (ts rest : List Token) → bar_at ts ≡ Some (tt, rest) → ts ≡ Mark mark.Bar ∷ rest
-bar_some (Mark mark.Bar ∷ ts) rest q = ap (λ r. Mark mark.Bar ∷ r) (both tt tt ts rest q).1
-bar_some _ rest q = absurd (cc q)
-
-pub with_some : (ts rest : List Token) → with_at ts ≡ Some (tt, rest) → ts ≡ Word word.With ∷ rest
-with_some (Word word.With ∷ ts) rest q = ap (λ r. Word word.With ∷ r) (both tt tt ts rest q).1
-with_some _ rest q = absurd (cc q)
-
-pub on_some : (ts rest : List Token) → on_at ts ≡ Some (tt, rest) → ts ≡ Word word.On ∷ rest
-on_some (Word word.On ∷ ts) rest q = ap (λ r. Word word.On ∷ r) (both tt tt ts rest q).1
-on_some _ rest q = absurd (cc q)
-
--- what was read up to an end was read, and behind it the end stands
-pub up_to_some : {A : Type 0} (end : ReaderOf (Unit {0})) (read : ReadOf A) (x : A) (rest : List Token) → up_to end read ≡ Some (x, rest) → (mid : List Token) × (read ≡ Some (x, mid)) × (end mid ≡ Some (tt, rest))
+-- what was read up to a terminal was read, and behind it the terminal stands
+pub up_to_some : {A : Type 0} (end : Terminal) (read : ReadOf A) (x : A) (rest : List Token) → up_to (terminal_at end) read ≡ Some (x, rest) → read ≡ Some (x, token_of end ∷ rest)
 up_to_some end read x rest q =
-    let first = then_some read (λ y mid. and_then (end mid) (λ _ behind. Some (y, behind))) (x, rest) q in
-    let then = then_some (end first.1) (λ _ behind. Some (first.0, behind)) (x, rest) first.3 in
+    let first = then_some read (λ y mid. and_then (terminal_at end mid) (λ _ behind. Some (y, behind))) (x, rest) q in
+    let then = then_some (terminal_at end first.1) (λ _ behind. Some (first.0, behind)) (x, rest) first.3 in
     let p = both first.0 x then.1 rest then.3 in
-    (first.1, first.2 ∙ ap (λ y. Some (y, first.1)) p.0, then.2 ∙ ap (λ r. Some (tt, r)) p.1)
-
--- operands that were read up to a rest, behind which more may be read
-module _ (most : ℕ) (operator : Operators) (item : Reader) (ts : List Token) (d : PlainDraft) (rest : List Token) where
-  abbrev pub Continues : Type 0
-  Continues = Repeats operator (operand_onto most item) (left_at most operator item ts) d rest
-
-  pub Continues-first : item ts ≡ Some (d, rest) → Continues
-  Continues-first e = Repeats-first operator (operand_onto most item) (item ts) d rest e
-
-  module _ (l : Continues) where
-    pub Continues-end : operator rest ≡ None → left_at most operator item ts ≡ Some (d, rest)
-    Continues-end none = Repeats-end operator (operand_onto most item) (left_at most operator item ts) d rest l none
-
-    pub Continues-next : (j : the_operator.Operator) (behind : List Token) → operator rest ≡ Some (j, behind) → (e : PlainDraft) (after : List Token) → item behind ≡ Some (e, after) → length after < length rest → Repeats operator (operand_onto most item) (left_at most operator item ts) (with2 most (joined j) d e) after
-    Continues-next j behind found e after read less =
-        Repeats-next operator (operand_onto most item) (left_at most operator item ts) d rest l j behind found (with2 most (joined j) d e) after (ap (λ r. and_then r (λ e rest. Some (with2 most (joined j) d e, rest))) read) less
+    first.2 ∙ (λ i. Some (p.0 i, terminal_some end first.1 then.1 then.2 i)) ∙ ap (λ r. Some (x, token_of end ∷ r)) p.1

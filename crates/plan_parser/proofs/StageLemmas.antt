@@ -3,11 +3,12 @@ use Prim.Native.Nat.{zero, suc}
 use Rattle.std.proofs.Common.{◌≡◌, refl, sym, ap, ℕ, ◌<◌, ◌-◌, List, None, arith}
 use Rattle.plan_grammar.specs.declared.token.Token.{Token}
 use Rattle.plan_parser.specs.declared.plan_draft.Counts.{Counts}
-use Rattle.plan_parser.specs.Reader.{and_then, open_at}
+use Rattle.plan_parser.specs.declared.parser.Terminal.TheVariants.{Open}
+use Rattle.plan_parser.specs.Reader.{and_then, terminal_at}
 use Rattle.plan_parser.specs.PlanReading.{agg_at, name_at, argument_at, inner_plan, plan_at}
 
 -- the parentheses of an aggregate are a level
-pub agg_with_levels : (n : ℕ) (ts : List Token) → (n ≡ 0 → agg_at n ts ≡ None) × (0 < n → agg_at n ts ≡ and_then (name_at ts) (λ name behind. and_then (open_at behind) (λ _. argument_at name)))
+pub agg_with_levels : (n : ℕ) (ts : List Token) → (n ≡ 0 → agg_at n ts ≡ None) × (0 < n → agg_at n ts ≡ and_then (name_at ts) (λ name behind. and_then (terminal_at Open behind) (λ _. argument_at name)))
 agg_with_levels zero ts = (λ e. refl, λ some. absurd (omega (arith, some)))
 agg_with_levels (suc n) ts = (λ e. absurd (omega (arith, e)), λ some. refl)
 

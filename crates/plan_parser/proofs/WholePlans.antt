@@ -17,7 +17,7 @@ use Rattle.plan_grammar.specs.TextTokens.{tokens_in}
 use Rattle.plan_grammar.proofs.TextTokenLaws.{tokens_are, tokens_in-some}
 use Rattle.plan_parser.specs.Reader.{ReadOf}
 use Rattle.plan_parser.specs.Answer.{TextReading, AsPlan, AsTooLarge, AsNone, whole_reading, tokens_reading, text_reading, Means}
-use Rattle.plan_parser.specs.PlanDraft.{PlanDraft, WholePlan, TooLarge, limits, first_above, up_to, capped, are_within, counts_of, plan_draft_of}
+use Rattle.plan_parser.specs.PlanDraft.{PlanDraft, WholePlan, TooLarge, limits, first_above, up_to, capped, are_within, counts_of}
 use Rattle.plan_parser.specs.PlanReading.{plan_at}
 use Rattle.plan_parser.proofs.PlanDraftLemmas.{is_within, within_is, up_to-few, up_to-many}
 use Rattle.plan_parser.proofs.PlanSound.{read_plan_is_spelled}

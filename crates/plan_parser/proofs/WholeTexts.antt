@@ -1,5 +1,5 @@
 -- What a whole text spells.
-use Rattle.std.proofs.Common.{◌≡◌, refl, sym, ap, ◌∙◌, subst, ℕ, ◌≤◌, ◌<◌, Bool, true, false, cond, nat_le, List, [], Option, Some, Result, Ok, Err, IfOk, arith}
+use Rattle.std.proofs.Common.{◌≡◌, refl, sym, ◌∙◌, subst, ℕ, ◌≤◌, ◌<◌, Bool, true, false, cond, nat_le, List, [], Option, Some, Result, Ok, Err, IfOk, arith}
 use Rattle.std.proofs.lemmas.Bool.Decides.{nat_tests}
 use Rattle.plan_grammar.specs.declared.token.Token.{Token}
 use Rattle.plan_grammar.specs.declared.expr.NamedExpr as code
@@ -10,7 +10,8 @@ use Rattle.plan_parser.specs.declared.refusal.TextRefusal.TheVariants as refusal
 use Rattle.plan_grammar.specs.Token.{AreTokens}
 use Rattle.plan_grammar.specs.PlainNamed.{PlainExpr, expr_of}
 use Rattle.plan_grammar.specs.Counts.{expr_nodes}
-use Rattle.plan_grammar.specs.Grammar.{E, Spells}
+use Rattle.plan_grammar.specs.Operators.{E}
+use Rattle.plan_grammar.specs.Grammar.{Spells}
 use Rattle.plan_parser.specs.Draft.{PlainDraft, Whole, TooMany, draft_of}
 use Rattle.plan_parser.specs.Reading.{expr_at, inner}
 use Rattle.plan_grammar.specs.Spelled.{SpellsExpr}

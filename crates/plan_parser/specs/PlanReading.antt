@@ -14,7 +14,8 @@ use Rattle.plan_grammar.specs.declared.plan.NamedPair.{NamedPair}
 use Rattle.plan_grammar.specs.declared.plan.NamedKey.{NamedKey}
 use Rattle.plan_parser.specs.declared.plan_draft.Counts.{Counts}
 use Rattle.plan_parser.specs.Draft.{PlainDraft}
-use Rattle.plan_parser.specs.Reader.{ReaderOf, and_then, comma_at, open_at, close_at, bar_at, with_at, on_at, up_to, all_repeated}
+use Rattle.plan_parser.specs.declared.parser.Terminal.TheVariants.{Bar, Close, Comma, On, Open, With}
+use Rattle.plan_parser.specs.Reader.{ReaderOf, and_then, terminal_at, up_to, all_repeated}
 use Rattle.plan_parser.specs.Reading.{expr_at, inner}
 use Rattle.plan_parser.specs.PlanDraft.{PlanDraft, ColumnsDraft, no_columns, with_column, from_draft, where_draft, select_draft, distinct_draft, group_draft, join_draft, concat_draft, order_draft}
 
@@ -24,7 +25,7 @@ item_onto item add s ts = and_then (item ts) (λ x rest. Some (add s x, rest))
 
 -- one item or more, with a comma between any two
 abbrev pub list_at : {A S : Type 0} → (ReaderOf A) → (S → A → S) → S → ReaderOf S
-list_at item add s ts = and_then (item_onto item add s ts) (all_repeated comma_at (λ _. item_onto item add))
+list_at item add s ts = and_then (item_onto item add s ts) (all_repeated (terminal_at Comma) (λ _. item_onto item add))
 
 abbrev pub at_end : {A : Type 0} → List A → A → List A
 at_end xs x = xs ++ x ∷ []
@@ -73,7 +74,7 @@ count_of name = if bytes_eq name (codes "count") then Some agg.Count else None
 
 -- the aggregate, if there is one, up to the parenthesis that closes
 abbrev pub closed_at : Option NamedAgg → ReaderOf NamedAgg
-closed_at agg ts = up_to close_at (option_map (λ a. (a, ts)) agg)
+closed_at agg ts = up_to (terminal_at Close) (option_map (λ a. (a, ts)) agg)
 
 -- what stands in the parentheses of the aggregate with this name, up to the one that closes
 abbrev pub argument_at : List ℕ → ReaderOf NamedAgg
@@ -83,7 +84,7 @@ argument_at name ts = closed_at (count_of name) ts
 -- count ( ) | sum ( NAME ) and so on; the parentheses are a level
 abbrev pub agg_at : ℕ → ReaderOf NamedAgg
 agg_at zero ts = None
-agg_at (suc levels) ts = and_then (name_at ts) (λ name behind. and_then (open_at behind) (λ _. argument_at name))
+agg_at (suc levels) ts = and_then (name_at ts) (λ name behind. and_then (terminal_at Open behind) (λ _. argument_at name))
 
 -- NAME = AGG
 abbrev pub result_at : ℕ → ReaderOf NamedResult
@@ -106,7 +107,7 @@ PlanReader = ReaderOf PlanDraft
 
 -- ( PLAN )
 abbrev pub inner_plan_at : PlanReader → PlanReader
-inner_plan_at inner ts = and_then (open_at ts) (λ _ mid. up_to close_at (inner mid))
+inner_plan_at inner ts = and_then (terminal_at Open ts) (λ _ mid. up_to (terminal_at Close) (inner mid))
 
 abbrev pub where_at : Counts → ℕ → PlanDraft → PlanReader
 where_at most levels d ts = and_then (expr_at most.exprs (inner most.exprs levels) ts) (λ test rest. Some (where_draft most d test, rest))
@@ -116,11 +117,11 @@ select_at most levels d ts = and_then (columns_at most.exprs levels ts) (λ colu
 
 abbrev pub group_at : Counts → ℕ → PlanDraft → PlanReader
 group_at most levels d ts =
-    and_then (up_to with_at (names_at ts)) (λ keys next. and_then (results_at levels next) (λ results rest. Some (group_draft most d keys results, rest)))
+    and_then (up_to (terminal_at With) (names_at ts)) (λ keys next. and_then (results_at levels next) (λ results rest. Some (group_draft most d keys results, rest)))
 
 abbrev pub join_at : Counts → PlanReader → PlanDraft → PlanReader
 join_at most inner d ts =
-    and_then (up_to on_at (inner_plan_at inner ts)) (λ right next. and_then (pairs_at next) (λ on rest. Some (join_draft most d right on, rest)))
+    and_then (up_to (terminal_at On) (inner_plan_at inner ts)) (λ right next. and_then (pairs_at next) (λ on rest. Some (join_draft most d right on, rest)))
 
 abbrev pub concat_at : Counts → PlanReader → PlanDraft → PlanReader
 concat_at most inner d ts = and_then (inner_plan_at inner ts) (λ right rest. Some (concat_draft most d right, rest))
@@ -146,7 +147,7 @@ from_at most _ = None
 
 -- from NAME { | STAGE }
 abbrev pub plan_with : Counts → PlanReader → ℕ → PlanReader
-plan_with most inner levels ts = and_then (from_at most ts) (all_repeated bar_at (λ _. stage_at most inner levels))
+plan_with most inner levels ts = and_then (from_at most ts) (all_repeated (terminal_at Bar) (λ _. stage_at most inner levels))
 
 -- the reader within parentheses, where this many levels may be open in all
 unfoldable pub inner_plan : Counts → ℕ → PlanReader

@@ -6,7 +6,7 @@ use Rattle.plan_grammar.specs.declared.token.Token.TheVariants.{Word, Mark}
 use Rattle.plan_grammar.specs.declared.token.Mark.TheVariants as mark
 use Rattle.plan_grammar.specs.declared.token.Word.TheVariants as word
 use Rattle.plan_parser.specs.declared.parser.Terminal.{Terminal}
-use Rattle.plan_parser.specs.declared.parser.Terminal.TheVariants as terminal
+use Rattle.plan_parser.specs.declared.parser.Terminal.TheVariants.{Comma, Open, Close, Bar, With, On}
 use Rattle.plan_parser.specs.declared.refusal.TextRefusal.{TextRefusal}
 use Rattle.plan_parser.specs.declared.refusal.TextRefusal.TheVariants as refusal
 
@@ -22,47 +22,14 @@ and_then None next = None
 and_then (Some found) next = next found.0 found.1
 
 -- the mark or the word that stands here
-abbrev pub comma_at : ReaderOf (Unit {0})
-comma_at (Mark mark.Comma ∷ rest) = Some (tt, rest)
-comma_at _ = None
-
-abbrev pub open_at : ReaderOf (Unit {0})
-open_at (Mark mark.Open ∷ rest) = Some (tt, rest)
-open_at _ = None
-
-abbrev pub close_at : ReaderOf (Unit {0})
-close_at (Mark mark.Close ∷ rest) = Some (tt, rest)
-close_at _ = None
-
-abbrev pub bar_at : ReaderOf (Unit {0})
-bar_at (Mark mark.Bar ∷ rest) = Some (tt, rest)
-bar_at _ = None
-
-abbrev pub with_at : ReaderOf (Unit {0})
-with_at (Word word.With ∷ rest) = Some (tt, rest)
-with_at _ = None
-
-abbrev pub on_at : ReaderOf (Unit {0})
-on_at (Word word.On ∷ rest) = Some (tt, rest)
-on_at _ = None
-
-abbrev pub minus_at : ReaderOf (Unit {0})
-minus_at (Mark mark.Minus ∷ rest) = Some (tt, rest)
-minus_at _ = None
-
-abbrev pub not_word_at : ReaderOf (Unit {0})
-not_word_at (Word word.Not ∷ rest) = Some (tt, rest)
-not_word_at _ = None
-
 abbrev pub terminal_at : Terminal → ReaderOf (Unit {0})
-terminal_at terminal.Comma = comma_at
-terminal_at terminal.Open = open_at
-terminal_at terminal.Close = close_at
-terminal_at terminal.Bar = bar_at
-terminal_at terminal.With = with_at
-terminal_at terminal.On = on_at
-terminal_at terminal.Minus = minus_at
-terminal_at terminal.Not = not_word_at
+terminal_at Comma (Mark mark.Comma ∷ rest) = Some (tt, rest)
+terminal_at Open (Mark mark.Open ∷ rest) = Some (tt, rest)
+terminal_at Close (Mark mark.Close ∷ rest) = Some (tt, rest)
+terminal_at Bar (Mark mark.Bar ∷ rest) = Some (tt, rest)
+terminal_at With (Word word.With ∷ rest) = Some (tt, rest)
+terminal_at On (Word word.On ∷ rest) = Some (tt, rest)
+terminal_at _ _ = None
 
 -- what is read, up to and with the end that must stand behind it
 abbrev pub up_to : {A : Type 0} → ReaderOf (Unit {0}) → ReadOf A → ReadOf A

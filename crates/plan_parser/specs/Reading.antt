@@ -1,8 +1,7 @@
--- How tokens are read as an expression, rule by rule: what is read at their front, and what stands behind it. Expressions of
--- at most `most` nodes are kept. The laws that tie it to the grammar are in proofs.
+-- How tokens are read as an expression: what is read at their front, and what stands behind it. Expressions of at most
+-- `most` nodes are kept. The laws that tie it to the grammar are in proofs.
 use Prim.Native.Nat.{zero, suc}
-use Rattle.std.specs.Prelude.{ℕ, true, false, nat_lt, nat_le, if◌then◌else◌, List, [], ◌∷◌, Option, None, Some, pos, neg_ℤ}
-use Rattle.std.specs.Option.{option_map}
+use Rattle.std.specs.Prelude.{ℕ, true, false, nat_lt, nat_le, nat_eq, if◌then◌else◌, List, [], ◌∷◌, Option, None, Some, pos, neg_ℤ}
 use Rattle.scalar_ops.specs.declared.cell.Cell.TheVariants as cell
 use Rattle.scalar_ops.specs.declared.table.Op.{Op}
 use Rattle.scalar_ops.specs.declared.table.Op.TheVariants as op
@@ -12,53 +11,48 @@ use Rattle.plan_grammar.specs.declared.token.Mark as the_mark
 use Rattle.plan_grammar.specs.declared.token.Mark.TheVariants as mark
 use Rattle.plan_grammar.specs.declared.token.Word as the_word
 use Rattle.plan_grammar.specs.declared.token.Word.TheVariants as word
-use Rattle.plan_grammar.specs.declared.operator.Operator as the_operator
-use Rattle.plan_grammar.specs.declared.operator.Operator.TheVariants as operator
-use Rattle.plan_parser.specs.declared.expressions.Binary.{Binary}
-use Rattle.plan_parser.specs.declared.expressions.Binary.TheVariants as binary
+use Rattle.plan_grammar.specs.declared.operator.Infix.{Infix}
+use Rattle.plan_grammar.specs.declared.operator.Prefix.{Prefix}
 use Rattle.plan_grammar.specs.Token.{greatest_number}
-use Rattle.plan_grammar.specs.PlainNamed.{PlainExpr, Column, Literal, Call1, Call2, And, Or, If}
-use Rattle.plan_grammar.specs.Grammar.{compare_op, sum_op, mul_op}
-use Rattle.plan_parser.specs.Draft.{PlainDraft, kept, with1, with2, with3}
-use Rattle.plan_parser.specs.Reader.{ReadOf, ReaderOf, and_then, comma_at, open_at, close_at, minus_at, not_word_at, up_to, all_repeated}
+use Rattle.plan_grammar.specs.PlainNamed.{PlainExpr, Column, Literal, Call1, Call2, If}
+use Rattle.plan_grammar.specs.Operators.{Rule, E, ATOM, joined, infix_of, prefix_of}
+use Rattle.plan_parser.specs.declared.draft.Draft as code
+use Rattle.plan_parser.specs.Draft.{PlainDraft, seen, kept, with1, with2, with3}
+use Rattle.plan_parser.specs.declared.parser.Terminal.TheVariants.{Close, Comma, Open}
+use Rattle.plan_parser.specs.declared.parser.Terminal.TheVariants.{Comma, Open, Close}
+use Rattle.plan_parser.specs.Reader.{ReadOf, ReaderOf, and_then, terminal_at, up_to, all_repeated}
 
 abbrev pub Reader : Type 0
 Reader = ReaderOf PlainDraft
 
--- the readers with one level less
-pub record Inner : Type 0 where
-  pub expr : Reader
-  pub not : Reader
-  pub un : Reader
+-- the reader by each rule
+abbrev pub Readers : Type 0
+Readers = Rule → Reader
 
-abbrev pub nothing : Inner
-nothing = record { expr = λ ts. None; not = λ ts. None; un = λ ts. None }
+abbrev pub no_readers : Readers
+no_readers rule ts = None
 
 abbrev pub kept_one : ℕ → PlainExpr → PlainDraft
 kept_one most e = kept most e 1
 
--- an argument up to a comma
-abbrev pub argument : Inner → Reader
-argument inner ts = up_to comma_at (inner.expr ts)
+-- an argument up to a comma; within a construct the readers with one level less are given
+abbrev pub argument : Readers → Reader
+argument inner ts = up_to (terminal_at Comma) (inner E ts)
 
 -- the last argument, up to the parenthesis that closes
-abbrev pub last_argument : Inner → Reader
-last_argument inner ts = up_to close_at (inner.expr ts)
+abbrev pub last_argument : Readers → Reader
+last_argument inner ts = up_to (terminal_at Close) (inner E ts)
 
--- the operation on what is read
-abbrev pub operated : ℕ → Op → ReadOf PlainDraft → ReadOf PlainDraft
-operated most o read = and_then read (λ a rest. Some (with1 most (Call1 o) a, rest))
+abbrev pub call1_at : ℕ → Readers → Op → Reader
+call1_at most inner o ts = and_then (last_argument inner ts) (λ a rest. Some (with1 most (Call1 o) a, rest))
 
-abbrev pub call1_at : ℕ → Inner → Op → Reader
-call1_at most inner o ts = operated most o (last_argument inner ts)
-
-abbrev pub call2_at : ℕ → Inner → Op → Reader
+abbrev pub call2_at : ℕ → Readers → Op → Reader
 call2_at most inner o ts = and_then (argument inner ts) (λ a next. and_then (last_argument inner next) (λ b rest. Some (with2 most (Call2 o) a b, rest)))
 
-abbrev pub choice_at : ℕ → Inner → Reader
+abbrev pub choice_at : ℕ → Readers → Reader
 choice_at most inner ts = and_then (argument inner ts) (λ c next. and_then (argument inner next) (λ a last. and_then (last_argument inner last) (λ b rest. Some (with3 most If c a b, rest))))
 
-abbrev pub function_at : ℕ → Inner → the_word.Word → Reader
+abbrev pub function_at : ℕ → Readers → the_word.Word → Reader
 function_at most inner word.If ts = choice_at most inner ts
 function_at most inner word.Len ts = call1_at most inner op.Len ts
 function_at most inner word.Abs ts = call1_at most inner op.Abs ts
@@ -67,10 +61,10 @@ function_at most inner word.Least ts = call2_at most inner op.Least ts
 function_at most inner word.Most ts = call2_at most inner op.Most ts
 function_at most inner _ ts = None
 
-abbrev pub word_atom : ℕ → Inner → the_word.Word → Reader
+abbrev pub word_atom : ℕ → Readers → the_word.Word → Reader
 word_atom most inner word.True ts = Some (kept_one most (Literal (cell.Bool true)), ts)
 word_atom most inner word.False ts = Some (kept_one most (Literal (cell.Bool false)), ts)
-word_atom most inner w ts = and_then (open_at ts) (λ _. function_at most inner w)
+word_atom most inner w ts = and_then (terminal_at Open ts) (λ _. function_at most inner w)
 
 -- a number of i64 without a sign
 abbrev pub number_atom : ℕ → ℕ → Reader
@@ -80,98 +74,85 @@ abbrev pub minus_atom : ℕ → Reader
 minus_atom most (Number number ∷ ts) = if nat_le number greatest_number then Some (kept_one most (Literal (cell.Int (neg_ℤ (pos number)))), ts) else None
 minus_atom most _ = None
 
-abbrev pub mark_atom : ℕ → Inner → the_mark.Mark → Reader
+abbrev pub mark_atom : ℕ → Readers → the_mark.Mark → Reader
 mark_atom most inner mark.Open ts = last_argument inner ts
 mark_atom most inner mark.Sign ts = minus_atom most ts
 mark_atom most inner _ ts = None
 
 -- ATOM
-abbrev pub atom_at : ℕ → Inner → Reader
-atom_at most inner [] = None
-atom_at most inner (Name name ∷ ts) = Some (kept_one most (Column name), ts)
-atom_at most inner (Word w ∷ ts) = word_atom most inner w ts
-atom_at most inner (Number number ∷ ts) = number_atom most number ts
-atom_at most inner (Text text ∷ ts) = Some (kept_one most (Literal (cell.Text text)), ts)
-atom_at most inner (Mark m ∷ ts) = mark_atom most inner m ts
+abbrev pub atom_at : ℕ → Readers → Token → Reader
+atom_at most inner (Name name) ts = Some (kept_one most (Column name), ts)
+atom_at most inner (Word w) ts = word_atom most inner w ts
+atom_at most inner (Number number) ts = number_atom most number ts
+atom_at most inner (Text text) ts = Some (kept_one most (Literal (cell.Text text)), ts)
+atom_at most inner (Mark m) ts = mark_atom most inner m ts
 
--- an operation before its operand, or what else stands there
-abbrev pub prefix_step : ℕ → Op → Reader → ReadOf PlainDraft → ReadOf (Unit {0}) → ReadOf PlainDraft
-prefix_step most o operand other None = other
-prefix_step most o operand other (Some found) = operated most o (operand found.1)
+-- what was read so far, and the rule that spells it
+abbrev pub Operand : Type 0
+Operand = PlainDraft × Rule
 
--- UN := - UN | ATOM
-abbrev pub un_at : ℕ → Inner → Reader
-un_at most inner ts = prefix_step most op.Neg inner.un (atom_at most inner ts) (minus_at ts)
+-- what the code has of it says
+abbrev pub seen_operand : code.Draft × ℕ → Operand
+seen_operand operand = (seen operand.0, operand.1)
 
--- what an operator makes of its operands
-abbrev pub joined : the_operator.Operator → PlainExpr → PlainExpr → PlainExpr
-joined (operator.Call o) = Call2 o
-joined operator.And = And
-joined operator.Or = Or
+-- what was read by the rule
+abbrev pub spelled_by : Rule → ReadOf PlainDraft → ReadOf Operand
+spelled_by rule read = and_then read (λ d rest. Some ((d, rule), rest))
 
-abbrev pub Operators : Type 0
-Operators = ReaderOf the_operator.Operator
+abbrev pub operated : ℕ → Op → ReadOf PlainDraft → ReadOf PlainDraft
+operated most o read = and_then read (λ a rest. Some (with1 most (Call1 o) a, rest))
 
-abbrev pub mark_operator : (the_mark.Mark → Option Op) → Operators
-mark_operator op_of (Mark m ∷ ts) = option_map (λ o. (operator.Call o, ts)) (op_of m)
-mark_operator op_of _ = None
+-- the operation and its operand, where the rule has them
+abbrev pub prefixed_at : ℕ → Readers → Rule → Prefix → ReaderOf Operand
+prefixed_at most inner rule p ts = if nat_le p.rule rule then spelled_by p.rule (operated most p.op (inner p.rule ts)) else None
+
+abbrev pub first_step : ℕ → Readers → Rule → Token → List Token → Option Prefix → ReadOf Operand
+first_step most inner rule t ts (Some p) = prefixed_at most inner rule p ts
+first_step most inner rule t ts None = spelled_by ATOM (atom_at most inner t ts)
+
+-- what stands before any operator between operands
+abbrev pub first_at : ℕ → Readers → Rule → ReaderOf Operand
+first_at most inner rule [] = None
+first_at most inner rule (t ∷ ts) = first_step most inner rule t ts (prefix_of t)
+
+abbrev pub operator_step : Rule → List Token → Option Infix → ReadOf Infix
+operator_step rule ts (Some o) = if nat_le o.rule rule then Some (o, ts) else None
+operator_step rule ts None = None
+
+-- the operator that may stand here, of the rule or a tighter one
+abbrev pub operator_at : Rule → ReaderOf Infix
+operator_at rule [] = None
+operator_at rule (t ∷ ts) = operator_step rule ts (infix_of t)
 
 -- one operand more, to the right of what was read
-abbrev pub operand_onto : ℕ → Reader → the_operator.Operator → PlainDraft → Reader
-operand_onto most item j d ts = and_then (item ts) (λ e rest. Some (with2 most (joined j) d e, rest))
+abbrev pub joined_onto : ℕ → Readers → Infix → PlainDraft → Reader
+joined_onto most operands o left ts = and_then (operands o.right ts) (λ b rest. Some (with2 most (joined o.operator) left b, rest))
 
--- ITEM { operator ITEM }, to the left
-abbrev pub left_at : ℕ → Operators → Reader → Reader
-left_at most operator item ts = and_then (item ts) (all_repeated operator (operand_onto most item))
+-- where the operator may have before it what was read
+abbrev pub operand_onto : ℕ → Readers → Infix → Operand → ReaderOf Operand
+operand_onto most operands o left ts = if nat_le left.1 o.left then spelled_by o.rule (joined_onto most operands o left.0 ts) else None
 
-abbrev pub mul_at : ℕ → Inner → Reader
-mul_at most inner = left_at most (mark_operator mul_op) (un_at most inner)
+-- OPERAND { operator OPERAND }
+abbrev pub operands_at : ℕ → Readers → Readers → Rule → ReaderOf Operand
+operands_at most inner operands rule ts = and_then (first_at most inner rule ts) (all_repeated (operator_at rule) (operand_onto most operands))
 
-abbrev pub sum_at : ℕ → Inner → Reader
-sum_at most inner = left_at most (mark_operator sum_op) (mul_at most inner)
+abbrev pub read_by : ℕ → Readers → Readers → Readers
+read_by most inner operands rule ts = and_then (operands_at most inner operands rule ts) (λ operand rest. Some (operand.0, rest))
 
--- CMP := SUM [ operator SUM ]
-abbrev pub compare_step : ℕ → Reader → PlainDraft → List Token → ReadOf the_operator.Operator → ReadOf PlainDraft
-compare_step most item d ts None = Some (d, ts)
-compare_step most item d ts (Some found) = operand_onto most item found.0 d found.1
+-- the readers of the rules below this one: an operator's right operand is of a tighter rule
+unfoldable pub below : ℕ → Readers → ℕ → Readers
+below most inner zero rule = λ ts. None
+below most inner (suc k) rule = if nat_eq rule k then (λ ts. read_by most inner (below most inner k) k ts) else below most inner k rule
 
-abbrev pub cmp_at : ℕ → Inner → Reader
-cmp_at most inner ts = and_then (sum_at most inner ts) (λ d rest. compare_step most (sum_at most inner) d rest (mark_operator compare_op rest))
-
--- NOT := not NOT | CMP
-abbrev pub not_at : ℕ → Inner → Reader
-not_at most inner ts = prefix_step most op.Not inner.not (cmp_at most inner ts) (not_word_at ts)
-
-abbrev pub and_operator : Operators
-and_operator (Word word.And ∷ ts) = Some (operator.And, ts)
-and_operator _ = None
-
-abbrev pub and_at : ℕ → Inner → Reader
-and_at most inner = left_at most and_operator (not_at most inner)
-
-abbrev pub or_operator : Operators
-or_operator (Word word.Or ∷ ts) = Some (operator.Or, ts)
-or_operator _ = None
-
-abbrev pub expr_at : ℕ → Inner → Reader
-expr_at most inner = left_at most or_operator (and_at most inner)
-
--- the rules of operators between operands: the operators and the operands of each
-abbrev pub operators_of : Binary → Operators
-operators_of binary.Or = or_operator
-operators_of binary.And = and_operator
-operators_of binary.Compare = mark_operator compare_op
-operators_of binary.Sum = mark_operator sum_op
-operators_of binary.Mul = mark_operator mul_op
-
-abbrev pub operand_of : ℕ → Inner → Binary → Reader
-operand_of most inner binary.Or = and_at most inner
-operand_of most inner binary.And = not_at most inner
-operand_of most inner binary.Compare = sum_at most inner
-operand_of most inner binary.Sum = mul_at most inner
-operand_of most inner binary.Mul = un_at most inner
+-- the reader by the rule, and by those below it for its operands
+abbrev pub rule_at : ℕ → Readers → Readers
+rule_at most inner rule ts = read_by most inner (below most inner rule) rule ts
 
 -- the readers within a construct, where this many levels may be open in all
-unfoldable pub inner : ℕ → ℕ → Inner
-inner most zero = nothing
-inner most (suc n) = record { expr = expr_at most (inner most n); not = not_at most (inner most n); un = un_at most (inner most n) }
+unfoldable pub inner : ℕ → ℕ → Readers
+inner most zero = no_readers
+inner most (suc n) = rule_at most (inner most n)
+
+-- an expression
+abbrev pub expr_at : ℕ → Readers → Reader
+expr_at most inner = rule_at most inner E

@@ -2,7 +2,8 @@
 ghost use Rattle.std.specs.Prelude.{◌≡◌, IfOk};
 ghost use Rattle.plan_grammar.specs.PlainNamed.{PlainExpr, expr_of, Call1, If};
 ghost use Rattle.plan_parser.specs.Draft.{kept, seen, with1, with2, with3};
-ghost use Rattle.plan_parser.specs.Reading.{joined, kept_one};
+ghost use Rattle.plan_grammar.specs.Operators.{joined};
+ghost use Rattle.plan_parser.specs.Reading.{kept_one};
 
 use plan_grammar::{NamedExpr, Operator};
 use rows_core::Memory;

@@ -1,108 +1,37 @@
-//! How expressions are read: a method for each rule of the grammar, named as the rule. Within a construct one
-//! level less may be open, so no call goes deeper than the levels; what isn't counted is read in a loop.
+//! How expressions are read, by the rules of the grammar: operators between operands in one loop, each where
+//! its rule may stand. Within a construct one level less may be open, and an operator's right operand is of a
+//! tighter rule, so no call goes deeper than the levels and the rules; what isn't counted is read in a loop.
 ghost use Rattle.std.specs.Prelude.{◌≡◌, ◌≤◌, ◌<◌, ◌∷◌, List, length, IfOk, IfSome};
-ghost use Rattle.std.specs.Option.{option_map};
 ghost use Rattle.plan_parser.specs.Draft.{seen};
-ghost use Rattle.plan_grammar.specs.Grammar.{compare_op, sum_op, mul_op};
 ghost use Rattle.plan_parser.specs.Reader.{Reads, ReadsSome};
-ghost use Rattle.plan_parser.specs.Reading.{operators_of, operand_of, operand_onto, operated, number_atom};
-ghost use Rattle.plan_parser.specs.Reading.{minus_atom, inner, argument, last_argument, call1_at, call2_at};
-ghost use Rattle.plan_parser.specs.Reading.{choice_at, function_at, word_atom, mark_atom, atom_at, un_at};
-ghost use Rattle.plan_parser.specs.Reading.{mul_at, sum_at, left_at, cmp_at, not_at, and_at, expr_at};
+ghost use Rattle.plan_parser.specs.Reading.{seen_operand, number_atom, minus_atom, inner, argument};
+ghost use Rattle.plan_parser.specs.Reading.{last_argument, call1_at, call2_at, choice_at, function_at};
+ghost use Rattle.plan_parser.specs.Reading.{word_atom, mark_atom, atom_at, operated, prefixed_at, first_at};
+ghost use Rattle.plan_parser.specs.Reading.{operator_at, joined_onto, operand_onto, operands_at, below};
+ghost use Rattle.plan_parser.specs.Reading.{rule_at, expr_at};
 
 use crate::draft::{Draft, call1, choice, join, one};
 use crate::parser::{Parser, Terminal};
 use crate::refusal::TextRefusal;
-use plan_grammar::{Mark, NamedExpr, Operator, Token, Word};
+use plan_grammar::{ATOM, EXPRESSION, Infix, Mark, NamedExpr, Operator, Prefix, Token, Word};
 use scalar_ops::{Cell, Op};
 
-/// The rules of operators that stand between two operands, the loosest first.
-#[derive(Clone, Copy, Debug, PartialEq, Eq)]
-pub enum Binary {
-    Or,
-    And,
-    Compare,
-    Sum,
-    Mul,
-}
-
-impl Binary {
-    /// The operator that the token is.
-    fn operator(self, token: &Token) -> Option<Operator>
-        ensures { (rest : List Token)
-            → operators_of self (token.now ∷ rest) ≡ option_map (λ o. (o, rest)) result }
-    {
-        match (self, token) {
-            (Binary::Or, Token::Word(Word::Or)) => Some(Operator::Or),
-            (Binary::And, Token::Word(Word::And)) => Some(Operator::And),
-            (Binary::Compare, Token::Mark(mark)) => call_of(compare_op(*mark)),
-            (Binary::Sum, Token::Mark(mark)) => call_of(sum_op(*mark)),
-            (Binary::Mul, Token::Mark(mark)) => call_of(mul_op(*mark)),
-            _ => None,
-        }
-    }
-}
-
-fn call_of(op: Option<Op>) -> Option<Operator>
-    ensures { result ≡ option_map Operator.Call op }
-{
-    match op {
-        Some(op) => Some(Operator::Call(op)),
-        None => None,
-    }
-}
-
-fn compare_op(mark: Mark) -> Option<Op>
-    ensures { result ≡ compare_op mark }
-{
-    match mark {
-        Mark::Equal => Some(Op::Eq),
-        Mark::NotEqual => Some(Op::Ne),
-        Mark::Less => Some(Op::Lt),
-        Mark::LessEqual => Some(Op::Le),
-        Mark::Greater => Some(Op::Gt),
-        Mark::GreaterEqual => Some(Op::Ge),
-        _ => None,
-    }
-}
-
-fn sum_op(mark: Mark) -> Option<Op>
-    ensures { result ≡ sum_op mark }
-{
-    match mark {
-        Mark::Plus => Some(Op::Add),
-        Mark::Minus | Mark::Sign => Some(Op::Sub),
-        _ => None,
-    }
-}
-
-fn mul_op(mark: Mark) -> Option<Op>
-    ensures { result ≡ mul_op mark }
-{
-    match mark {
-        Mark::Times => Some(Op::Mul),
-        Mark::Divide => Some(Op::Div),
-        Mark::Rest => Some(Op::Mod),
-        _ => None,
-    }
-}
-
 impl Parser<'_> {
-    /// The operator of the rule that may stand here.
-    fn operator(&mut self, binary: Binary) -> Option<Operator>
-        ensures { ReadsSome result self.old.rest.now self.new.rest.now
-            (operators_of binary self.old.rest.now) }
+    /// The operator of the rule, or of a tighter one, that may stand here.
+    fn operator(&mut self, rule: u8) -> Option<Infix>
+        ensures read { ReadsSome result self.old.rest.now self.new.rest.now
+            (operator_at rule self.old.rest.now) }
+        ensures right { IfSome result (λ o. o.right < rule) }
     {
         let [first, rest @ ..] = self.rest else {
             return None;
         };
-        match binary.operator(first) {
-            Some(operator) => {
-                self.rest = rest;
-                Some(operator)
-            }
-            None => None,
+        let operator = first.infix()?;
+        if operator.rule > rule {
+            return None;
         }
+        self.rest = rest;
+        Some(operator)
     }
 
     /// A number of i64 without a sign.
@@ -134,7 +63,7 @@ impl Parser<'_> {
     fn argument(&mut self, levels: u32) -> Result<Draft, TextRefusal>
         ensures { Reads seen result self.new.rest.now (argument (inner 512 levels) self.old.rest.now) }
     {
-        let draft = self.within(levels)?;
+        let draft = self.within(EXPRESSION, levels)?;
         if self.pass(Terminal::Comma) {
             Ok(draft)
         } else {
@@ -147,21 +76,21 @@ impl Parser<'_> {
     fn last_argument(&mut self, levels: u32) -> Result<Draft, TextRefusal>
         ensures { Reads seen result self.new.rest.now (last_argument (inner 512 levels) self.old.rest.now) }
     {
-        let draft = self.within(levels)?;
+        let draft = self.within(EXPRESSION, levels)?;
         self.need(Terminal::Close)?;
         Ok(draft)
     }
 
-    /// An expression within a construct.
+    /// What the rule reads within a construct.
     #[cycle(expression)]
-    #[tactic(auto, using(crate::proofs::ReadingLemmas::inner_expr))]
-    fn within(&mut self, levels: u32) -> Result<Draft, TextRefusal>
-        ensures { Reads seen result self.new.rest.now ((inner 512 levels).expr self.old.rest.now) }
+    #[tactic(auto, using(crate::proofs::ReadingLemmas::inner_rule))]
+    fn within(&mut self, rule: u8, levels: u32) -> Result<Draft, TextRefusal>
+        ensures { Reads seen result self.new.rest.now (inner 512 levels rule self.old.rest.now) }
     {
         if levels == 0 {
             return Err(TextRefusal::Syntax);
         }
-        self.expr(levels - 1)
+        self.rule(rule, levels - 1)
     }
 
     #[cycle(expression)]
@@ -237,14 +166,12 @@ impl Parser<'_> {
         }
     }
 
+    /// What begins with this token and no operation before it.
     #[cycle(expression)]
-    fn atom(&mut self, levels: u32) -> Result<Draft, TextRefusal>
-        ensures { Reads seen result self.new.rest.now (atom_at 512 (inner 512 levels) self.old.rest.now) }
+    fn atom(&mut self, levels: u32, first: &Token) -> Result<Draft, TextRefusal>
+        ensures { Reads seen result self.new.rest.now
+            (atom_at 512 (inner 512 levels) first.now self.old.rest.now) }
     {
-        let [first, rest @ ..] = self.rest else {
-            return Err(TextRefusal::Syntax);
-        };
-        self.rest = rest;
         match first {
             Token::Name(name) => Ok(one(NamedExpr::Column(name.try_copy(self.alloc)?))),
             Token::Text(text) => Ok(one(NamedExpr::Literal(Cell::Text(text.try_copy(
@@ -256,157 +183,117 @@ impl Parser<'_> {
         }
     }
 
-    /// An operand of `-`.
+    /// What stands behind an operation before its operand.
     #[cycle(expression)]
-    #[tactic(auto, using(crate::proofs::ReadingLemmas::inner_un))]
-    fn un_within(&mut self, levels: u32) -> Result<Draft, TextRefusal>
-        ensures { Reads seen result self.new.rest.now ((inner 512 levels).un self.old.rest.now) }
+    fn prefixed(&mut self, prefix: Prefix, levels: u32) -> Result<Draft, TextRefusal>
+        ensures { Reads seen result self.new.rest.now
+            (operated 512 prefix.op (inner 512 levels prefix.rule self.old.rest.now)) }
     {
-        if levels == 0 {
+        let arg = self.within(prefix.rule, levels)?;
+        Ok(call1(self.alloc, prefix.op, arg)?)
+    }
+
+    /// What stands before any operator between operands, and the rule that spells it.
+    #[cycle(expression)]
+    fn first(&mut self, rule: u8, levels: u32) -> Result<(Draft, u8), TextRefusal>
+        ensures { Reads seen_operand result self.new.rest.now
+            (first_at 512 (inner 512 levels) rule self.old.rest.now) }
+    {
+        let [first, rest @ ..] = self.rest else {
+            return Err(TextRefusal::Syntax);
+        };
+        self.rest = rest;
+        match first.prefix() {
+            Some(prefix) => self.first_prefixed(rule, prefix, levels),
+            None => Ok((self.atom(levels, first)?, ATOM)),
+        }
+    }
+
+    #[cycle(expression)]
+    fn first_prefixed(
+        &mut self,
+        rule: u8,
+        prefix: Prefix,
+        levels: u32,
+    ) -> Result<(Draft, u8), TextRefusal>
+        ensures { Reads seen_operand result self.new.rest.now
+            (prefixed_at 512 (inner 512 levels) rule prefix self.old.rest.now) }
+    {
+        if prefix.rule > rule {
             return Err(TextRefusal::Syntax);
         }
-        self.un(levels - 1)
+        Ok((self.prefixed(prefix, levels)?, prefix.rule))
     }
 
-    /// What stands behind `-`.
+    /// What the rule reads: operands with its operators, and those of tighter rules, between them.
     #[cycle(expression)]
-    fn negated(&mut self, levels: u32) -> Result<Draft, TextRefusal>
+    pub(crate) fn rule(&mut self, rule: u8, levels: u32) -> Result<Draft, TextRefusal>
         ensures { Reads seen result self.new.rest.now
-            (operated 512 Op.Neg ((inner 512 levels).un self.old.rest.now)) }
+            (rule_at 512 (inner 512 levels) rule self.old.rest.now) }
     {
-        let arg = self.un_within(levels)?;
-        Ok(call1(self.alloc, Op::Neg, arg)?)
+        let operand = self.operands(rule, levels)?;
+        Ok(operand.0)
     }
 
     #[cycle(expression)]
-    fn un(&mut self, levels: u32) -> Result<Draft, TextRefusal>
-        ensures { Reads seen result self.new.rest.now (un_at 512 (inner 512 levels) self.old.rest.now) }
+    fn operands(&mut self, rule: u8, levels: u32) -> Result<(Draft, u8), TextRefusal>
+        ensures { Reads seen_operand result self.new.rest.now
+            (operands_at 512 (inner 512 levels) (below 512 (inner 512 levels) rule) rule
+            self.old.rest.now) }
     {
-        if self.pass(Terminal::Minus) {
-            self.negated(levels)
-        } else {
-            self.atom(levels)
+        let mut operand = self.first(rule, levels)?;
+        let turns = self.rest.len() + 1;
+        for _ in 0..turns {
+            let Some(operator) = self.operator(rule) else {
+                return Ok(operand);
+            };
+            operand = self.operand_onto(rule, levels, operator, operand)?;
         }
+        Err(TextRefusal::Syntax)
     }
 
-    #[cycle(expression)]
-    fn mul(&mut self, levels: u32) -> Result<Draft, TextRefusal>
-        ensures { Reads seen result self.new.rest.now (mul_at 512 (inner 512 levels) self.old.rest.now) }
-    {
-        self.operands(Binary::Mul, levels)
-    }
-
-    #[cycle(expression)]
-    fn sum(&mut self, levels: u32) -> Result<Draft, TextRefusal>
-        ensures { Reads seen result self.new.rest.now (sum_at 512 (inner 512 levels) self.old.rest.now) }
-    {
-        self.operands(Binary::Sum, levels)
-    }
-
-    #[cycle(expression)]
-    fn cmp(&mut self, levels: u32) -> Result<Draft, TextRefusal>
-        ensures { Reads seen result self.new.rest.now (cmp_at 512 (inner 512 levels) self.old.rest.now) }
-    {
-        let left = self.sum(levels)?;
-        match self.operator(Binary::Compare) {
-            Some(operator) => self.operand_onto(Binary::Compare, levels, operator, left),
-            None => Ok(left),
-        }
-    }
-
-    /// An operand of `not`.
-    #[cycle(expression)]
-    #[tactic(auto, using(crate::proofs::ReadingLemmas::inner_not))]
-    fn not_within(&mut self, levels: u32) -> Result<Draft, TextRefusal>
-        ensures { Reads seen result self.new.rest.now ((inner 512 levels).not self.old.rest.now) }
-    {
-        if levels == 0 {
-            return Err(TextRefusal::Syntax);
-        }
-        self.not(levels - 1)
-    }
-
-    /// What stands behind `not`.
-    #[cycle(expression)]
-    fn denied(&mut self, levels: u32) -> Result<Draft, TextRefusal>
-        ensures { Reads seen result self.new.rest.now
-            (operated 512 Op.Not ((inner 512 levels).not self.old.rest.now)) }
-    {
-        let arg = self.not_within(levels)?;
-        Ok(call1(self.alloc, Op::Not, arg)?)
-    }
-
-    #[cycle(expression)]
-    fn not(&mut self, levels: u32) -> Result<Draft, TextRefusal>
-        ensures { Reads seen result self.new.rest.now (not_at 512 (inner 512 levels) self.old.rest.now) }
-    {
-        if self.pass(Terminal::Not) {
-            self.denied(levels)
-        } else {
-            self.cmp(levels)
-        }
-    }
-
-    #[cycle(expression)]
-    fn and(&mut self, levels: u32) -> Result<Draft, TextRefusal>
-        ensures { Reads seen result self.new.rest.now (and_at 512 (inner 512 levels) self.old.rest.now) }
-    {
-        self.operands(Binary::And, levels)
-    }
-
-    #[cycle(expression)]
-    pub(crate) fn expr(&mut self, levels: u32) -> Result<Draft, TextRefusal>
-        ensures { Reads seen result self.new.rest.now (expr_at 512 (inner 512 levels) self.old.rest.now) }
-    {
-        self.operands(Binary::Or, levels)
-    }
-
-    /// An operand of the rule.
-    #[cycle(expression)]
-    fn operand(&mut self, binary: Binary, levels: u32) -> Result<Draft, TextRefusal>
-        ensures { Reads seen result self.new.rest.now
-            (operand_of 512 (inner 512 levels) binary self.old.rest.now) }
-    {
-        match binary {
-            Binary::Or => self.and(levels),
-            Binary::And => self.not(levels),
-            Binary::Compare => self.sum(levels),
-            Binary::Sum => self.mul(levels),
-            Binary::Mul => self.un(levels),
-        }
-    }
-
-    /// One operand more of the rule, to the right of what was read.
+    /// One operand more, to the right of what was read.
     #[cycle(expression)]
     fn operand_onto(
         &mut self,
-        binary: Binary,
+        rule: u8,
         levels: u32,
-        operator: Operator,
-        left: Draft,
-    ) -> Result<Draft, TextRefusal>
-        ensures { Reads seen result self.new.rest.now
-            (operand_onto 512 (operand_of 512 (inner 512 levels) binary) operator
-            (seen left) self.old.rest.now) }
+        operator: Infix,
+        left: (Draft, u8),
+    ) -> Result<(Draft, u8), TextRefusal>
+        requires { operator.right < rule }
+        ensures { Reads seen_operand result self.new.rest.now
+            (operand_onto 512 (below 512 (inner 512 levels) rule) operator (seen_operand left)
+            self.old.rest.now) }
     {
-        let right = self.operand(binary, levels)?;
-        Ok(join(self.alloc, operator, left, right)?)
+        if left.1 > operator.left {
+            return Err(TextRefusal::Syntax);
+        }
+        Ok((self.joined(rule, levels, operator, left.0)?, operator.rule))
     }
 
-    /// Operands of the rule with its operators between them, to the left.
     #[cycle(expression)]
-    fn operands(&mut self, binary: Binary, levels: u32) -> Result<Draft, TextRefusal>
+    #[tactic(auto, using(crate::proofs::ReadingLemmas::below_is))]
+    fn joined(
+        &mut self,
+        rule: u8,
+        levels: u32,
+        operator: Infix,
+        left: Draft,
+    ) -> Result<Draft, TextRefusal>
+        requires { operator.right < rule }
         ensures { Reads seen result self.new.rest.now
-            (left_at 512 (operators_of binary) (operand_of 512 (inner 512 levels) binary) self.old.rest.now) }
+            (joined_onto 512 (below 512 (inner 512 levels) rule) operator (seen left)
+            self.old.rest.now) }
     {
-        let mut draft = self.operand(binary, levels)?;
-        let turns = self.rest.len() + 1;
-        for _ in 0..turns {
-            let Some(operator) = self.operator(binary) else {
-                return Ok(draft);
-            };
-            draft = self.operand_onto(binary, levels, operator, draft)?;
-        }
-        Err(TextRefusal::Syntax)
+        let right = self.rule(operator.right, levels)?;
+        Ok(join(self.alloc, operator.operator, left, right)?)
+    }
+
+    /// An expression.
+    pub(crate) fn expr(&mut self, levels: u32) -> Result<Draft, TextRefusal>
+        ensures { Reads seen result self.new.rest.now (expr_at 512 (inner 512 levels) self.old.rest.now) }
+    {
+        self.rule(EXPRESSION, levels)
     }
 }

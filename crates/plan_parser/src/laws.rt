@@ -2,7 +2,8 @@
 ghost use Rattle.std.specs.Prelude.{◌≡◌, ℕ, List, Some};
 ghost use Rattle.plan_grammar.specs.declared.token.Token.{Token};
 ghost use Rattle.plan_grammar.specs.PlainNamed.{PlainExpr};
-ghost use Rattle.plan_grammar.specs.Grammar.{Spells, E, EndsExpr};
+ghost use Rattle.plan_grammar.specs.Operators.{E};
+ghost use Rattle.plan_grammar.specs.Grammar.{Spells, EndsExpr};
 ghost use Rattle.plan_parser.specs.Draft.{PlainDraft, draft_of};
 ghost use Rattle.plan_parser.specs.Reading.{expr_at, inner};
 

@@ -18,8 +18,6 @@ pub enum Terminal {
     Bar,
     With,
     On,
-    Minus,
-    Not,
 }
 
 impl Terminal {
@@ -36,8 +34,6 @@ impl Terminal {
                 | (Terminal::Bar, Token::Mark(Mark::Bar))
                 | (Terminal::With, Token::Word(Word::With))
                 | (Terminal::On, Token::Word(Word::On))
-                | (Terminal::Minus, Token::Mark(Mark::Minus))
-                | (Terminal::Not, Token::Word(Word::Not))
         )
     }
 }

@@ -5,7 +5,7 @@ use Rattle.scalar_ops.specs.declared.cell.Cell.TheVariants as cell
 use Rattle.scalar_ops.specs.declared.table.Op.TheVariants as op
 use Rattle.plan_grammar.specs.declared.plan.NamedAgg.TheVariants as agg
 use Rattle.plan_grammar.specs.PlainNamed.{PlainExpr, Column, Literal, Call1, Call2, And, Or, If, From, Where, Select, Distinct, Group, Join, Concat, Order}
-use Rattle.plan_grammar.specs.Grammar.{E}
+use Rattle.plan_grammar.specs.Operators.{E}
 use Rattle.plan_printer.specs.Canonical.{canonical_expr, text_of, canonical_text}
 
 abbrev a : PlainExpr

@@ -14,10 +14,15 @@ use Rattle.plan_grammar.specs.declared.token.Word as the_word
 use Rattle.plan_grammar.specs.declared.token.Word.TheVariants as word
 use Rattle.plan_grammar.specs.declared.plan.NamedAgg.{NamedAgg}
 use Rattle.plan_grammar.specs.declared.plan.NamedAgg.TheVariants as agg
-use Rattle.plan_grammar.specs.PlainNamed.{PlainExpr, Literal, Call1, Call2, And, Or, If, PlainTree, Where, Select, Distinct, Group, Join, Concat, Order}
+use Rattle.plan_grammar.specs.PlainNamed.{PlainExpr, Literal, Call1, Call2, If, PlainTree, Where, Select, Distinct, Group, Join, Concat, Order}
 use Rattle.plan_grammar.specs.Grammar as g
-use Rattle.plan_grammar.specs.Grammar.{Rule, E, AND, NOT, CMP, SUM, MUL, UN, ATOM, Spells, compare_op, sum_op, mul_op, call1_op, call2_op, Listed, SpellsName, SpellsColumn, SpellsPair, SpellsKey, SpellsResult, SpellsPlan, agg_word}
-use Rattle.plan_printer.specs.Canonical.{Piece, Space, One, tokens_of, tightness, comparison, summing, multiplying, Form, Between, Function, form_of, form_rule, rule_of, in_parens, behind_comma, between, call2, bare, canonical_expr, listed, name_piece, named, column_pieces, pair_pieces, key_pieces, argument_pieces, result_pieces, stage, canonical}
+use Rattle.plan_grammar.specs.declared.operator.Operator.{Operator}
+use Rattle.plan_grammar.specs.declared.operator.Operator.TheVariants as operator
+use Rattle.plan_grammar.specs.declared.operator.Infix.{Infix}
+use Rattle.plan_grammar.specs.declared.operator.Prefix.{Prefix}
+use Rattle.plan_grammar.specs.Operators.{Rule, ATOM, UN, NOT, E, joined, comparing, summing, multiplying, conjunction, disjunction, mark_infix, infix_of, prefix_of, call1_op, call2_op}
+use Rattle.plan_grammar.specs.Grammar.{Spells, Listed, SpellsName, SpellsColumn, SpellsPair, SpellsKey, SpellsResult, SpellsPlan, agg_word}
+use Rattle.plan_printer.specs.Canonical.{Piece, Space, One, tokens_of, Form, Between, Function, form_of, form_rule, call1_rule, rule_of, in_parens, behind_comma, between, binary, bare, canonical_expr, listed, name_piece, named, column_pieces, pair_pieces, key_pieces, argument_pieces, result_pieces, stage, canonical}
 
 -- the tokens of the pieces, and then the rest
 abbrev pub onto : List Piece → List Token → List Token
@@ -35,94 +40,11 @@ onto-none [] = refl
 onto-none (Space ∷ xs) = onto-none xs
 onto-none (One token ∷ xs) = ap (λ ts. token ∷ ts) (onto-none xs)
 
--- a rule spells what the tighter ones do
-module _ {n : ℕ} {e : PlainExpr} {from rest : List Token} where
-  to_atom : (s : Rule) → 7 ≤ tightness s → Spells s n e from rest → Spells ATOM n e from rest
-  to_atom ATOM h x = x
-  to_atom _ h x = absurd (omega (arith, h))
-
-  to_un : (s : Rule) → 6 ≤ tightness s → Spells s n e from rest → Spells UN n e from rest
-  to_un UN h x = x
-  to_un ATOM h x = g.of_atom x
-  to_un _ h x = absurd (omega (arith, h))
-
-  to_mul : (s : Rule) → 5 ≤ tightness s → Spells s n e from rest → Spells MUL n e from rest
-  to_mul MUL h x = x
-  to_mul UN h x = g.of_un x
-  to_mul ATOM h x = g.of_un (g.of_atom x)
-  to_mul _ h x = absurd (omega (arith, h))
-
-  to_sum : (s : Rule) → 4 ≤ tightness s → Spells s n e from rest → Spells SUM n e from rest
-  to_sum SUM h x = x
-  to_sum MUL h x = g.of_mul x
-  to_sum UN h x = g.of_mul (g.of_un x)
-  to_sum ATOM h x = g.of_mul (g.of_un (g.of_atom x))
-  to_sum _ h x = absurd (omega (arith, h))
-
-  to_cmp : (s : Rule) → 3 ≤ tightness s → Spells s n e from rest → Spells CMP n e from rest
-  to_cmp CMP h x = x
-  to_cmp SUM h x = g.of_sum x
-  to_cmp MUL h x = g.of_sum (g.of_mul x)
-  to_cmp UN h x = g.of_sum (g.of_mul (g.of_un x))
-  to_cmp ATOM h x = g.of_sum (g.of_mul (g.of_un (g.of_atom x)))
-  to_cmp _ h x = absurd (omega (arith, h))
-
-  to_not : (s : Rule) → 2 ≤ tightness s → Spells s n e from rest → Spells NOT n e from rest
-  to_not E h x = absurd (omega (arith, h))
-  to_not AND h x = absurd (omega (arith, h))
-  to_not NOT h x = x
-  to_not CMP h x = g.of_cmp x
-  to_not SUM h x = g.of_cmp (g.of_sum x)
-  to_not MUL h x = g.of_cmp (g.of_sum (g.of_mul x))
-  to_not UN h x = g.of_cmp (g.of_sum (g.of_mul (g.of_un x)))
-  to_not ATOM h x = g.of_cmp (g.of_sum (g.of_mul (g.of_un (g.of_atom x))))
-
-  to_and : (s : Rule) → 1 ≤ tightness s → Spells s n e from rest → Spells AND n e from rest
-  to_and E h x = absurd (omega (arith, h))
-  to_and AND h x = x
-  to_and NOT h x = g.of_not x
-  to_and CMP h x = g.of_not (to_not CMP (omega arith) x)
-  to_and SUM h x = g.of_not (to_not SUM (omega arith) x)
-  to_and MUL h x = g.of_not (to_not MUL (omega arith) x)
-  to_and UN h x = g.of_not (to_not UN (omega arith) x)
-  to_and ATOM h x = g.of_not (to_not ATOM (omega arith) x)
-
-  to_e : (s : Rule) → Spells s n e from rest → Spells E n e from rest
-  to_e E x = x
-  to_e AND x = g.of_and x
-  to_e NOT x = g.of_and (to_and NOT (omega arith) x)
-  to_e CMP x = g.of_and (to_and CMP (omega arith) x)
-  to_e SUM x = g.of_and (to_and SUM (omega arith) x)
-  to_e MUL x = g.of_and (to_and MUL (omega arith) x)
-  to_e UN x = g.of_and (to_and UN (omega arith) x)
-  to_e ATOM x = g.of_and (to_and ATOM (omega arith) x)
-
-  looser : (r s : Rule) → tightness r ≤ tightness s → Spells s n e from rest → Spells r n e from rest
-  looser E s h x = to_e s x
-  looser AND s h x = to_and s h x
-  looser NOT s h x = to_not s h x
-  looser CMP s h x = to_cmp s h x
-  looser SUM s h x = to_sum s h x
-  looser MUL s h x = to_mul s h x
-  looser UN s h x = to_un s h x
-  looser ATOM s h x = to_atom s h x
-
 -- one level more may be open
 raise : {rule : Rule} {n : ℕ} {e : PlainExpr} {from rest : List Token} → Spells rule n e from rest → Spells rule (suc n) e from rest
-raise (g.of_and s) = g.of_and (raise s)
-raise (g.or s t) = g.or (raise s) (raise t)
-raise (g.of_not s) = g.of_not (raise s)
-raise (g.and s t) = g.and (raise s) (raise t)
-raise (g.not s) = g.not (raise s)
-raise (g.of_cmp s) = g.of_cmp (raise s)
-raise (g.of_sum s) = g.of_sum (raise s)
-raise (g.compare m e s t) = g.compare m e (raise s) (raise t)
-raise (g.of_mul s) = g.of_mul (raise s)
-raise (g.sum m e s t) = g.sum m e (raise s) (raise t)
-raise (g.of_un s) = g.of_un (raise s)
-raise (g.mul m e s t) = g.mul m e (raise s) (raise t)
-raise (g.neg s) = g.neg (raise s)
-raise (g.of_atom s) = g.of_atom (raise s)
+raise (g.looser le s) = g.looser le (raise s)
+raise (g.operation t e s u) = g.operation t e (raise s) (raise u)
+raise (g.prefixed t e s) = g.prefixed t e (raise s)
 raise (g.an_int fits) = g.an_int fits
 raise (g.a_minus_int e fits) = g.a_minus_int e fits
 raise g.a_text = g.a_text
@@ -137,10 +59,24 @@ raise (g.choice s t u) = g.choice (raise s) (raise t) (raise u)
 abbrev SpelledBy : Rule → ℕ → PlainExpr → List Piece → Type 0
 SpelledBy rule n e pieces = (rest : List Token) → Spells rule n e (onto pieces rest) rest
 
+call1_loosest : (o : Op) → call1_rule o ≤ E
+call1_loosest op.Not = omega arith
+call1_loosest op.Neg = omega arith
+call1_loosest _ = omega arith
+
+form_loosest : (o : Op) → form_rule (form_of (operator.Call o)) ≤ E
+form_loosest op.Eq = omega arith
+form_loosest _ = omega arith
+
+loosest : (e : PlainExpr) → rule_of e ≤ E
+loosest (Call1 o a) = call1_loosest o
+loosest (Call2 o a b) = form_loosest o
+loosest _ = omega arith
+
 -- n levels are enough for the canonical text of the expression as the rule spells it
 data Enough (rule : Rule) : ℕ → PlainExpr → Type 0 where
-  is_bare : {n : ℕ} {e : PlainExpr} → tightness rule ≤ tightness (rule_of e) → SpelledBy (rule_of e) n e (bare e) → Enough rule n e
-  parens : {n : ℕ} {e : PlainExpr} → tightness (rule_of e) < tightness rule → SpelledBy (rule_of e) n e (bare e) → Enough rule (suc n) e
+  is_bare : {n : ℕ} {e : PlainExpr} → rule_of e ≤ rule → SpelledBy (rule_of e) n e (bare e) → Enough rule n e
+  parens : {n : ℕ} {e : PlainExpr} → rule < rule_of e → SpelledBy (rule_of e) n e (bare e) → Enough rule (suc n) e
 
 spelled_in_parens : (n : ℕ) (e : PlainExpr) (pieces : List Piece) → SpelledBy E n e pieces → SpelledBy ATOM (suc n) e (in_parens pieces)
 spelled_in_parens n e pieces s rest =
@@ -148,38 +84,28 @@ spelled_in_parens n e pieces s rest =
 
 enough_spelled : (rule : Rule) (n : ℕ) (e : PlainExpr) → Enough rule n e → SpelledBy rule n e (canonical_expr rule e)
 enough_spelled rule n e (is_bare h s) rest =
-    let fits : nat_le (tightness rule) (tightness (rule_of e)) ≡ true = grind (arith, nat_tests, h) in
-    subst (λ b. Spells rule n e (onto (cond b (bare e) (in_parens (bare e))) rest) rest) (sym fits) (looser rule (rule_of e) h (s rest))
+    let fits : nat_le (rule_of e) rule ≡ true = grind (arith, nat_tests, h) in
+    subst (λ b. Spells rule n e (onto (cond b (bare e) (in_parens (bare e))) rest) rest) (sym fits) (g.looser h (s rest))
 enough_spelled rule _ e (parens {n = n} h s) rest =
-    let fits : nat_le (tightness rule) (tightness (rule_of e)) ≡ false = grind (arith, nat_tests, h) in
-    let as_atom : Spells ATOM (suc n) e (onto (in_parens (bare e)) rest) rest = spelled_in_parens n e (bare e) (λ ts. to_e (rule_of e) (s ts)) rest in
-    subst (λ b. Spells rule (suc n) e (onto (cond b (bare e) (in_parens (bare e))) rest) rest) (sym fits) (looser rule ATOM (tightest rule) as_atom)
-  where
-    tightest : (rule : Rule) → tightness rule ≤ 7
-    tightest E = omega arith
-    tightest AND = omega arith
-    tightest NOT = omega arith
-    tightest CMP = omega arith
-    tightest SUM = omega arith
-    tightest MUL = omega arith
-    tightest UN = omega arith
-    tightest ATOM = omega arith
+    let fits : nat_le (rule_of e) rule ≡ false = grind (arith, nat_tests, h) in
+    let as_atom : Spells ATOM (suc n) e (onto (in_parens (bare e)) rest) rest = spelled_in_parens n e (bare e) (λ ts. g.looser (loosest e) (s ts)) rest in
+    subst (λ b. Spells rule (suc n) e (onto (cond b (bare e) (in_parens (bare e))) rest) rest) (sym fits) (g.looser (omega arith) as_atom)
 
 -- parentheses where the rule needs them
 wrapped : (rule : Rule) (n : ℕ) (e : PlainExpr) → SpelledBy (rule_of e) n e (bare e) → Enough rule (suc n) e
-wrapped rule n e s = by (nat_le (tightness rule) (tightness (rule_of e))) refl
+wrapped rule n e s = by (nat_le (rule_of e) rule) refl
   where
-    by : (b : Bool) → nat_le (tightness rule) (tightness (rule_of e)) ≡ b → Enough rule (suc n) e
+    by : (b : Bool) → nat_le (rule_of e) rule ≡ b → Enough rule (suc n) e
     by true q = is_bare (grind (arith, nat_tests, q)) (λ rest. raise (s rest))
     by false q = parens (grind (arith, nat_tests, q)) s
 
-looser_enough : (r s : Rule) (n : ℕ) (e : PlainExpr) → tightness r ≤ tightness s → Enough s n e → Enough r n e
+looser_enough : (r s : Rule) (n : ℕ) (e : PlainExpr) → s ≤ r → Enough s n e → Enough r n e
 looser_enough r s n e h (is_bare k x) = is_bare (omega (arith, h, k)) x
 looser_enough r s _ e h (parens {n = n} k x) = wrapped r n e x
 
 in_parens_enough : (n : ℕ) (e : PlainExpr) → Enough E n e → Enough ATOM (suc n) e
 in_parens_enough n e (is_bare k x) = wrapped ATOM n e x
-in_parens_enough _ e (parens k x) = absurd (omega (arith, k))
+in_parens_enough _ e (parens k x) = absurd (omega (arith, k, loosest e))
 
 -- an operator between two operands
 module _ (rule left right : Rule) (n : ℕ) (e a b : PlainExpr) (token : Token) (join : (from mid rest : List Token) → Spells left n a from (token ∷ mid) → Spells right n b mid rest → Spells rule n e from rest) where
@@ -201,41 +127,72 @@ three_argument_tokens zs xs ys rest =
     ∙ onto-append zs (behind_comma xs ++ behind_comma ys) (Mark mark.Close ∷ rest)
     ∙ ap (λ ts. onto zs (Mark mark.Comma ∷ ts)) (onto-append xs (behind_comma ys) (Mark mark.Close ∷ rest))
 
--- the forms of the operations
-pub compare_form : (m : the_mark.Mark) (o : Op) → compare_op m ≡ Some o → form_of o ≡ Between (comparison m)
-compare_form mark.Equal o e = let same : op.Eq ≡ o = cc in ap form_of (sym same)
-compare_form mark.NotEqual o e = let same : op.Ne ≡ o = cc in ap form_of (sym same)
-compare_form mark.Less o e = let same : op.Lt ≡ o = cc in ap form_of (sym same)
-compare_form mark.LessEqual o e = let same : op.Le ≡ o = cc in ap form_of (sym same)
-compare_form mark.Greater o e = let same : op.Gt ≡ o = cc in ap form_of (sym same)
-compare_form mark.GreaterEqual o e = let same : op.Ge ≡ o = cc in ap form_of (sym same)
-compare_form _ o e = absurd (cc)
+-- the token with which the canonical text has the operator
+abbrev pub Found : Infix → Type 0
+Found o = (k : Token) × (infix_of k ≡ Some o) × (form_of o.operator ≡ Between k o)
 
--- a mark with which the canonical text has the operation
-pub sum_form : (m : the_mark.Mark) (o : Op) → sum_op m ≡ Some o → (k : the_mark.Mark) × (sum_op k ≡ Some o) × (form_of o ≡ Between (summing k))
-sum_form mark.Plus o e = let same : op.Add ≡ o = cc in (mark.Plus, e, ap form_of (sym same))
-sum_form mark.Minus o e = let same : op.Sub ≡ o = cc in (mark.Minus, e, ap form_of (sym same))
-sum_form mark.Sign o e = let same : op.Sub ≡ o = cc in (mark.Minus, e, ap form_of (sym same))
-sum_form _ o e = absurd (cc)
+mark_found : (m : the_mark.Mark) (o : Infix) → mark_infix m ≡ Some o → Found o
+mark_found mark.Equal o e = let same : comparing op.Eq ≡ o = cc in subst Found same (Mark mark.Equal, refl, refl)
+mark_found mark.NotEqual o e = let same : comparing op.Ne ≡ o = cc in subst Found same (Mark mark.NotEqual, refl, refl)
+mark_found mark.Less o e = let same : comparing op.Lt ≡ o = cc in subst Found same (Mark mark.Less, refl, refl)
+mark_found mark.LessEqual o e = let same : comparing op.Le ≡ o = cc in subst Found same (Mark mark.LessEqual, refl, refl)
+mark_found mark.Greater o e = let same : comparing op.Gt ≡ o = cc in subst Found same (Mark mark.Greater, refl, refl)
+mark_found mark.GreaterEqual o e = let same : comparing op.Ge ≡ o = cc in subst Found same (Mark mark.GreaterEqual, refl, refl)
+mark_found mark.Plus o e = let same : summing op.Add ≡ o = cc in subst Found same (Mark mark.Plus, refl, refl)
+mark_found mark.Minus o e = let same : summing op.Sub ≡ o = cc in subst Found same (Mark mark.Minus, refl, refl)
+mark_found mark.Sign o e = let same : summing op.Sub ≡ o = cc in subst Found same (Mark mark.Minus, refl, refl)
+mark_found mark.Times o e = let same : multiplying op.Mul ≡ o = cc in subst Found same (Mark mark.Times, refl, refl)
+mark_found mark.Divide o e = let same : multiplying op.Div ≡ o = cc in subst Found same (Mark mark.Divide, refl, refl)
+mark_found mark.Rest o e = let same : multiplying op.Mod ≡ o = cc in subst Found same (Mark mark.Rest, refl, refl)
+mark_found _ o e = absurd (cc)
 
-pub mul_form : (m : the_mark.Mark) (o : Op) → mul_op m ≡ Some o → form_of o ≡ Between (multiplying m)
-mul_form mark.Times o e = let same : op.Mul ≡ o = cc in ap form_of (sym same)
-mul_form mark.Divide o e = let same : op.Div ≡ o = cc in ap form_of (sym same)
-mul_form mark.Rest o e = let same : op.Mod ≡ o = cc in ap form_of (sym same)
-mul_form _ o e = absurd (cc)
+pub operator_found : (t : Token) (o : Infix) → infix_of t ≡ Some o → Found o
+operator_found (Word word.Or) o e = let same : disjunction ≡ o = cc in subst Found same (Word word.Or, refl, refl)
+operator_found (Word word.And) o e = let same : conjunction ≡ o = cc in subst Found same (Word word.And, refl, refl)
+operator_found (Mark m) o e = mark_found m o e
+operator_found _ o e = absurd (cc)
 
-pub call2_form : (w : the_word.Word) (o : Op) → call2_op w ≡ Some o → form_of o ≡ Function w
-call2_form word.Starts o e = let same : op.Starts ≡ o = cc in ap form_of (sym same)
-call2_form word.Least o e = let same : op.Least ≡ o = cc in ap form_of (sym same)
-call2_form word.Most o e = let same : op.Most ≡ o = cc in ap form_of (sym same)
+pub call2_form : (w : the_word.Word) (o : Op) → call2_op w ≡ Some o → form_of (operator.Call o) ≡ Function w
+call2_form word.Starts o e = let same : op.Starts ≡ o = cc in ap (λ o. form_of (operator.Call o)) (sym same)
+call2_form word.Least o e = let same : op.Least ≡ o = cc in ap (λ o. form_of (operator.Call o)) (sym same)
+call2_form word.Most o e = let same : op.Most ≡ o = cc in ap (λ o. form_of (operator.Call o)) (sym same)
 call2_form _ o e = absurd (cc)
 
-module _ (rule : Rule) (n : ℕ) (o : Op) (a b : PlainExpr) (f : Form) (is : form_of o ≡ f) where
-  of_form : tightness rule ≤ tightness (form_rule f) → SpelledBy (form_rule f) n (Call2 o a b) (call2 f (λ r. canonical_expr r a) (λ r. canonical_expr r b)) → Enough rule n (Call2 o a b)
-  of_form h s =
-      is_bare
-      (subst (λ f. tightness rule ≤ tightness (form_rule f)) (sym is) h)
-      (subst (λ f. SpelledBy (form_rule f) n (Call2 o a b) (call2 f (λ r. canonical_expr r a) (λ r. canonical_expr r b))) (sym is) s)
+module _ (j : Operator) (a b : PlainExpr) where
+  pub rule_of-joined : rule_of (joined j a b) ≡ form_rule (form_of j)
+  rule_of-joined = by j
+    where
+      by : (j : Operator) → rule_of (joined j a b) ≡ form_rule (form_of j)
+      by (operator.Call o) = refl
+      by operator.And = refl
+      by operator.Or = refl
+
+  pub bare-joined : bare (joined j a b) ≡ binary (form_of j) (λ rule. canonical_expr rule a) (λ rule. canonical_expr rule b)
+  bare-joined = by j
+    where
+      by : (j : Operator) → bare (joined j a b) ≡ binary (form_of j) (λ rule. canonical_expr rule a) (λ rule. canonical_expr rule b)
+      by (operator.Call o) = refl
+      by operator.And = refl
+      by operator.Or = refl
+
+  module _ (rule : Rule) (n : ℕ) (f : Form) (is : form_of j ≡ f) where
+    of_form : form_rule f ≤ rule → SpelledBy (form_rule f) n (joined j a b) (binary f (λ r. canonical_expr r a) (λ r. canonical_expr r b)) → Enough rule n (joined j a b)
+    of_form h s =
+        let of = rule_of-joined ∙ ap form_rule is in
+        let pieces = bare-joined ∙ ap (λ f. binary f (λ rule. canonical_expr rule a) (λ rule. canonical_expr rule b)) is in
+        is_bare (omega (arith, h, of)) (λ rest. subst (λ r. Spells r n (joined j a b) (onto (bare (joined j a b)) rest) rest) (sym of) (subst (λ ps. Spells (form_rule f) n (joined j a b) (onto ps rest) rest) (sym pieces) (s rest)))
+
+abbrev PrefixEnough : ℕ → PlainExpr → Prefix → Type 0
+PrefixEnough n a p = Enough p.rule n a → Enough p.rule (suc n) (Call1 p.op a)
+
+prefix_enough : (n : ℕ) (t : Token) (p : Prefix) (a : PlainExpr) → prefix_of t ≡ Some p → PrefixEnough n a p
+prefix_enough n (Word word.Not) p a e =
+    let same : record { rule = NOT; op = op.Not } ≡ p = cc e in
+    subst (PrefixEnough n a) same (λ x. is_bare (omega arith) (λ rest. g.prefixed (Word word.Not) refl (enough_spelled NOT n a x rest)))
+prefix_enough n (Mark mark.Minus) p a e =
+    let same : record { rule = UN; op = op.Neg } ≡ p = cc e in
+    subst (PrefixEnough n a) same (λ x. is_bare (omega arith) (λ rest. g.prefixed (Mark mark.Minus) refl (enough_spelled UN n a x rest)))
+prefix_enough n _ p a e = absurd (cc e)
 
 call1_enough : (n : ℕ) (w : the_word.Word) (o : Op) (a : PlainExpr) → call1_op w ≡ Some o → Enough E n a → Enough ATOM (suc n) (Call1 o a)
 call1_enough n word.Len o a e s =
@@ -254,31 +211,14 @@ minus_int_enough n (suc k) z e fits =
     let below : FitsSigned w64 (negsuc k) = subst (FitsSigned w64) e fits in
     subst (λ z. Enough ATOM n (Literal (cell.Int z))) (sym e) (is_bare (omega arith) (λ rest. g.a_minus_int refl below))
 
--- so many levels xs spell an expression are enough for its canonical text
+-- so many levels as spell an expression are enough for its canonical text
 enough : {rule : Rule} {n : ℕ} {e : PlainExpr} {from rest : List Token} → Spells rule n e from rest → Enough rule n e
-enough (g.of_and {n = n} {e = e} s) = looser_enough E AND n e (omega arith) (enough s)
-enough (g.or {n = n} {a = a} {b = b} s t) =
-    is_bare (omega arith) (spelled_between E E AND n (Or a b) a b (Word word.Or) (λ from mid rest s t. g.or s t) (canonical_expr E a) (canonical_expr AND b) (enough_spelled E n a (enough s)) (enough_spelled AND n b (enough t)))
-enough (g.of_not {n = n} {e = e} s) = looser_enough AND NOT n e (omega arith) (enough s)
-enough (g.and {n = n} {a = a} {b = b} s t) =
-    is_bare (omega arith) (spelled_between AND AND NOT n (And a b) a b (Word word.And) (λ from mid rest s t. g.and s t) (canonical_expr AND a) (canonical_expr NOT b) (enough_spelled AND n a (enough s)) (enough_spelled NOT n b (enough t)))
-enough (g.not {n = n} {a = a} s) = is_bare (omega arith) (λ rest. g.not (enough_spelled NOT n a (enough s) rest))
-enough (g.of_cmp {n = n} {e = e} s) = looser_enough NOT CMP n e (omega arith) (enough s)
-enough (g.of_sum {n = n} {e = e} s) = looser_enough CMP SUM n e (omega arith) (enough s)
-enough (g.compare {n = n} {a = a} {b = b} m {o = o} e s t) =
-    of_form CMP n o a b (Between (comparison m)) (compare_form m o e) (omega arith)
-    (spelled_between CMP SUM SUM n (Call2 o a b) a b (Mark m) (λ from mid rest s t. g.compare m e s t) (canonical_expr SUM a) (canonical_expr SUM b) (enough_spelled SUM n a (enough s)) (enough_spelled SUM n b (enough t)))
-enough (g.of_mul {n = n} {e = e} s) = looser_enough SUM MUL n e (omega arith) (enough s)
-enough (g.sum {n = n} {a = a} {b = b} m {o = o} e s t) =
-    let form = sum_form m o e in
-    of_form SUM n o a b (Between (summing form.0)) form.2 (omega arith)
-    (spelled_between SUM SUM MUL n (Call2 o a b) a b (Mark form.0) (λ from mid rest s t. g.sum form.0 form.1 s t) (canonical_expr SUM a) (canonical_expr MUL b) (enough_spelled SUM n a (enough s)) (enough_spelled MUL n b (enough t)))
-enough (g.of_un {n = n} {e = e} s) = looser_enough MUL UN n e (omega arith) (enough s)
-enough (g.mul {n = n} {a = a} {b = b} m {o = o} e s t) =
-    of_form MUL n o a b (Between (multiplying m)) (mul_form m o e) (omega arith)
-    (spelled_between MUL MUL UN n (Call2 o a b) a b (Mark m) (λ from mid rest s t. g.mul m e s t) (canonical_expr MUL a) (canonical_expr UN b) (enough_spelled MUL n a (enough s)) (enough_spelled UN n b (enough t)))
-enough (g.neg {n = n} {a = a} s) = is_bare (omega arith) (λ rest. g.neg (enough_spelled UN n a (enough s) rest))
-enough (g.of_atom {n = n} {e = e} s) = looser_enough UN ATOM n e (omega arith) (enough s)
+enough (g.looser {r = r} {s = s} {n = n} {e = e} h x) = looser_enough s r n e h (enough x)
+enough (g.operation {n = n} {a = a} {b = b} t {o = o} e s u) =
+    let found = operator_found t o e in
+    of_form o.operator a b o.rule n (Between found.0 o) found.2 (omega arith)
+    (spelled_between o.rule o.left o.right n (joined o.operator a b) a b found.0 (λ from mid rest s u. g.operation found.0 found.1 s u) (canonical_expr o.left a) (canonical_expr o.right b) (enough_spelled o.left n a (enough s)) (enough_spelled o.right n b (enough u)))
+enough (g.prefixed {n = n} {a = a} t {p = p} e s) = prefix_enough n t p a e (enough s)
 enough (g.an_int fits) = is_bare (omega arith) (λ rest. g.an_int fits)
 enough (g.a_minus_int {n = n} {number = number} {z = z} e fits) = minus_int_enough n number z e fits
 enough g.a_text = is_bare (omega arith) (λ rest. g.a_text)
@@ -287,7 +227,7 @@ enough g.a_column = is_bare (omega arith) (λ rest. g.a_column)
 enough (g.in_parens {n = n} {e = e} s) = in_parens_enough n e (enough s)
 enough (g.call1 {n = n} {a = a} w {o = o} e s) = call1_enough n w o a e (enough s)
 enough (g.call2 {n = n} {a = a} {b = b} w {o = o} e s t) =
-    of_form ATOM (suc n) o a b (Function w) (call2_form w o e) (omega arith) (λ rest.
+    of_form (operator.Call o) a b ATOM (suc n) (Function w) (call2_form w o e) (omega arith) (λ rest.
     subst (λ ts. Spells ATOM (suc n) (Call2 o a b) (Word w ∷ Mark mark.Open ∷ ts) rest) (sym (two_argument_tokens (canonical_expr E a) (canonical_expr E b) rest))
     (g.call2 w e (enough_spelled E n a (enough s) _) (enough_spelled E n b (enough t) (Mark mark.Close ∷ rest))))
 enough (g.choice {n = n} {c = c} {a = a} {b = b} s t u) =

@@ -1,56 +1,39 @@
 -- Printed parentheses are needed: where an expression's own rule is looser, each text of it by a rule is in parentheses.
-use Prim.Native.Nat.{zero, suc}
-use Rattle.std.proofs.Common.{◌≡◌, refl, sym, ap, ℕ, ◌<◌, List, ◌∷◌, Some, arith}
+use Rattle.std.proofs.Common.{◌≡◌, refl, sym, ap, ◌∙◌, ℕ, ◌<◌, List, Some, arith}
 use Rattle.scalar_ops.specs.declared.table.Op.{Op}
 use Rattle.scalar_ops.specs.declared.table.Op.TheVariants as op
 use Rattle.plan_grammar.specs.declared.token.Token.{Token}
-use Rattle.plan_grammar.specs.declared.token.Mark as the_mark
+use Rattle.plan_grammar.specs.declared.token.Token.TheVariants.{Word, Mark}
+use Rattle.plan_grammar.specs.declared.token.Mark.TheVariants as mark
 use Rattle.plan_grammar.specs.declared.token.Word as the_word
 use Rattle.plan_grammar.specs.declared.token.Word.TheVariants as word
-use Rattle.plan_grammar.specs.PlainNamed.{PlainExpr, Call1, Call2}
+use Rattle.plan_grammar.specs.declared.operator.Prefix.{Prefix}
+use Rattle.plan_grammar.specs.PlainNamed.{PlainExpr}
+use Rattle.plan_grammar.specs.Operators.{Rule, ATOM, UN, NOT, prefix_of, call1_op}
 use Rattle.plan_grammar.specs.Grammar as g
-use Rattle.plan_grammar.specs.Grammar.{Rule, E, AND, NOT, CMP, SUM, MUL, UN, ATOM, Spells, compare_op, sum_op, mul_op, call1_op, call2_op}
-use Rattle.plan_printer.specs.Canonical.{tightness, form_of, form_rule, call1_rule, rule_of, StandsInParens}
-use Rattle.plan_printer.proofs.CanonicalSpelled.{compare_form, sum_form, mul_form, call2_form}
+use Rattle.plan_grammar.specs.Grammar.{Spells}
+use Rattle.plan_printer.specs.Canonical.{form_rule, call1_rule, rule_of, StandsInParens}
+use Rattle.plan_printer.proofs.CanonicalSpelled.{operator_found, rule_of-joined, call2_form}
 
--- the rule of an operation with a mark or a word
-compare_rule : (m : the_mark.Mark) (o : Op) → compare_op m ≡ Some o → form_rule (form_of o) ≡ CMP
-compare_rule m o e = ap form_rule (compare_form m o e)
-
-sum_rule : (m : the_mark.Mark) (o : Op) → sum_op m ≡ Some o → form_rule (form_of o) ≡ SUM
-sum_rule m o e = ap form_rule (sum_form m o e).2
-
-mul_rule : (m : the_mark.Mark) (o : Op) → mul_op m ≡ Some o → form_rule (form_of o) ≡ MUL
-mul_rule m o e = ap form_rule (mul_form m o e)
-
-function_rule : (w : the_word.Word) (o : Op) → call2_op w ≡ Some o → form_rule (form_of o) ≡ ATOM
-function_rule w o e = ap form_rule (call2_form w o e)
+prefix_rule : (t : Token) (p : Prefix) → prefix_of t ≡ Some p → call1_rule p.op ≡ p.rule
+prefix_rule (Word word.Not) p e = let same : record { rule = NOT; op = op.Not } ≡ p = cc e in ap (λ (p : Prefix). call1_rule p.op) (sym same) ∙ ap (λ (p : Prefix). p.rule) same
+prefix_rule (Mark mark.Minus) p e = let same : record { rule = UN; op = op.Neg } ≡ p = cc e in ap (λ (p : Prefix). call1_rule p.op) (sym same) ∙ ap (λ (p : Prefix). p.rule) same
+prefix_rule _ p e = absurd (cc e)
 
 one_argument_rule : (w : the_word.Word) (o : Op) → call1_op w ≡ Some o → call1_rule o ≡ ATOM
 one_argument_rule word.Len o e = let same : op.Len ≡ o = cc in ap call1_rule (sym same)
 one_argument_rule word.Abs o e = let same : op.Abs ≡ o = cc in ap call1_rule (sym same)
 one_argument_rule _ o e = absurd (cc)
 
--- a rule that is no looser than itself
+-- a rule is no looser than itself
 module _ (own rule : Rule) where
-  not_looser : own ≡ rule → tightness own < tightness rule → ⊥
-  not_looser same less = let equal : tightness own ≡ tightness rule = ap tightness same in omega (arith, less, equal)
+  not_looser : own ≡ rule → rule < own → ⊥
+  not_looser same less = omega (arith, less, same)
 
-pub needed : {rule : Rule} {n : ℕ} {e : PlainExpr} {from rest : List Token} → Spells rule n e from rest → tightness (rule_of e) < tightness rule → StandsInParens n e from rest
-needed (g.of_and s) less = absurd (omega (arith, less))
-needed (g.or s t) less = absurd (omega (arith, less))
-needed (g.of_not s) less = needed s (omega (arith, less))
-needed (g.and s t) less = absurd (omega (arith, less))
-needed (g.not s) less = absurd (omega (arith, less))
-needed (g.of_cmp s) less = needed s (omega (arith, less))
-needed (g.of_sum s) less = needed s (omega (arith, less))
-needed (g.compare m {o = o} e s t) less = absurd (not_looser (form_rule (form_of o)) CMP (compare_rule m o e) less)
-needed (g.of_mul s) less = needed s (omega (arith, less))
-needed (g.sum m {o = o} e s t) less = absurd (not_looser (form_rule (form_of o)) SUM (sum_rule m o e) less)
-needed (g.of_un s) less = needed s (omega (arith, less))
-needed (g.mul m {o = o} e s t) less = absurd (not_looser (form_rule (form_of o)) MUL (mul_rule m o e) less)
-needed (g.neg s) less = absurd (omega (arith, less))
-needed (g.of_atom s) less = needed s (omega (arith, less))
+pub needed : {rule : Rule} {n : ℕ} {e : PlainExpr} {from rest : List Token} → Spells rule n e from rest → rule < rule_of e → StandsInParens n e from rest
+needed (g.looser h s) less = needed s (omega (arith, h, less))
+needed (g.operation {a = a} {b = b} t {o = o} e s u) less = absurd (not_looser _ o.rule (rule_of-joined o.operator a b ∙ ap form_rule (operator_found t o e).2) less)
+needed (g.prefixed t {p = p} e s) less = absurd (not_looser (call1_rule p.op) p.rule (prefix_rule t p e) less)
 needed (g.an_int fits) less = absurd (omega (arith, less))
 needed (g.a_minus_int e fits) less = absurd (omega (arith, less))
 needed g.a_text less = absurd (omega (arith, less))
@@ -58,5 +41,5 @@ needed g.a_truth less = absurd (omega (arith, less))
 needed g.a_column less = absurd (omega (arith, less))
 needed (g.in_parens {n = n} {mid = mid} s) less = record { inner = n; level = refl; inside = mid; opens = refl; spells = s }
 needed (g.call1 w {o = o} e s) less = absurd (not_looser (call1_rule o) ATOM (one_argument_rule w o e) less)
-needed (g.call2 w {o = o} e s t) less = absurd (not_looser (form_rule (form_of o)) ATOM (function_rule w o e) less)
+needed (g.call2 w {o = o} e s t) less = absurd (not_looser _ ATOM (ap form_rule (call2_form w o e)) less)
 needed (g.choice s t u) less = absurd (omega (arith, less))

@@ -1,6 +1,6 @@
 -- The canonical text of an expression and of a plan, which is the one that is printed.
 use Prim.Native.Nat.{suc}
-use Rattle.std.specs.Prelude.{◌≡◌, ℕ, nat_le, if◌then◌else◌, List, [], ◌∷◌, ◌++◌, codes, pos, negsuc, decimal}
+use Rattle.std.specs.Prelude.{◌≡◌, ℕ, nat_le, if◌then◌else◌, List, [], ◌∷◌, ◌++◌, pos, negsuc, decimal}
 use Rattle.std.specs.List.{flat_map}
 use Rattle.scalar_ops.specs.declared.cell.Cell.{Cell}
 use Rattle.scalar_ops.specs.declared.cell.Cell.TheVariants as cell
@@ -8,7 +8,6 @@ use Rattle.scalar_ops.specs.declared.table.Op.{Op}
 use Rattle.scalar_ops.specs.declared.table.Op.TheVariants as op
 use Rattle.plan_grammar.specs.declared.token.Token.{Token}
 use Rattle.plan_grammar.specs.declared.token.Token.TheVariants.{Name, Word, Number, Text, Mark}
-use Rattle.plan_grammar.specs.declared.token.Mark as the_mark
 use Rattle.plan_grammar.specs.declared.token.Mark.TheVariants as mark
 use Rattle.plan_grammar.specs.declared.token.Word as the_word
 use Rattle.plan_grammar.specs.declared.token.Word.TheVariants as word
@@ -19,7 +18,13 @@ use Rattle.plan_grammar.specs.declared.plan.NamedPair.{NamedPair}
 use Rattle.plan_grammar.specs.declared.plan.NamedKey.{NamedKey}
 use Rattle.plan_grammar.specs.Token.{word_bytes, mark_bytes, is_escaped}
 use Rattle.plan_grammar.specs.PlainNamed.{PlainExpr, Column, Literal, Call1, Call2, And, Or, If, PlainColumn, PlainTree, From, Where, Select, Distinct, Group, Join, Concat, Order}
-use Rattle.plan_grammar.specs.Grammar.{Spells, Rule, E, AND, NOT, CMP, SUM, MUL, UN, ATOM, agg_word}
+use Rattle.plan_grammar.specs.declared.operator.Operator.{Operator}
+use Rattle.plan_grammar.specs.declared.operator.Operator.TheVariants as operator
+use Rattle.plan_grammar.specs.declared.operator.Infix.{Infix}
+use Rattle.plan_printer.specs.declared.rule.Form as the_form
+use Rattle.plan_printer.specs.declared.rule.Form.TheVariants as form
+use Rattle.plan_grammar.specs.Operators.{Rule, ATOM, UN, NOT, AND, E, comparing, summing, multiplying, conjunction, disjunction}
+use Rattle.plan_grammar.specs.Grammar.{Spells, agg_word}
 
 -- A text is made of tokens, and of the spaces between some of them.
 pub data Piece : Type 0 where
@@ -55,58 +60,39 @@ piece_bytes (One token) = spelling token
 abbrev pub text_of : List Piece → List ℕ
 text_of pieces = flat_map piece_bytes pieces
 
--- how tightly a rule binds
-abbrev pub tightness : Rule → ℕ
-tightness E = 0
-tightness AND = 1
-tightness NOT = 2
-tightness CMP = 3
-tightness SUM = 4
-tightness MUL = 5
-tightness UN = 6
-tightness ATOM = 7
-
--- An operator between two operands: the rule that has it, the rules of its operands, and its mark.
-pub record Infix : Type 0 where
-  pub rule : Rule
-  pub left : Rule
-  pub right : Rule
-  pub sign : the_mark.Mark
-
-abbrev pub comparison : the_mark.Mark → Infix
-comparison m = record { rule = CMP; left = SUM; right = SUM; sign = m }
-
-abbrev pub summing : the_mark.Mark → Infix
-summing m = record { rule = SUM; left = SUM; right = MUL; sign = m }
-
-abbrev pub multiplying : the_mark.Mark → Infix
-multiplying m = record { rule = MUL; left = MUL; right = UN; sign = m }
-
--- how an operation of two arguments is written: between them, or before them as a function
+-- how an operator is written: between its operands, or before them as a function
 pub data Form : Type 0 where
-  Between : Infix → Form
+  Between : Token → Infix → Form
   Function : the_word.Word → Form
   NoForm : Form
 
-abbrev pub form_of : Op → Form
-form_of op.Eq = Between (comparison mark.Equal)
-form_of op.Ne = Between (comparison mark.NotEqual)
-form_of op.Lt = Between (comparison mark.Less)
-form_of op.Le = Between (comparison mark.LessEqual)
-form_of op.Gt = Between (comparison mark.Greater)
-form_of op.Ge = Between (comparison mark.GreaterEqual)
-form_of op.Add = Between (summing mark.Plus)
-form_of op.Sub = Between (summing mark.Minus)
-form_of op.Mul = Between (multiplying mark.Times)
-form_of op.Div = Between (multiplying mark.Divide)
-form_of op.Mod = Between (multiplying mark.Rest)
-form_of op.Starts = Function word.Starts
-form_of op.Least = Function word.Least
-form_of op.Most = Function word.Most
-form_of _ = NoForm
+abbrev pub form_of : Operator → Form
+form_of (operator.Call op.Eq) = Between (Mark mark.Equal) (comparing op.Eq)
+form_of (operator.Call op.Ne) = Between (Mark mark.NotEqual) (comparing op.Ne)
+form_of (operator.Call op.Lt) = Between (Mark mark.Less) (comparing op.Lt)
+form_of (operator.Call op.Le) = Between (Mark mark.LessEqual) (comparing op.Le)
+form_of (operator.Call op.Gt) = Between (Mark mark.Greater) (comparing op.Gt)
+form_of (operator.Call op.Ge) = Between (Mark mark.GreaterEqual) (comparing op.Ge)
+form_of (operator.Call op.Add) = Between (Mark mark.Plus) (summing op.Add)
+form_of (operator.Call op.Sub) = Between (Mark mark.Minus) (summing op.Sub)
+form_of (operator.Call op.Mul) = Between (Mark mark.Times) (multiplying op.Mul)
+form_of (operator.Call op.Div) = Between (Mark mark.Divide) (multiplying op.Div)
+form_of (operator.Call op.Mod) = Between (Mark mark.Rest) (multiplying op.Mod)
+form_of (operator.Call op.Starts) = Function word.Starts
+form_of (operator.Call op.Least) = Function word.Least
+form_of (operator.Call op.Most) = Function word.Most
+form_of (operator.Call _) = NoForm
+form_of operator.And = Between (Word word.And) conjunction
+form_of operator.Or = Between (Word word.Or) disjunction
+
+-- what a form of the code says
+abbrev pub form_in : the_form.Form → Form
+form_in (form.Between m o) = Between (Mark m) o
+form_in (form.Function w) = Function w
+form_in form.Nowhere = NoForm
 
 abbrev pub form_rule : Form → Rule
-form_rule (Between operator) = operator.rule
+form_rule (Between t o) = o.rule
 form_rule (Function w) = ATOM
 form_rule NoForm = ATOM
 
@@ -120,7 +106,7 @@ abbrev pub rule_of : PlainExpr → Rule
 rule_of (Column name) = ATOM
 rule_of (Literal c) = ATOM
 rule_of (Call1 o a) = call1_rule o
-rule_of (Call2 o a b) = form_rule (form_of o)
+rule_of (Call2 o a b) = form_rule (form_of (operator.Call o))
 rule_of (And a b) = AND
 rule_of (Or a b) = E
 rule_of (If c a b) = ATOM
@@ -130,7 +116,7 @@ in_parens pieces = One (Mark mark.Open) ∷ (pieces ++ One (Mark mark.Close) ∷
 
 -- where the rule `wanted` is to spell what the rule `own` does: in parentheses exactly where `own` is the looser one
 abbrev pub within : Rule → Rule → List Piece → List Piece
-within wanted own pieces = if nat_le (tightness wanted) (tightness own) then pieces else in_parens pieces
+within wanted own pieces = if nat_le own wanted then pieces else in_parens pieces
 
 abbrev pub behind_comma : List Piece → List Piece
 behind_comma pieces = One (Mark mark.Comma) ∷ Space ∷ pieces
@@ -157,19 +143,20 @@ call1 op.Len a = function word.Len (a E)
 call1 op.Abs a = function word.Abs (a E)
 call1 _ a = []
 
-abbrev pub call2 : Form → (Rule → List Piece) → (Rule → List Piece) → List Piece
-call2 (Between operator) a b = between (a operator.left) (Mark operator.sign) (b operator.right)
-call2 (Function w) a b = function w (a E ++ behind_comma (b E))
-call2 NoForm a b = []
+-- an operator's form, with the pieces of its operands under a rule
+abbrev pub binary : Form → (Rule → List Piece) → (Rule → List Piece) → List Piece
+binary (Between t o) a b = between (a o.left) t (b o.right)
+binary (Function w) a b = function w (a E ++ behind_comma (b E))
+binary NoForm a b = []
 
 -- the expression without parentheses around it
 abbrev pub bare : PlainExpr → List Piece
 bare (Column name) = One (Name name) ∷ []
 bare (Literal c) = literal c
 bare (Call1 o a) = call1 o (λ rule. within rule (rule_of a) (bare a))
-bare (Call2 o a b) = call2 (form_of o) (λ rule. within rule (rule_of a) (bare a)) (λ rule. within rule (rule_of b) (bare b))
-bare (And a b) = between (within AND (rule_of a) (bare a)) (Word word.And) (within NOT (rule_of b) (bare b))
-bare (Or a b) = between (within E (rule_of a) (bare a)) (Word word.Or) (within AND (rule_of b) (bare b))
+bare (Call2 o a b) = binary (form_of (operator.Call o)) (λ rule. within rule (rule_of a) (bare a)) (λ rule. within rule (rule_of b) (bare b))
+bare (And a b) = binary (form_of operator.And) (λ rule. within rule (rule_of a) (bare a)) (λ rule. within rule (rule_of b) (bare b))
+bare (Or a b) = binary (form_of operator.Or) (λ rule. within rule (rule_of a) (bare a)) (λ rule. within rule (rule_of b) (bare b))
 bare (If c a b) = function word.If (within E (rule_of c) (bare c) ++ (behind_comma (within E (rule_of a) (bare a)) ++ behind_comma (within E (rule_of b) (bare b))))
 
 -- the expression as the rule spells it

@@ -5,14 +5,13 @@ ghost use Rattle.std.specs.List.{flat_map};
 ghost use Rattle.scalar_ops.specs.declared.cell.Cell.TheVariants as cell;
 ghost use Rattle.plan_grammar.specs.declared.token.Token.{Token};
 ghost use Rattle.plan_grammar.specs.PlainNamed.{PlainExpr, Call1, Call2, If, expr_of};
-ghost use Rattle.plan_grammar.specs.Grammar.{E};
+ghost use Rattle.plan_grammar.specs.Operators.{E};
 ghost use Rattle.plan_printer.specs.Canonical.{Space, One, escaped, quoted, text_of, between, behind_comma};
 ghost use Rattle.plan_printer.specs.Canonical.{literal, bare, canonical_expr, function};
-ghost use Rattle.plan_printer.specs.PrintCode.{grammar_rule};
 
-use crate::rule::{Form, Rule};
+use crate::rule::{Form, rule_of};
 use itoa::Buffer;
-use plan_grammar::{NamedExpr, Word};
+use plan_grammar::{CONJUNCTION, EXPRESSION, NEGATION, NamedExpr, SIGNED, Word};
 use rows_core::Memory;
 use scalar_ops::{Cell, Op};
 
@@ -80,11 +79,11 @@ fn put_literal(cell: &Cell, to: &mut Vec<u8>) -> Result<(), Memory>
 
 /// Appends the expression as the rule spells it, in parentheses exactly where the rule needs them.
 #[cycle(expression)]
-pub fn put_expr(rule: Rule, expr: &NamedExpr, to: &mut Vec<u8>) -> Result<(), Memory>
+pub fn put_expr(rule: u8, expr: &NamedExpr, to: &mut Vec<u8>) -> Result<(), Memory>
     ensures { OnOk result
-        (to.new.items ≡ to.old.items ++ text_of (canonical_expr (grammar_rule rule) (expr_of expr.now))) }
+        (to.new.items ≡ to.old.items ++ text_of (canonical_expr rule (expr_of expr.now))) }
 {
-    if rule.tightness() <= Rule::of(expr).tightness() {
+    if rule_of(expr) <= rule {
         return put_bare(expr, to);
     }
     put(b"(", to)?;
@@ -102,25 +101,29 @@ fn put_bare(expr: &NamedExpr, to: &mut Vec<u8>) -> Result<(), Memory>
         NamedExpr::Literal(cell) => put_literal(cell, to),
         NamedExpr::Call1 { op, arg } => put_call1(*op, arg, to),
         NamedExpr::Call2 { op, left, right } => put_call2(*op, left, right, to),
-        NamedExpr::And(left, right) => put_between(Rule::And, left, b"and", Rule::Not, right, to),
-        NamedExpr::Or(left, right) => put_between(Rule::Or, left, b"or", Rule::And, right, to),
+        NamedExpr::And(left, right) => {
+            put_between(CONJUNCTION, left, b"and", NEGATION, right, to)
+        },
+        NamedExpr::Or(left, right) => {
+            put_between(EXPRESSION, left, b"or", CONJUNCTION, right, to)
+        },
         NamedExpr::If(test, first, last) => put_choice(test, first, last, to),
     }
 }
 
 #[cycle(expression)]
 fn put_between(
-    left_rule: Rule,
+    left_rule: u8,
     left: &NamedExpr,
     operator: &[u8],
-    right_rule: Rule,
+    right_rule: u8,
     right: &NamedExpr,
     to: &mut Vec<u8>,
 ) -> Result<(), Memory>
     ensures { OnOk result (to.new.items ≡ to.old.items
-        ++ (text_of (canonical_expr (grammar_rule left_rule) (expr_of left.now))
+        ++ (text_of (canonical_expr left_rule (expr_of left.now))
         ++ 32 ∷ (operator.now ++ 32 ∷ text_of
-        (canonical_expr (grammar_rule right_rule) (expr_of right.now))))) }
+        (canonical_expr right_rule (expr_of right.now))))) }
 {
     put_expr(left_rule, left, to)?;
     put_spaced(operator, to)?;
@@ -132,8 +135,8 @@ fn put_call1(op: Op, arg: &NamedExpr, to: &mut Vec<u8>) -> Result<(), Memory>
     ensures { OnOk result (to.new.items ≡ to.old.items ++ text_of (bare (Call1 op (expr_of arg.now)))) }
 {
     match op {
-        Op::Not => put_behind(b"not ", Rule::Not, arg, to),
-        Op::Neg => put_behind(b"- ", Rule::Minus, arg, to),
+        Op::Not => put_behind(b"not ", NEGATION, arg, to),
+        Op::Neg => put_behind(b"- ", SIGNED, arg, to),
         Op::Len => put_function1(b"len(", arg, to),
         Op::Abs => put_function1(b"abs(", arg, to),
         _ => Ok(()),
@@ -141,10 +144,10 @@ fn put_call1(op: Op, arg: &NamedExpr, to: &mut Vec<u8>) -> Result<(), Memory>
 }
 
 #[cycle(expression)]
-fn put_behind(before: &[u8], rule: Rule, arg: &NamedExpr, to: &mut Vec<u8>) -> Result<(), Memory>
+fn put_behind(before: &[u8], rule: u8, arg: &NamedExpr, to: &mut Vec<u8>) -> Result<(), Memory>
     ensures { OnOk result
         (to.new.items ≡ to.old.items ++
-        (before.now ++ text_of (canonical_expr (grammar_rule rule) (expr_of arg.now)))) }
+        (before.now ++ text_of (canonical_expr rule (expr_of arg.now)))) }
 {
     put(before, to)?;
     put_expr(rule, arg, to)
@@ -156,7 +159,7 @@ fn put_function1(function: &[u8], arg: &NamedExpr, to: &mut Vec<u8>) -> Result<(
         (to.new.items ≡ to.old.items ++
         (function.now ++ (text_of (canonical_expr E (expr_of arg.now)) ++ 41 ∷ []))) }
 {
-    put_behind(function, Rule::Or, arg, to)?;
+    put_behind(function, EXPRESSION, arg, to)?;
     put(b")", to)
 }
 
@@ -166,8 +169,8 @@ fn put_call2(op: Op, left: &NamedExpr, right: &NamedExpr, to: &mut Vec<u8>) -> R
         (to.new.items ≡ to.old.items ++ text_of (bare (Call2 op (expr_of left.now) (expr_of right.now)))) }
 {
     match Form::of(op) {
-        Form::Between(infix) => {
-            put_between(infix.left, left, infix.sign.bytes(), infix.right, right, to)
+        Form::Between(sign, infix) => {
+            put_between(infix.left, left, sign.bytes(), infix.right, right, to)
         }
         Form::Function(word) => put_function2(word, left, right, to),
         Form::Nowhere => Ok(()),
@@ -186,8 +189,8 @@ fn put_function2(
         (canonical_expr E (expr_of left.now) ++ behind_comma (canonical_expr E (expr_of right.now))))) }
 {
     put(word.bytes(), to)?;
-    put_behind(b"(", Rule::Or, left, to)?;
-    put_behind(b", ", Rule::Or, right, to)?;
+    put_behind(b"(", EXPRESSION, left, to)?;
+    put_behind(b", ", EXPRESSION, right, to)?;
     put(b")", to)
 }
 
@@ -202,8 +205,8 @@ fn put_choice(
         (to.new.items ≡ to.old.items ++ text_of
         (bare (If (expr_of test.now) (expr_of first.now) (expr_of last.now)))) }
 {
-    put_behind(b"if(", Rule::Or, test, to)?;
-    put_behind(b", ", Rule::Or, first, to)?;
-    put_behind(b", ", Rule::Or, last, to)?;
+    put_behind(b"if(", EXPRESSION, test, to)?;
+    put_behind(b", ", EXPRESSION, first, to)?;
+    put_behind(b", ", EXPRESSION, last, to)?;
     put(b")", to)
 }

@@ -6,8 +6,7 @@ ghost use Rattle.plan_printer.specs.Canonical.{Piece, text_of, listed, name_piec
 ghost use Rattle.plan_printer.specs.Canonical.{pair_pieces, key_pieces, argument_pieces, result_pieces};
 
 use crate::expr_printer::{put, put_expr, put_spaced};
-use crate::rule::Rule;
-use plan_grammar::{NamedAgg, NamedColumn, NamedKey, NamedPair, NamedResult};
+use plan_grammar::{EXPRESSION, NamedAgg, NamedColumn, NamedKey, NamedPair, NamedResult};
 use rows_core::{Memory, Name};
 
 /// An item of a list in a plan.
@@ -32,7 +31,7 @@ impl Part for NamedColumn {
     fn put(&self, to: &mut Vec<u8>) -> Result<(), Memory> {
         put(self.name.bytes(), to)?;
         put_spaced(b"=", to)?;
-        put_expr(Rule::Or, &self.expr, to)
+        put_expr(EXPRESSION, &self.expr, to)
     }
 }
 

@@ -3,7 +3,7 @@ ghost use Rattle.std.specs.Prelude.{◌≡◌, ◌++◌, [], ◌∷◌, map, IfO
 ghost use Rattle.plan_grammar.specs.declared.token.Token.TheVariants as token;
 ghost use Rattle.plan_grammar.specs.declared.token.Word.TheVariants as word;
 ghost use Rattle.plan_grammar.specs.PlainNamed.{expr_of, column_of, tree_of};
-ghost use Rattle.plan_grammar.specs.Grammar.{E};
+ghost use Rattle.plan_grammar.specs.Operators.{E};
 ghost use Rattle.plan_grammar.specs.Spelled.{SpellsText};
 ghost use Rattle.plan_printer.specs.Canonical.{Space, One, text_of, in_parens, between, canonical_expr};
 ghost use Rattle.plan_printer.specs.Canonical.{listed, name_piece, column_pieces, pair_pieces, key_pieces};
@@ -12,9 +12,9 @@ ghost use Rattle.plan_printer.specs.Canonical.{result_pieces, behind_bar, canoni
 use crate::expr_printer::{put, put_expr, put_spaced};
 use crate::part_printer::put_parts;
 use crate::print_laws::canonical_spells;
-use crate::rule::Rule;
 use plan_grammar::{
-    NamedColumn, NamedExpr, NamedKey, NamedPair, NamedPlan, NamedResult, NamedTree, Word,
+    EXPRESSION, NamedColumn, NamedExpr, NamedKey, NamedPair, NamedPlan, NamedResult, NamedTree,
+    Word,
 };
 use rows_core::{Memory, Name};
 use std::alloc::Global;
@@ -25,7 +25,7 @@ pub fn print_expr(alloc: Global, expr: &NamedExpr) -> Result<Vec<u8>, Memory>
     ensures { IfOk result (λ text. text.items ≡ text_of (canonical_expr E (expr_of expr.now))) }
 {
     let mut text = Vec::new(alloc);
-    put_expr(Rule::Or, expr, &mut text)?;
+    put_expr(EXPRESSION, expr, &mut text)?;
     Ok(text)
 }
 
@@ -111,7 +111,7 @@ fn put_where(test: &NamedExpr, to: &mut Vec<u8>) -> Result<(), Memory>
 {
     put_stage(Word::Where, to)?;
     put(b" ", to)?;
-    put_expr(Rule::Or, test, to)
+    put_expr(EXPRESSION, test, to)
 }
 
 fn put_select(columns: &[NamedColumn], to: &mut Vec<u8>) -> Result<(), Memory>

@@ -2,10 +2,11 @@
 ghost use Rattle.std.specs.Prelude.{◌≡◌, ◌<◌, ℕ, List, []};
 ghost use Rattle.plan_grammar.specs.declared.token.Token.{Token};
 ghost use Rattle.plan_grammar.specs.PlainNamed.{PlainExpr, PlainTree};
-ghost use Rattle.plan_grammar.specs.Grammar.{E, Rule, Spells, SpellsPlan};
+ghost use Rattle.plan_grammar.specs.Operators.{E, Rule};
+ghost use Rattle.plan_grammar.specs.Grammar.{Spells, SpellsPlan};
 ghost use Rattle.plan_grammar.specs.Spelled.{SpellsExpr, SpellsText};
 ghost use Rattle.plan_printer.specs.Canonical.{tokens_of, text_of, canonical_expr, canonical, canonical_text};
-ghost use Rattle.plan_printer.specs.Canonical.{tightness, rule_of, StandsInParens};
+ghost use Rattle.plan_printer.specs.Canonical.{rule_of, StandsInParens};
 
 /// The canonical text of a plan opens no more levels than any other text of this plan: its tokens spell the
 /// plan with at most so many levels as suffice for some tokens.
@@ -30,6 +31,6 @@ pub fn canonical_expr_spells()
 /// that is to spell it, each of its texts by this rule is in parentheses.
 pub fn parentheses_are_needed()
     ensures { (rule : Rule) (levels : ℕ) (e : PlainExpr) (from rest : List Token)
-        → tightness (rule_of e) < tightness rule →
+        → rule < rule_of e →
         Spells rule levels e from rest → StandsInParens levels e from rest }
 {}

@@ -2,6 +2,7 @@ pub use Rattle.plan_grammar.specs.Token
 pub use Rattle.plan_grammar.specs.TextTokens
 pub use Rattle.plan_grammar.specs.PlainNamed
 pub use Rattle.plan_grammar.specs.Counts
+pub use Rattle.plan_grammar.specs.Operators
 pub use Rattle.plan_grammar.specs.Grammar
 pub use Rattle.plan_grammar.specs.Spelled
 pub use Rattle.plan_grammar.specs.NamedCode

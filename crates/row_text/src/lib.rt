@@ -5,5 +5,5 @@ mod field;
 pub mod print;
 pub mod read;
 
-pub use print::{longest_spelling, one_spelling, print_row};
+pub use print::{longest_spelling, one_spelling, print_row, row_is_short};
 pub use read::{RowRefusal, read_row};

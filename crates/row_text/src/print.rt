@@ -22,12 +22,48 @@ pub fn longest_spelling()
         length row ≤ 32 → length (row_spelling row) ≤ 64095 }
 {}
 
+/// A row of at most 32 values that a program holds has a spelling of at most 64,095 bytes. It reads the
+/// values, and does nothing else.
+pub fn row_is_short(row: &Row)
+    requires { length row.now ≤ 32 }
+    ensures { length (row_spelling row.now) ≤ 64095 }
+{
+    longest_spelling();
+    read_values(row.values());
+}
+
+// The values of a row are numbers in i64 and texts of at most 1,000 bytes.
+fn read_values(values: &[Value])
+    ensures loose { AllByRecursion IsLoose values.now }
+    ensures short { AllByRecursion IsShort values.now }
+{
+    if let [value, others @ ..] = values {
+        read_value(value);
+        read_values(others);
+    }
+}
+
+fn read_value(value: &Value)
+    ensures loose { IsLoose value.now }
+    ensures short { IsShort value.now }
+{
+    match value {
+        Value::Int(number) => {
+            let _number = *number;
+        }
+        Value::Text(text) => {
+            let _bytes = text.bytes();
+        }
+    }
+}
+
 /// Appends the row's one spelling. After `Memory`, `to` is as before. It succeeds where `to` has the length
 /// of the spelling to spare.
 pub fn print_row(row: &Row, to: &mut Vec<u8>) -> Result<(), Memory>
     ensures ok { OnOk result (to.new.items ≡ to.old.items ++ row_spelling row.now) }
     ensures err { OnErr result (to.new.items ≡ to.old.items) }
     ensures room { vec_len to.old + length (row_spelling row.now) ≤ vec_capacity to.old → IsOk result }
+    ensures capacity { vec_capacity to.old ≤ vec_capacity to.new }
 {
     let len = to.len();
     let appended = append_row(row.values(), to);
@@ -41,6 +77,7 @@ fn append_row(values: &[Value], to: &mut Vec<u8>) -> Result<(), Memory>
     ensures ok { OnOk result (to.new.items ≡ to.old.items ++ row_spelling values.now) }
     ensures start { take (vec_len to.old) to.new.items ≡ to.old.items }
     ensures full { OnErr result (vec_capacity to.old < vec_len to.old + length (row_spelling values.now)) }
+    ensures capacity { vec_capacity to.old ≤ vec_capacity to.new }
 {
     let [first, others @ ..] = values else {
         return Ok(());
@@ -54,6 +91,7 @@ fn append_more(values: &[Value], to: &mut Vec<u8>) -> Result<(), Memory>
     ensures ok { OnOk result (to.new.items ≡ to.old.items ++ more_spelling values.now) }
     ensures start { take (vec_len to.old) to.new.items ≡ to.old.items }
     ensures full { OnErr result (vec_capacity to.old < vec_len to.old + length (more_spelling values.now)) }
+    ensures capacity { vec_capacity to.old ≤ vec_capacity to.new }
 {
     for value in values {
         append_next(value, to)?;

@@ -1,10 +1,29 @@
--- The lines of an answer are short.
-use Rattle.std.proofs.Common.{◌≡◌, ℕ, ◌≤◌, Bool, [], ◌∷◌, ◌++◌, codes, decimal, List, All, zero, suc, length, subst, sym, length-append, arith}
-use Rattle.script_text.specs.Answer.{IsShort, answer_lines, refusal_line}
-use Rattle.script_text.specs.declared.answer.Answer.{Answer}
-use Rattle.script_text.specs.declared.answer.Answer.TheVariants.{Held, Refused}
+-- The lines of an answer: which they are, and that they are short.
+use Rattle.std.proofs.Common.{◌≡◌, ℕ, ◌+◌, ◌*◌, ◌-◌, ◌^◌, ◌<◌, ◌≤◌, Bool, [], ◌∷◌, ◌++◌, codes, decimal, List, map, get_or, zero, suc, length, subst, sym, ap, ◌∙◌, add-one, length-append, arith}
+use Rattle.std.specs.List.{flat_map}
+use Rattle.std.proofs.lemmas.Fmt.{length-decimal-le}
+use Rattle.std.proofs.lemmas.List.{get_or-map, get_or_append_left, get_or-append_right, length-map}
+use Rattle.rows_core.specs.declared.value.Value.{Value}
+use Rattle.row_text.specs.RowSpelling.{row_spelling}
+use Rattle.script_text.specs.Answer.{IsShort, ids_text, refusal_line}
 use Rattle.script_text.specs.declared.answer.Refusal.{Refusal}
 use Rattle.script_text.specs.declared.answer.Refusal.TheVariants.{Unknown, Exists, Row}
+
+-- a list with one line in front, the lines of rows, and others
+module _ (first : List ℕ) (rows : List (List Value)) (last : List (List ℕ)) (line at : ℕ) (behind : line ≡ at + 1) where
+  abbrev lines : List (List ℕ)
+  lines = first ∷ (map row_spelling rows ++ last)
+
+  behind_first : get_or lines line [] ≡ get_or (map row_spelling rows ++ last) at []
+  behind_first = ap (λ n. get_or lines n []) (behind ∙ add-one at)
+
+  pub row_line : at < length rows → (d : List Value) → row_spelling (get_or rows at d) ≡ get_or lines line []
+  row_line below d =
+      let in_rows : at < length (map row_spelling rows) = omega (arith, length-map rows row_spelling) in
+      sym (behind_first ∙ get_or_append_left (map row_spelling rows) last [] at in_rows ∙ get_or-map row_spelling rows at d [] below)
+
+  pub last_line : length rows ≤ at → get_or last (at - length rows) [] ≡ get_or lines line []
+  last_line above = sym (behind_first ∙ get_or-append_right (map row_spelling rows) last (length rows) at [] (length-map rows row_spelling) above)
 
 -- some words and one more
 pub IsShort-from_parts : (words text : List ℕ) → length words ≤ 20 → length text ≤ 64 → IsShort (words ++ text)
@@ -18,3 +37,28 @@ exists_is_short refusal name is short = subst (λ r. IsShort (refusal_line r)) (
 
 pub row_is_short : (refusal : Refusal) (number : ℕ) → refusal ≡ Row number → length (decimal number) ≤ 20 → IsShort (refusal_line refusal)
 row_is_short refusal number is short = subst (λ r. IsShort (refusal_line r)) (sym is) (IsShort-from_parts (codes "refused row ") (decimal number) (omega arith) (omega (arith, short)))
+
+-- a row with its LF
+pub IsShort-row : (text : List ℕ) → length text ≤ 64095 → IsShort text
+IsShort-row text short = omega (arith, length-append text (10 ∷ []))
+
+-- numbers of 32 bits, each with a space before it
+abbrev AreSmall : List ℕ → Type 0
+AreSmall ids = (k : ℕ) → k < length ids → get_or ids k 0 < 2 ^ 32
+
+id_is_short : (id : ℕ) → id < 2 ^ 32 → length (decimal id) ≤ 10
+id_is_short id small = length-decimal-le 10 id (omega arith) (omega (arith, small)) (omega (arith, small))
+
+more_are_short : (ids : List ℕ) → AreSmall ids → length (flat_map (λ next. 32 ∷ decimal next) ids) ≤ 11 * length ids
+more_are_short [] small = omega arith
+more_are_short (id ∷ ids) small =
+    omega (arith, length-append (32 ∷ decimal id) (flat_map (λ next. 32 ∷ decimal next) ids), id_is_short id (small 0 (omega arith)), more_are_short ids (λ k h. small (suc k) (omega (arith, h))))
+
+pub ids_are_short : (ids : List ℕ) → AreSmall ids → length (ids_text ids) ≤ 4 + 11 * length ids
+ids_are_short [] small = omega arith
+ids_are_short (id ∷ ids) small =
+    omega (arith, length-append (decimal id) (flat_map (λ next. 32 ∷ decimal next) ids), id_is_short id (small 0 (omega arith)), more_are_short ids (λ k h. small (suc k) (omega (arith, h))))
+
+-- words and such numbers
+pub IsShort-ids : (words ids : List ℕ) → length words ≤ 20 → length ids ≤ 4096 → length (ids_text ids) ≤ 4 + 11 * length ids → IsShort (words ++ ids_text ids)
+IsShort-ids words ids few_words few short = omega (arith, length-append (words ++ ids_text ids) (10 ∷ []), length-append words (ids_text ids), few_words, few, short)

@@ -5,7 +5,8 @@ use Rattle.std.proofs.lemmas.Bool.Decides.{nat_tests}
 use Rattle.std.proofs.lemmas.List.Sums.{sum_by-append}
 use Rattle.script_text.specs.Line.{Holds}
 use Rattle.script_text.specs.Words.{is_space, trimmed, is_empty_or_remark, is_skipped, behind_word, begins_block}
-use Rattle.script_text.specs.Dispatch.{Spelled, IsReadOf, line_command}
+use Rattle.script_text.specs.Dispatch.{line_command}
+use Rattle.script_text.specs.Spelled.{Spelled, IsReadOf}
 use Rattle.script_text.specs.Script.{Block, longest_line, block_len, fits_line, fit_lines, block_limit, spelled_item, command_item, line_item, line_block, Given}
 use Rattle.script_text.specs.Reader.{with_rows, StandsFor, GivenIfAny, AfterLine}
 use Rattle.script_text.specs.declared.answer.LimitKind.{LimitKind}

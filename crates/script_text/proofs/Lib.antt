@@ -4,6 +4,7 @@ pub mod Examples
 pub mod LineLemmas
 pub mod OptionLemmas
 pub mod ReaderLemmas
+pub mod RunSpelling
 pub mod ScriptLemmas
 pub mod Spellings
 pub mod StreamLemmas

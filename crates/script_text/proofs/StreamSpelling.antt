@@ -1,5 +1,5 @@
 -- A line spells a stream or a head exactly where one is read from it.
-use Rattle.std.proofs.Common.{◌≡◌, ℕ, ◌<◌, Bool, true, false, cond, ◌&&◌, nat_eq, List, [], ◌∷◌, ◌++◌, length, codes, Option, Some, None, Ok, option_and_then, bytes_eq, refl, sym, ap, ◌∙◌, subst, length-append, arith}
+use Rattle.std.proofs.Common.{◌≡◌, ℕ, ◌<◌, Bool, true, false, cond, ◌&&◌, nat_eq, List, [], ◌∷◌, ◌++◌, length, codes, Option, Some, None, Ok, Err, option_and_then, bytes_eq, refl, sym, ap, ◌∙◌, subst, length-append, arith}
 use Rattle.std.specs.List.{slice_split, list_all, join_with_byte}
 use Rattle.std.proofs.lemmas.Bool.Decides.{nat_tests}
 use Rattle.std.proofs.lemmas.Slice.Eq.{bytes_eq-Decides}
@@ -11,10 +11,15 @@ use Rattle.rows_core.specs.declared.kind.Kind.TheVariants.{Int, Text}
 use Rattle.rows_core.specs.declared.schema.Column.{Column}
 use Rattle.script_text.specs.Spelling.{AreSpaces, Padded, SpellsName, SpellsColumn, SpellsColumns, SpellsStream, SpellsAppend}
 use Rattle.script_text.specs.StreamLine.{is_mark, Parts, parts_at, only_kind, column_with, column_of_parts, column_of, columns_with, columns_of_parts, columns_of, columns_before, closed_columns, stream_with, stream_of_parts, stream_of}
-use Rattle.script_text.specs.Dispatch.{or_syntax, line_command}
+use Rattle.script_text.specs.Dispatch.{behind_or, command_of, stream_command, line_command}
+use Rattle.script_text.specs.RunLine.{run_with, run_of_text, run_named, run_of_parts, run_of}
+use Rattle.plan_parser.specs.Answer.{TextReading, AsPlan, AsTooLarge, AsNone, text_reading}
+use Rattle.script_text.specs.Spelled.{Spelled, or_syntax}
 use Rattle.script_text.specs.Words.{is_blank, trimmed, ends_word, behind_word, only_word, name_if, only_name, head_name}
 use Rattle.script_text.specs.declared.item.Command.{Command}
-use Rattle.script_text.specs.declared.item.Command.TheVariants.{Stream}
+use Rattle.script_text.specs.declared.item.Command.TheVariants.{Stream, Append, Run}
+use Rattle.script_text.specs.declared.answer.Refusal.TheVariants.{Syntax}
+use Rattle.std.specs.Prelude.{⊤}
 use Rattle.script_text.proofs.StreamLemmas.{columns_of-next, columns_of-last}
 use Rattle.script_text.proofs.Spellings.{same_byte, is_blank-spaces, AreSpaces-blank, trimmed-spaces, trimmed-whole, Lacks, Lacks-append, parts_at-first, parts_at-lacking, parts_at-whole, only_word-padded, Padded-only_word}
 
@@ -38,7 +43,7 @@ Lacks-from_all mark other (c ∷ cs) all = (by (nat_eq c mark) refl, Lacks-from_
         absurd (cc)
     by false test = test
 
-name_bytes : (name : List ℕ) → IsName name → list_all is_name_byte name ≡ true
+pub name_bytes : (name : List ℕ) → IsName name → list_all is_name_byte name ≡ true
 unfolding is_name
 name_bytes name h = grind (arith, nat_tests)
 
@@ -48,21 +53,21 @@ name_some [] h = absurd (cc)
 name_some (c ∷ cs) h = omega arith
 
 -- a mark that stands in no padded word
-abbrev IsMark : ℕ → Type 0
+abbrev pub IsMark : ℕ → Type 0
 IsMark mark = (is_name_byte mark ≡ false) × (nat_eq 32 mark ≡ false)
 
 Lacks-spaces : (mark : ℕ) → nat_eq 32 mark ≡ false → (text : List ℕ) → AreSpaces text → Lacks (is_mark mark) text
 Lacks-spaces mark other [] spaces = tt
 Lacks-spaces mark other (c ∷ cs) spaces = (subst (λ x. nat_eq x mark ≡ false) (sym spaces.0) other, Lacks-spaces mark other cs spaces.1)
 
-Lacks-padded : (mark : ℕ) → IsMark mark → (word text : List ℕ) → list_all is_name_byte word ≡ true → Padded word text → Lacks (is_mark mark) text
+pub Lacks-padded : (mark : ℕ) → IsMark mark → (word text : List ℕ) → list_all is_name_byte word ≡ true → Padded word text → Lacks (is_mark mark) text
 Lacks-padded mark is word text bytes padded =
     subst (Lacks (is_mark mark)) (sym padded.whole)
     (Lacks-append (is_mark mark) padded.front (word ++ padded.back) (Lacks-spaces mark is.1 padded.front padded.before)
     (Lacks-append (is_mark mark) word padded.back (Lacks-from_all mark is.0 word bytes) (Lacks-spaces mark is.1 padded.back padded.behind)))
 
 -- names
-only_name-spelled : (name text : List ℕ) → SpellsName name text → only_name text ≡ Some name
+pub only_name-spelled : (name text : List ℕ) → SpellsName name text → only_name text ≡ Some name
 only_name-spelled name text spells =
     ap (option_and_then name_if) (only_word-padded name text (name_some name spells.is_name) (Lacks-from_all 32 refl name (name_bytes name spells.is_name)) spells.padded)
     ∙ ap (λ b. cond b (Some name) None) spells.is_name
@@ -195,7 +200,7 @@ SpellsColumns-read columns text e =
     subst (SpellsColumns columns) (join_with_byte-slice_split 44 text) (SpellsColumns-joined (slice_split (is_mark 44) text) columns (omega (arith, length-slice_split (is_mark 44) text)) e)
 
 -- the line
-only_name-space : (text : List ℕ) → only_name (32 ∷ text) ≡ only_name text
+pub only_name-space : (text : List ℕ) → only_name (32 ∷ text) ≡ only_name text
 unfolding only_word
 only_name-space text = refl
 
@@ -205,17 +210,17 @@ closed_columns-spelled columns listed back spells spaces =
     ∙ ap (λ b. cond b (columns_of listed) None) (is_blank-spaces back spaces)
     ∙ columns_of-spelled columns listed spells
 
-spelled : (name : List ℕ) (columns : List Column) (line : List ℕ) → SpellsStream name columns line → option_and_then stream_of (behind_word (codes "stream") (trimmed line)) ≡ Some (Stream name columns)
-spelled name columns line spells =
+stream_of-spelled : (name : List ℕ) (columns : List Column) (line : List ℕ) → (spells : SpellsStream name columns line) → stream_of (32 ∷ (spells.named ++ 40 ∷ (spells.listed ++ 41 ∷ spells.back))) ≡ Some (Stream name columns)
+stream_of-spelled name columns line spells =
     let none = Lacks-padded 40 (refl, refl) name spells.named (name_bytes name spells.spells_name.is_name) spells.spells_name.padded in
-    let front = ap trimmed spells.whole ∙ trimmed-spaces spells.front (codes "stream" ++ 32 ∷ (spells.named ++ 40 ∷ (spells.listed ++ 41 ∷ spells.back))) spells.before in
-    ap (λ t. option_and_then stream_of (behind_word (codes "stream") t)) front
-    ∙ ap (option_and_then stream_of_parts) (parts_at-first 40 (32 ∷ spells.named) (spells.listed ++ 41 ∷ spells.back) (refl, none))
+    ap (option_and_then stream_of_parts) (parts_at-first 40 (32 ∷ spells.named) (spells.listed ++ 41 ∷ spells.back) (refl, none))
     ∙ ap (λ n. stream_with n (closed_columns (spells.listed ++ 41 ∷ spells.back))) (only_name-space spells.named ∙ only_name-spelled name spells.named spells.spells_name)
     ∙ ap (stream_with (Some name)) (closed_columns-spelled columns spells.listed spells.back spells.spells_columns spells.behind)
 
 pub line_command-spelled : (name : List ℕ) (columns : List Column) (line : List ℕ) → SpellsStream name columns line → line_command line ≡ Ok (Stream name columns)
-line_command-spelled name columns line spells = ap or_syntax (spelled name columns line spells)
+line_command-spelled name columns line spells =
+    ap command_of (ap trimmed spells.whole ∙ trimmed-spaces spells.front (codes "stream" ++ 32 ∷ (spells.named ++ 40 ∷ (spells.listed ++ 41 ∷ spells.back))) spells.before)
+    ∙ ap or_syntax (stream_of-spelled name columns line spells)
 
 -- the columns with what stands behind them
 record SpellsClosed (columns : List Column) (text : List ℕ) : Type 0 where
@@ -242,29 +247,29 @@ SpellsClosed-read columns text e = by (parts_at 41 text) refl e
     by None parted e = absurd (cc)
     by (Some parts) parted e = ended parts parted (is_blank parts.behind) refl e
 
--- the name behind a space
-record SpellsNamed (name text behind : List ℕ) : Type 0 where
-  named : List ℕ
-  spells_name : SpellsName name named
-  whole : text ≡ 32 ∷ (named ++ 40 ∷ behind)
+-- the name behind a space and before a mark
+pub record SpellsNamed (mark : ℕ) (name text behind : List ℕ) : Type 0 where
+  pub named : List ℕ
+  pub spells_name : SpellsName name named
+  pub whole : text ≡ 32 ∷ (named ++ mark ∷ behind)
 
-SpellsNamed-read : (name text before behind : List ℕ) → ends_word text ≡ true → text ≡ before ++ 40 ∷ behind → only_name before ≡ Some name → SpellsNamed name text behind
-SpellsNamed-read name text [] behind ends whole e = let no : ends_word (40 ∷ behind) ≡ true = ap ends_word (sym whole) ∙ ends in absurd (cc)
-SpellsNamed-read name text (c ∷ cs) behind ends whole e =
+pub SpellsNamed-read : (mark : ℕ) → nat_eq mark 32 ≡ false → (name text before behind : List ℕ) → ends_word text ≡ true → text ≡ before ++ mark ∷ behind → only_name before ≡ Some name → SpellsNamed mark name text behind
+SpellsNamed-read mark other name text [] behind ends whole e = let no : ends_word (mark ∷ behind) ≡ true = ap ends_word (sym whole) ∙ ends in absurd (cc)
+SpellsNamed-read mark other name text (c ∷ cs) behind ends whole e =
     let test : nat_eq c 32 ≡ true = ap ends_word (sym whole) ∙ ends in
     let space : c ≡ 32 = same_byte c 32 test in
     record {
       named = cs;
       spells_name = SpellsName-read name cs (sym (only_name-space cs) ∙ ap (λ b. only_name (b ∷ cs)) (sym space) ∙ e);
-      whole = whole ∙ ap (λ b. b ∷ (cs ++ 40 ∷ behind)) space;
+      whole = whole ∙ ap (λ b. b ∷ (cs ++ mark ∷ behind)) space;
     }
 
 -- what stands behind a word
-record StandsBehind (word text rest : List ℕ) : Type 0 where
-  whole : text ≡ word ++ rest
-  ends : ends_word rest ≡ true
+pub record StandsBehind (word text rest : List ℕ) : Type 0 where
+  pub whole : text ≡ word ++ rest
+  pub ends : ends_word rest ≡ true
 
-behind_word-whole : (word text rest : List ℕ) → behind_word word text ≡ Some rest → StandsBehind word text rest
+pub behind_word-whole : (word text rest : List ℕ) → behind_word word text ≡ Some rest → StandsBehind word text rest
 behind_word-whole [] text rest e = by (ends_word text) refl e
   where
     by : (b : Bool) → ends_word text ≡ b → cond b (Some text) None ≡ Some rest → StandsBehind [] text rest
@@ -279,6 +284,33 @@ behind_word-whole (w ∷ ws) (c ∷ cs) rest e = by (behind_word-whole ws cs res
         record { whole = ap (λ b. b ∷ cs) (same_byte c w test) ∙ ap (λ t. w ∷ t) behind.whole; ends = behind.ends }
     by later false test e = absurd (cc)
 
+-- a stream
+abbrev IsNoRun : Spelled → Type 0
+IsNoRun (Ok (Stream name columns)) = ⊤
+IsNoRun (Ok (Append name lines)) = ⊥
+IsNoRun (Ok (Run name plan)) = ⊥
+IsNoRun (Err why) = ⊥
+
+run_with-other : (name : List ℕ) (reading : TextReading) → IsNoRun (run_with name reading) → ⊥
+run_with-other name (AsPlan plan) h = h
+run_with-other name (AsTooLarge what) h = h
+run_with-other name AsNone h = h
+
+run_of_text-other : (name text : List ℕ) → IsNoRun (run_of_text name text) → ⊥
+unfolding run_of_text
+run_of_text-other name text h = run_with-other name (text_reading text) h
+
+run_of-other : (rest : List ℕ) → IsNoRun (run_of rest) → ⊥
+run_of-other rest h = by (parts_at 61 rest) h
+  where
+    named : (name : Option (List ℕ)) (text : List ℕ) → IsNoRun (run_named name text) → ⊥
+    named (Some name) text h = run_of_text-other name text h
+    named None text h = h
+
+    by : (parts : Option Parts) → IsNoRun (run_of_parts parts) → ⊥
+    by (Some parts) h = named (only_name parts.before) parts.behind h
+    by None h = h
+
 module _ (name : List ℕ) (columns : List Column) (line : List ℕ) where
   read_parts : (rest : List ℕ) → StandsBehind (codes "stream") (trimmed line) rest → (parts : Parts) → parts_at 40 rest ≡ Some parts
       → (n : Option (List ℕ)) (cs : Option (List Column)) → only_name parts.before ≡ n → closed_columns parts.behind ≡ cs → stream_with n cs ≡ Some (Stream name columns) → SpellsStream name columns line
@@ -286,7 +318,7 @@ module _ (name : List ℕ) (columns : List Column) (line : List ℕ) where
       let same_name : n ≡ name = cc in
       let same_columns : cs ≡ columns = cc in
       let cut = trimmed-whole line in
-      let named = SpellsNamed-read name rest parts.before parts.behind behind.ends (parts_at-whole 40 rest parts parted) (is ∙ ap Some same_name) in
+      let named = SpellsNamed-read 40 refl name rest parts.before parts.behind behind.ends (parts_at-whole 40 rest parts parted) (is ∙ ap Some same_name) in
       let closed = SpellsClosed-read columns parts.behind (are ∙ ap Some same_columns) in
       record {
         front = cut.front;
@@ -310,12 +342,16 @@ module _ (name : List ℕ) (columns : List Column) (line : List ℕ) where
   read_command (Some command) e = cc
   read_command None e = absurd (cc)
 
+  other_command : (rest : Option (List ℕ)) → behind_or rest run_of (Err Syntax) ≡ Ok (Stream name columns) → ⊥
+  other_command (Some rest) e = run_of-other rest (subst IsNoRun (sym e) tt)
+  other_command None e = absurd (cc)
+
   pub SpellsStream-read : line_command line ≡ Ok (Stream name columns) → SpellsStream name columns line
-  SpellsStream-read e = by (behind_word (codes "stream") (trimmed line)) refl (read_command (option_and_then stream_of (behind_word (codes "stream") (trimmed line))) e)
+  SpellsStream-read e = by (behind_word (codes "stream") (trimmed line)) refl e
     where
-      by : (o : Option (List ℕ)) → behind_word (codes "stream") (trimmed line) ≡ o → option_and_then stream_of o ≡ Some (Stream name columns) → SpellsStream name columns line
-      by None is e = absurd (cc)
-      by (Some rest) is e = read_rest rest (behind_word-whole (codes "stream") (trimmed line) rest is) (parts_at 40 rest) refl e
+      by : (o : Option (List ℕ)) → behind_word (codes "stream") (trimmed line) ≡ o → behind_or o stream_command (behind_or (behind_word (codes "run") (trimmed line)) run_of (Err Syntax)) ≡ Ok (Stream name columns) → SpellsStream name columns line
+      by None is e = absurd (other_command (behind_word (codes "run") (trimmed line)) e)
+      by (Some rest) is e = read_rest rest (behind_word-whole (codes "stream") (trimmed line) rest is) (parts_at 40 rest) refl (read_command (stream_of rest) e)
 
 -- a head line
 pub head_name-spelled : (name line : List ℕ) → SpellsAppend name line → head_name line ≡ Some name

@@ -1,12 +1,15 @@
 -- Each command that a script spells has a column or a row line.
-use Rattle.std.proofs.Common.{◌≡◌, ℕ, ◌<◌, true, false, cond, ◌||◌, List, [], ◌∷◌, ◌++◌, length, Option, Some, None, Ok, Err, IfOk, option_to_list, option_and_then, subst, arith}
+use Rattle.std.proofs.Common.{◌≡◌, ℕ, ◌<◌, true, false, cond, ◌||◌, List, [], ◌∷◌, ◌++◌, length, codes, Option, Some, None, Ok, Err, IfOk, option_to_list, option_and_then, subst, arith}
 use Rattle.std.specs.List.{slice_split, AllByRecursion}
 use Rattle.std.specs.Prelude.{⊤}
 use Rattle.std.proofs.lemmas.List.Splits.{length-slice_split}
 use Rattle.rows_core.specs.declared.schema.Column.{Column}
-use Rattle.script_text.specs.Words.{is_skipped, is_blank, only_name, begins_block, behind_stream, head_name}
+use Rattle.script_text.specs.Words.{is_skipped, is_blank, only_name, begins_block, trimmed, behind_word, head_name}
 use Rattle.script_text.specs.StreamLine.{is_mark, Parts, parts_at, column_of, columns_with, columns_of_parts, columns_of, columns_before, closed_columns, stream_with, stream_of_parts, stream_of}
-use Rattle.script_text.specs.Dispatch.{Spelled, or_syntax, line_command}
+use Rattle.script_text.specs.Dispatch.{behind_or, stream_command, command_of, line_command}
+use Rattle.script_text.specs.RunLine.{run_with, run_of_text, run_named, run_of_parts, run_of}
+use Rattle.script_text.specs.Spelled.{Spelled, or_syntax}
+use Rattle.plan_parser.specs.Answer.{TextReading, AsPlan, AsTooLarge, AsNone, text_reading}
 use Rattle.script_text.specs.Script.{Block, block_limit, line_limit, spelled_item, append_with, command_item, is_end, line_item, line_block, unended_item, no_items, last_items, items_of_lines, is_newline, items_by, items, all_items, IsWhole, IsWholeItem}
 use Rattle.script_text.specs.declared.answer.LimitKind.{LimitKind}
 use Rattle.script_text.specs.declared.answer.Refusal.TheVariants.{Syntax}
@@ -62,6 +65,32 @@ IsWhole-or_syntax : (command : Option Command) → IsWholeIfAny command → IfOk
 IsWhole-or_syntax (Some command) whole = whole
 IsWhole-or_syntax None whole = tt
 
+IsWhole-run_with : (name : List ℕ) (reading : TextReading) → IfOk (run_with name reading) IsWhole
+IsWhole-run_with name (AsPlan plan) = tt
+IsWhole-run_with name (AsTooLarge what) = tt
+IsWhole-run_with name AsNone = tt
+
+IsWhole-run_of_text : (name text : List ℕ) → IfOk (run_of_text name text) IsWhole
+unfolding run_of_text
+IsWhole-run_of_text name text = IsWhole-run_with name (text_reading text)
+
+IsWhole-named : (name : Option (List ℕ)) (text : List ℕ) → IfOk (run_named name text) IsWhole
+IsWhole-named (Some name) text = IsWhole-run_of_text name text
+IsWhole-named None text = tt
+
+IsWhole-run : (parts : Option Parts) → IfOk (run_of_parts parts) IsWhole
+IsWhole-run (Some parts) = IsWhole-named (only_name parts.before) parts.behind
+IsWhole-run None = tt
+
+IsWhole-behind : (rest : Option (List ℕ)) (command : List ℕ → Spelled) (other : Spelled) → ((text : List ℕ) → IfOk (command text) IsWhole) → IfOk other IsWhole → IfOk (behind_or rest command other) IsWhole
+IsWhole-behind (Some rest) command other is others = is rest
+IsWhole-behind None command other is others = others
+
+IsWhole-command : (text : List ℕ) → IfOk (command_of text) IsWhole
+IsWhole-command text =
+    IsWhole-behind (behind_word (codes "stream") text) stream_command (behind_or (behind_word (codes "run") text) run_of (Err Syntax)) (λ rest. IsWhole-or_syntax (stream_of rest) (IsWhole-line (Some rest)))
+    (IsWhole-behind (behind_word (codes "run") text) run_of (Err Syntax) (λ rest. IsWhole-run (parts_at 61 rest)) tt)
+
 -- what is read of a stream's line
 pub stream_is_whole : (rest : List ℕ) (command : Command) → option_and_then stream_of (Some rest) ≡ Some command → IsWhole command
 stream_is_whole rest command e = subst IsWholeIfAny e (IsWhole-line (Some rest))
@@ -82,7 +111,7 @@ AreWhole-line : (block : Option Block) (line : List ℕ) → AreWhole (option_to
 AreWhole-line None line =
     elim (is_skipped line || begins_block line) as (λ b. AreWhole (option_to_list (cond b None (Some (command_item line))))) [
       | true ↦ tt
-      | false ↦ (IsWhole-spelled (line_limit line) (line_command line) (IsWhole-or_syntax (option_and_then stream_of (behind_stream line)) (IsWhole-line (behind_stream line))), tt)
+      | false ↦ (IsWhole-spelled (line_limit line) (line_command line) (IsWhole-command (trimmed line)), tt)
     ]
 AreWhole-line (Some block) line =
     elim (is_end line) as (λ b. AreWhole (option_to_list (cond b (Some (spelled_item (block_limit block) (or_syntax (append_with (head_name block.head) block.rows)))) None))) [

@@ -1,21 +1,27 @@
 -- The text of an answer.
-use Rattle.std.specs.Prelude.{ℕ, ◌≤◌, length, Bool, false, List, [], ◌∷◌, ◌++◌, codes, decimal, flat_map}
+use Rattle.std.specs.Prelude.{ℕ, ◌≤◌, length, All, Bool, false, if◌then◌else◌, List, [], ◌∷◌, ◌++◌, codes, decimal, flat_map, map, ⊤}
+use Rattle.rows_core.specs.declared.value.Value.{Value}
+use Rattle.row_text.specs.RowSpelling.{row_spelling}
 use Rattle.script_text.specs.declared.answer.LimitKind.{LimitKind}
-use Rattle.script_text.specs.declared.answer.LimitKind.TheVariants.{Line, Block, Text, Columns, Streams, Extents, AllExtents}
+use Rattle.script_text.specs.declared.answer.LimitKind.TheVariants.{Line, Block, Nodes, Wide, Expr, Text, Columns, Streams, Extents, AllExtents, Machine}
 use Rattle.script_text.specs.declared.answer.Refusal.{Refusal}
-use Rattle.script_text.specs.declared.answer.Refusal.TheVariants.{Limit, Syntax, Unknown, Exists, IllTyped, Row, Memory}
+use Rattle.script_text.specs.declared.answer.Refusal.TheVariants.{Limit, Syntax, Unknown, Exists, IllTyped, Row, Overflow, Memory}
 use Rattle.script_text.specs.declared.answer.Answer.{Answer}
-use Rattle.script_text.specs.declared.answer.Answer.TheVariants.{Ok, Held, Refused}
+use Rattle.script_text.specs.declared.answer.Answer.TheVariants.{Ok, Held, Result, Refused}
 
 -- what is counted, and the most that there may be
 abbrev pub limit_text : LimitKind → List ℕ
 limit_text Line = codes "line 65536"
 limit_text Block = codes "block 67108864"
+limit_text Nodes = codes "nodes 40"
+limit_text Wide = codes "wide 8"
+limit_text Expr = codes "expr 512"
 limit_text Text = codes "text 1000"
 limit_text Columns = codes "columns 32"
 limit_text Streams = codes "streams 1024"
 limit_text Extents = codes "extents 65535"
 limit_text AllExtents = codes "allextents 262144"
+limit_text Machine = codes "machine 4294967295"
 
 abbrev pub refusal_line : Refusal → List ℕ
 refusal_line (Limit kind) = codes "refused limit " ++ limit_text kind
@@ -24,12 +30,27 @@ refusal_line (Unknown name) = codes "refused unknown " ++ name
 refusal_line (Exists name) = codes "refused exists " ++ name
 refusal_line IllTyped = codes "refused type"
 refusal_line (Row number) = codes "refused row " ++ decimal number
+refusal_line Overflow = codes "refused overflow"
 refusal_line Memory = codes "refused memory"
+
+-- numbers, with one space between two, or `none`
+abbrev pub ids_text : List ℕ → List ℕ
+ids_text [] = codes "none"
+ids_text (id ∷ ids) = decimal id ++ flat_map (λ next. 32 ∷ decimal next) ids
+
+-- the lines of rows; a quiet text leaves them out
+abbrev pub row_lines : Bool → List (List Value) → List (List ℕ)
+row_lines quiet rows = if quiet then [] else map row_spelling rows
+
+-- the lines behind those of the rows
+abbrev pub last_lines : List ℕ → List ℕ → ℕ → List (List ℕ)
+last_lines used kept read = (codes "used " ++ ids_text used) ∷ (codes "kept " ++ ids_text kept) ∷ (codes "read " ++ decimal read) ∷ []
 
 -- the lines of the answer's text, without their LF; a quiet one leaves the row lines out
 abbrev pub answer_lines : Bool → Answer → List (List ℕ)
 answer_lines quiet Ok = codes "ok" ∷ []
 answer_lines quiet (Held rows) = (codes "ok " ++ decimal rows) ∷ []
+answer_lines quiet (Result rows used kept read) = (codes "rows " ++ decimal (length rows)) ∷ (row_lines quiet rows ++ last_lines used kept read)
 answer_lines quiet (Refused refusal) = refusal_line refusal ∷ []
 
 -- a line with its LF
@@ -42,6 +63,11 @@ longest_printed_line = 65536
 
 abbrev pub IsShort : List ℕ → Type 0
 IsShort line = length (printed_line line) ≤ longest_printed_line
+
+-- each row of a result has at most 32 values, and it names at most 4,096 results that were used and kept
+abbrev pub IsNarrow : Answer → Type 0
+IsNarrow (Result rows used kept read) = All (λ row. length row ≤ 32) rows × (length used ≤ 4096) × (length kept ≤ 4096)
+IsNarrow _ = ⊤
 
 -- the text of an answer
 abbrev pub answer_text : Answer → List ℕ

@@ -1,27 +1,24 @@
 -- What a command's line spells, by its first word.
-use Rattle.std.specs.Prelude.{◌≡◌, ℕ, List, Option, Some, None, option_and_then, Result, Ok, Err, ◌⊎◌}
-use Rattle.script_text.specs.Words.{behind_stream}
+use Rattle.std.specs.Prelude.{ℕ, List, Option, Some, None, Err, codes}
+use Rattle.script_text.specs.Words.{trimmed, behind_word}
 use Rattle.script_text.specs.StreamLine.{stream_of}
-use Rattle.script_text.specs.declared.answer.Refusal.{Refusal}
-use Rattle.script_text.specs.declared.answer.Refusal.TheVariants.{Syntax, Memory}
-use Rattle.script_text.specs.declared.item.Command.{Command}
+use Rattle.script_text.specs.RunLine.{run_of}
+use Rattle.script_text.specs.Spelled.{Spelled, or_syntax}
+use Rattle.script_text.specs.declared.answer.Refusal.TheVariants.{Syntax}
 
--- a command, or why there is none: a limit that it passes, or that no command is spelled so
-abbrev pub Spelled : Type 0
-Spelled = Result Command Refusal
+-- what stands behind the first word, as that word's command; or else what the line spells by another first word
+abbrev pub behind_or : Option (List ℕ) → (List ℕ → Spelled) → Spelled → Spelled
+behind_or (Some rest) command other = command rest
+behind_or None command other = other
 
-abbrev pub or_syntax : Option Command → Spelled
-or_syntax (Some command) = Ok command
-or_syntax None = Err Syntax
+-- what stands behind `stream`
+abbrev pub stream_command : List ℕ → Spelled
+stream_command rest = or_syntax (stream_of rest)
 
--- what a line spells of which this stands behind `stream`, where that is its first word
-abbrev pub stream_command : Option (List ℕ) → Spelled
-stream_command rest = or_syntax (option_and_then stream_of rest)
+-- what a line spells that has no spaces at its front
+abbrev pub command_of : List ℕ → Spelled
+command_of text = behind_or (behind_word (codes "stream") text) stream_command (behind_or (behind_word (codes "run") text) run_of (Err Syntax))
 
 -- what the line spells
 abbrev pub line_command : List ℕ → Spelled
-line_command line = stream_command (behind_stream line)
-
--- what is read where the bytes spell this: that, or nothing for want of memory
-abbrev pub IsReadOf : Spelled → Spelled → Type 0
-IsReadOf spelled read = (read ≡ spelled) ⊎ (read ≡ Err Memory)
+line_command line = command_of (trimmed line)

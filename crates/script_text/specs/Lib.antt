@@ -1,8 +1,11 @@
 pub mod Answer
+pub mod AnswerLine
 pub mod Dispatch
 pub mod Line
 pub mod Reader
+pub mod RunLine
 pub mod Script
+pub mod Spelled
 pub mod Spelling
 pub mod StreamLine
 pub mod Words

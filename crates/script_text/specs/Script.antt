@@ -2,12 +2,13 @@
 use Rattle.std.specs.Prelude.{◌≡◌, ℕ, ◌+◌, ◌<◌, Bool, ◌&&◌, ◌||◌, ◌==◌, nat_le, if◌then◌else◌, List, [], ◌∷◌, ◌++◌, length, sum_by, Option, Some, None, Ok, Err, option_to_list, codes, bytes_eq, ◌⊎◌, ⊤}
 use Rattle.std.specs.List.{slice_split, list_all}
 use Rattle.script_text.specs.Words.{is_skipped, begins_block, head_name}
-use Rattle.script_text.specs.Dispatch.{Spelled, or_syntax, line_command}
+use Rattle.script_text.specs.Dispatch.{line_command}
+use Rattle.script_text.specs.Spelled.{Spelled, or_syntax}
 use Rattle.script_text.specs.declared.answer.LimitKind.{LimitKind}
 use Rattle.script_text.specs.declared.answer.LimitKind.TheVariants as limit
 use Rattle.script_text.specs.declared.answer.Refusal.TheVariants.{Limit, Syntax, Memory}
 use Rattle.script_text.specs.declared.item.Command.{Command}
-use Rattle.script_text.specs.declared.item.Command.TheVariants.{Stream, Append}
+use Rattle.script_text.specs.declared.item.Command.TheVariants.{Stream, Append, Run}
 use Rattle.script_text.specs.declared.item.Item.{Item}
 use Rattle.script_text.specs.declared.item.Item.TheVariants as item
 
@@ -131,10 +132,11 @@ pub record Completes (text : List ℕ) (given : Item) : Type 0 where
   pub goes_on : (more : List ℕ) → items (text ++ more) ≡ spelled ∷ items more
   pub ends : (more : List ℕ) → all_items (text ++ more) ≡ spelled ∷ all_items more
 
--- a stream of one column or more, or an append of one row line or more
+-- a stream has one column or more, and an append one row line or more
 abbrev pub IsWhole : Command → Type 0
 IsWhole (Stream name columns) = 0 < length columns
 IsWhole (Append name lines) = 0 < length lines
+IsWhole (Run name plan) = ⊤
 
 abbrev pub IsWholeItem : Item → Type 0
 IsWholeItem (item.Command command) = IsWhole command

@@ -4,6 +4,10 @@ use Rattle.std.specs.List.{AllByRecursion}
 use Rattle.rows_core.specs.Kind.{kind_word}
 use Rattle.rows_core.specs.Name.{IsName}
 use Rattle.rows_core.specs.declared.schema.Column.{Column}
+use Rattle.plan_grammar.specs.PlainNamed.{PlainTree}
+use Rattle.plan_grammar.specs.declared.limit.PlanLimit.{PlanLimit}
+use Rattle.plan_grammar.specs.Spelled.{SpellsText}
+use Rattle.plan_grammar.specs.Counts.{IsWithinLimits, IsFirstPassed}
 
 abbrev pub AreSpaces : List ℕ → Type 0
 AreSpaces text = AllByRecursion (λ c. c ≡ 32) text
@@ -62,3 +66,19 @@ pub record SpellsAppend (name line : List ℕ) : Type 0 where
   pub before : AreSpaces front
   pub spells_name : SpellsName name named
   pub whole : line ≡ front ++ (codes "append" ++ 32 ∷ named)
+
+-- `run NAME = PLAN`, whatever stands for the plan
+pub record SpellsRunOf (name text line : List ℕ) : Type 0 where
+  pub front : List ℕ
+  pub named : List ℕ
+  pub before : AreSpaces front
+  pub spells_name : SpellsName name named
+  pub whole : line ≡ front ++ (codes "run" ++ 32 ∷ (named ++ 61 ∷ text))
+
+-- `run NAME = PLAN`, with a plan within the limits
+abbrev pub SpellsRun : List ℕ → PlainTree → List ℕ → Type 0
+SpellsRun name plan line = (text : List ℕ) × SpellsRunOf name text line × SpellsText plan text × IsWithinLimits plan
+
+-- `run NAME = PLAN`, with a plan of which this is the first limit that it passes
+abbrev pub SpellsTooLarge : PlanLimit → List ℕ → Type 0
+SpellsTooLarge what line = (name : List ℕ) × (text : List ℕ) × SpellsRunOf name text line × ((plan : PlainTree) × SpellsText plan text × IsFirstPassed what plan)

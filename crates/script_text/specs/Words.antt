@@ -39,10 +39,6 @@ behind_append line = behind_word (codes "append") (trimmed line)
 abbrev pub begins_block : List ℕ → Bool
 begins_block line = is_some (behind_append line)
 
--- what stands behind `stream`, where it is the line's first word
-abbrev pub behind_stream : List ℕ → Option (List ℕ)
-behind_stream line = behind_word (codes "stream") (trimmed line)
-
 abbrev pub is_blank : List ℕ → Bool
 is_blank text = list_all is_space text
 

@@ -1,10 +1,13 @@
 //! What a command is answered, and the text of it.
 ghost use Rattle.std.specs.Prelude.{◌≡◌, ◌∷◌, ◌+◌, ◌<◌, ◌≤◌, ◌++◌, length, vec_len, vec_capacity, OnOk};
-ghost use Rattle.std.specs.Prelude.{OnErr, IsOk, slice_index_or, []};
+ghost use Rattle.std.specs.Prelude.{OnErr, IsOk, slice_index_or, [], decimal};
 ghost use Rattle.script_text.specs.Answer.{answer_lines, refusal_line, limit_text, printed_line};
+ghost use Rattle.script_text.specs.AnswerLine.{line_text};
 
+use crate::line_of_answer::{AnswerLine, line_of};
+use crate::long_lines::{print_ids, print_row_line};
 use itoa::Buffer;
-use rows_core::{Memory, Name};
+use rows_core::{Memory, Name, Row, Seq};
 
 /// What a command has more of than it may. Each has its word and its number in the answer's line.
 #[derive(Clone, Copy, Debug, PartialEq, Eq)]
@@ -13,9 +16,16 @@ pub enum LimitKind {
     Line,
     /// `block 67108864`: the bytes of the row lines of a block, with their LFs.
     Block,
+    /// `nodes 40`: the operators and leaves of a plan as written.
+    Nodes,
+    /// `wide 8`: the joins, concatenations and distincts of a plan as written.
+    Wide,
+    /// `expr 512`: the nodes of all expressions of a plan as written.
+    Expr,
     /// `text 1000`: the bytes of a text in a row.
     Text,
-    /// `columns 32`: the columns of a stream.
+    /// `columns 32`: the columns of a stream or of an operator's rows, the keys of an order, or the pairs of
+    /// a join.
     Columns,
     /// `streams 1024`: the streams.
     Streams,
@@ -23,6 +33,8 @@ pub enum LimitKind {
     Extents,
     /// `allextents 262144`: the extents of all streams.
     AllExtents,
+    /// `machine 4294967295`: the machine time of a plan, which is 1 and the rows that its operators take in.
+    Machine,
 }
 
 /// Why a command changed nothing.
@@ -36,11 +48,13 @@ pub enum Refusal {
     Unknown(Name),
     /// `refused exists NAME`: there is a stream of this name already.
     Exists(Name),
-    /// `refused type`: two columns have one name.
+    /// `refused type`: two columns have one name, or the plan has no typing.
     IllTyped,
     /// `refused row K`: this row line, counted from 1, is the first that spells no row of the stream's
     /// schema.
     Row(u64),
+    /// `refused overflow`: an operator of the plan meets an overflow.
+    Overflow,
     /// `refused memory`: memory was asked for and refused.
     Memory,
 }
@@ -52,16 +66,28 @@ pub enum Answer {
     Ok,
     /// `ok N`: the rows that the stream now holds.
     Held(u64),
+    /// `rows N`, the rows, and then `used IDS`, `kept IDS` and `read B`.
+    Result {
+        /// The rows of the result.
+        rows: Seq<Row>,
+        /// The kept results that were used, in ascending order.
+        used: Seq<u32>,
+        /// The results that were kept, in the order of making.
+        kept: Seq<u32>,
+        /// The bytes that were read of files.
+        read: u64,
+    },
     Refused(Refusal),
 }
 
-/// The number of lines of the answer's text. With `quiet` row lines don't count; no answer has one yet.
+/// The number of lines of the answer's text. With `quiet` the row lines don't count.
 pub fn line_count(answer: &Answer, quiet: bool) -> u64
     ensures { result ≡ length (answer_lines quiet answer.now) }
 {
-    let _ = quiet;
     match answer {
         Answer::Ok | Answer::Held(_) | Answer::Refused(_) => 1,
+        Answer::Result { .. } if quiet => 4,
+        Answer::Result { rows, .. } => rows.items().len() as u64 + 4,
     }
 }
 
@@ -77,14 +103,27 @@ pub fn print_line(answer: &Answer, quiet: bool, line: u64, to: &mut Vec<u8>) -> 
         → IsOk result }
     ensures capacity { vec_capacity to.old ≤ vec_capacity to.new }
 {
-    let _ = (quiet, line);
-    match answer {
-        Answer::Ok => append_line(to, b"ok", b""),
-        Answer::Held(rows) => {
-            let mut digits = Buffer::new();
-            append_line(to, b"ok ", digits.format(*rows).as_bytes())
-        }
-        Answer::Refused(refusal) => print_refusal(refusal, to),
+    let line = line_of(answer, quiet, line);
+    print_answer_line(&line, to)
+}
+
+// Appends the line with its LF, or nothing.
+fn print_answer_line(line: &AnswerLine, to: &mut Vec<u8>) -> Result<(), Memory>
+    ensures printed { OnOk result (to.new.items ≡ to.old.items ++ printed_line (line_text line.now)) }
+    ensures err { OnErr result (to.new.items ≡ to.old.items) }
+    ensures room { vec_len to.old + length (printed_line (line_text line.now)) ≤ vec_capacity to.old
+        → IsOk result }
+    ensures capacity { vec_capacity to.old ≤ vec_capacity to.new }
+{
+    match line {
+        AnswerLine::Ok => append_line(to, b"ok", b""),
+        AnswerLine::Held(rows) => append_number_line(to, b"ok ", *rows),
+        AnswerLine::Count(rows) => append_number_line(to, b"rows ", *rows),
+        AnswerLine::Row(row) => print_row_line(row, to),
+        AnswerLine::Used(ids) => print_ids(b"used ", ids, to),
+        AnswerLine::Kept(ids) => print_ids(b"kept ", ids, to),
+        AnswerLine::Read(bytes) => append_number_line(to, b"read ", *bytes),
+        AnswerLine::Refused(refusal) => print_refusal(refusal, to),
     }
 }
 
@@ -102,10 +141,8 @@ fn print_refusal(refusal: &Refusal, to: &mut Vec<u8>) -> Result<(), Memory>
         Refusal::Unknown(name) => append_line(to, b"refused unknown ", name.bytes()),
         Refusal::Exists(name) => append_line(to, b"refused exists ", name.bytes()),
         Refusal::IllTyped => append_line(to, b"refused ", b"type"),
-        Refusal::Row(number) => {
-            let mut digits = Buffer::new();
-            append_line(to, b"refused row ", digits.format(*number).as_bytes())
-        }
+        Refusal::Row(number) => append_number_line(to, b"refused row ", *number),
+        Refusal::Overflow => append_line(to, b"refused ", b"overflow"),
         Refusal::Memory => append_line(to, b"refused ", b"memory"),
     }
 }
@@ -117,12 +154,28 @@ fn limit_text(kind: LimitKind) -> &'static [u8]
     match kind {
         LimitKind::Line => b"line 65536",
         LimitKind::Block => b"block 67108864",
+        LimitKind::Nodes => b"nodes 40",
+        LimitKind::Wide => b"wide 8",
+        LimitKind::Expr => b"expr 512",
         LimitKind::Text => b"text 1000",
         LimitKind::Columns => b"columns 32",
         LimitKind::Streams => b"streams 1024",
         LimitKind::Extents => b"extents 65535",
         LimitKind::AllExtents => b"allextents 262144",
+        LimitKind::Machine => b"machine 4294967295",
     }
+}
+
+// Appends the words, the number behind them and LF, or nothing.
+fn append_number_line(to: &mut Vec<u8>, words: &[u8], number: u64) -> Result<(), Memory>
+    ensures printed { OnOk result (to.new.items ≡ to.old.items ++ (words.now ++ decimal number ++ 10 ∷ [])) }
+    ensures err { OnErr result (to.new.items ≡ to.old.items) }
+    ensures room { vec_len to.old + (length words.now + length (decimal number) + 1) ≤ vec_capacity to.old
+        → IsOk result }
+    ensures capacity { vec_capacity to.old ≤ vec_capacity to.new }
+{
+    let mut digits = Buffer::new();
+    append_line(to, words, digits.format(number).as_bytes())
 }
 
 // Appends the words, the text behind them and LF, or nothing.

@@ -5,7 +5,7 @@ ghost use Rattle.script_text.specs.Script.{Block, block_item, block_limit, spell
 ghost use Rattle.script_text.specs.Script.{IsWholeItem};
 ghost use Rattle.script_text.specs.Words.{behind_word, behind_append, head_name};
 ghost use Rattle.script_text.specs.Reader.{IsOf, IsSizeOf, Keeps, with_rows};
-ghost use Rattle.script_text.specs.Dispatch.{or_syntax};
+ghost use Rattle.script_text.specs.Spelled.{or_syntax};
 ghost use Rattle.script_text.specs.declared.answer.Refusal.TheVariants.{Syntax};
 ghost use Rattle.script_text.specs.declared.item.Item.TheVariants.{Refused};
 

@@ -4,6 +4,7 @@ ghost use Rattle.std.specs.List.{AllByRecursion};
 ghost use Rattle.script_text.specs.Script.{items, all_items, IsWholeItem};
 
 use crate::answer::Refusal;
+use plan_grammar::NamedPlan;
 use rows_core::{Column, Name, Seq, Text};
 
 /// What a person asks for.
@@ -15,13 +16,16 @@ pub enum Command {
     /// Appends rows to a stream. There is one row line or more, as written and without its LF, blank ones
     /// too.
     Append { name: Name, lines: Seq<Text> },
+    /// Runs a plan, which then goes by the name.
+    Run { name: Name, plan: NamedPlan },
 }
 
 /// What the reader of a script gives for each command, in the order of the script.
 #[derive(Drop)]
 pub enum Item {
     Command(Command),
-    /// A limit of lines or blocks is passed, the bytes spell no command, or there was no memory for it.
+    /// A limit of lines, blocks or plans as written is passed, the bytes spell no command, or there was no
+    /// memory for it.
     Refused(Refusal),
 }
 

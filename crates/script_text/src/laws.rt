@@ -1,26 +1,51 @@
 //! How long the lines of answers are.
-ghost use Rattle.std.specs.Prelude.{◌≤◌, ◌++◌, length, codes, decimal};
-ghost use Rattle.script_text.specs.Answer.{IsShort, refusal_line};
+ghost use Rattle.std.specs.Prelude.{◌≡◌, ◌+◌, ◌*◌, ◌<◌, ◌≤◌, [], length, decimal, slice_index_or};
+ghost use Rattle.script_text.specs.Answer.{IsNarrow, IsShort, answer_lines, ids_text, refusal_line};
+ghost use Rattle.script_text.specs.AnswerLine.{IsNarrowLine, line_text};
 
-use crate::answer::Refusal;
+use crate::answer::{Answer, Refusal};
+use crate::line_of_answer::{AnswerLine, line_of};
+use row_text::row_is_short;
 use rows_core::Name;
 
-/// The line of a refusal has at most 65,536 bytes with its LF.
-pub fn refusal_is_short(refusal: &Refusal)
+/// The line of this number, from 0, of a narrow answer has at most 65,536 bytes with its LF. It reads what
+/// the line tells, and does nothing else.
+pub fn line_is_short(answer: &Answer, quiet: bool, line: u64)
+    requires line { line < length (answer_lines quiet answer.now) }
+    requires narrow { IsNarrow answer.now }
+    ensures { IsShort (slice_index_or (answer_lines quiet answer.now) line []) }
+{
+    answer_line_is_short(&line_of(answer, quiet, line));
+}
+
+fn answer_line_is_short(line: &AnswerLine)
+    requires { IsNarrowLine line.now }
+    ensures { IsShort (line_text line.now) }
+{
+    match line {
+        AnswerLine::Ok => {}
+        AnswerLine::Held(number) | AnswerLine::Count(number) | AnswerLine::Read(number) => {
+            number_is_short(*number);
+        }
+        AnswerLine::Row(row) => row_is_short(row),
+        AnswerLine::Used(ids) | AnswerLine::Kept(ids) => ids_are_short(ids),
+        AnswerLine::Refused(refusal) => refusal_is_short(refusal),
+    }
+}
+
+// The line of a refusal has at most 65,536 bytes with its LF.
+fn refusal_is_short(refusal: &Refusal)
     ensures { IsShort (refusal_line refusal.now) }
 {
     match refusal {
         Refusal::Unknown(name) | Refusal::Exists(name) => name_is_short(name),
         Refusal::Row(number) => number_is_short(*number),
-        Refusal::Limit(_) | Refusal::Syntax | Refusal::IllTyped | Refusal::Memory => {}
+        Refusal::Limit(_)
+        | Refusal::Syntax
+        | Refusal::IllTyped
+        | Refusal::Overflow
+        | Refusal::Memory => {}
     }
-}
-
-/// The line that says how many rows a stream holds has at most 65,536 bytes with its LF.
-pub fn count_is_short(rows: u64)
-    ensures { IsShort (codes "ok " ++ decimal rows) }
-{
-    number_is_short(rows);
 }
 
 fn name_is_short(name: &Name)
@@ -33,4 +58,11 @@ fn number_is_short(number: u64)
     ensures { length (decimal number) ≤ 20 }
 {
     let _ = number;
+}
+
+// A number of at most ten digits and a space each, or `none`.
+fn ids_are_short(ids: &[u32])
+    ensures { length (ids_text ids.now) ≤ 4 + 11 * length ids.now }
+{
+    let _ = ids.len();
 }

@@ -1,10 +1,16 @@
 //! What is read from a command's line is exactly what the line spells.
-ghost use Rattle.std.specs.Prelude.{◌≡◌, ◌↔◌, ℕ, List, Some, Ok};
+ghost use Rattle.std.specs.Prelude.{◌≡◌, ◌↔◌, ℕ, List, Some, Ok, Err};
 ghost use Rattle.rows_core.specs.declared.schema.Column.{Column};
 ghost use Rattle.script_text.specs.Words.{head_name};
 ghost use Rattle.script_text.specs.Dispatch.{line_command};
-ghost use Rattle.script_text.specs.Spelling.{SpellsStream, SpellsAppend};
-ghost use Rattle.script_text.specs.declared.item.Command.TheVariants.{Stream};
+ghost use Rattle.plan_grammar.specs.PlainNamed.{PlainTree};
+ghost use Rattle.plan_grammar.specs.declared.limit.PlanLimit.{PlanLimit};
+ghost use Rattle.script_text.specs.RunLine.{limit_of};
+ghost use Rattle.script_text.specs.Spelling.{SpellsStream, SpellsAppend, SpellsRun, SpellsTooLarge};
+ghost use Rattle.script_text.specs.declared.answer.Refusal.TheVariants.{Limit};
+ghost use Rattle.script_text.specs.declared.item.Command.TheVariants.{Stream, Run};
+
+use plan_parser::plan_laws::texts_are_read;
 
 /// A stream is read from a line exactly where the line spells `stream NAME (COL:KIND, COL:KIND)`, with any
 /// number of spaces before, between and behind its parts.
@@ -18,3 +24,15 @@ pub fn stream_spelling()
 pub fn append_spelling()
     ensures { (name line : List ℕ) → ((head_name line ≡ Some name) ↔ SpellsAppend name line) }
 {}
+
+/// A run is read from a line exactly where the line spells `run NAME = PLAN` with a plan within the limits,
+/// and the limit exactly where it spells it with a plan that passes this one first; any number of spaces may
+/// stand before, between and behind the parts.
+pub fn run_spelling()
+    ensures run { (name : List ℕ) (plan : PlainTree) (line : List ℕ) →
+        ((line_command line ≡ Ok (Run name plan)) ↔ SpellsRun name plan line) }
+    ensures limit { (what : PlanLimit) (line : List ℕ) →
+        ((line_command line ≡ Err (Limit (limit_of what))) ↔ SpellsTooLarge what line) }
+{
+    texts_are_read();
+}

@@ -80,8 +80,8 @@ fn only_kind(text: &[u8]) -> Option<Kind>
     }
 }
 
-// The parts of a text before and behind the first such mark.
-fn split_at_mark<'a>(mark: u8, text: &'a [u8]) -> Option<(&'a [u8], &'a [u8])>
+/// The parts of a text before and behind the first such mark.
+pub fn split_at_mark<'a>(mark: u8, text: &'a [u8]) -> Option<(&'a [u8], &'a [u8])>
     ensures none { IfNone result (parts_at mark text.entry.now ≡ None) }
     ensures shorter { IfSome result (λ parts. length parts.1.now < length text.entry.now) }
     ensures some { IfSome result

@@ -45,6 +45,13 @@ pub fn behind_stream(text: &[u8]) -> Option<&[u8]>
     behind_word(b"stream", text)
 }
 
+/// What stands behind `run`, where it is the first word of a line without spaces at its front.
+pub fn behind_run(text: &[u8]) -> Option<&[u8]>
+    ensures { option_copied result ≡ behind_word (codes "run") text.now }
+{
+    behind_word(b"run", text)
+}
+
 /// The one word of a text, where it is a name.
 pub fn only_name(alloc: Global, text: &[u8]) -> Result<Option<Name>, Memory>
     ensures { IfOk result (λ name. name ≡ only_name text.now) }

@@ -18,7 +18,9 @@ use Rattle.script_text.specs.declared.answer.Answer.TheVariants.{Ok, Held, Refus
 use Rattle.script_text.specs.declared.answer.LimitKind.TheVariants as limit
 use Rattle.script_text.specs.declared.answer.Refusal.TheVariants.{Limit, Unknown, Exists, IllTyped, Row}
 use Rattle.script_text.specs.declared.item.Command.TheVariants as command
+use Rattle.plan_grammar.specs.PlainNamed.{From, Concat, Order}
 use Rattle.session.specs.Rows.{Spell, SpellsNone, Rows, BadLine, have_long}
+use Rattle.session.specs.Running.{result_of}
 use Rattle.session.specs.State.{Stream, State, state_of, empty_state}
 use Rattle.session.specs.Machine.{outcome, refused, Step, new_stream, grown, with_rows, with_streams, row_count, extent_count, appended}
 use Rattle.session.proofs.OutcomeLemmas.{appended_rows}
@@ -75,6 +77,22 @@ row_is_appended = inl (
   record { loose = ((refl, (fits_signed_from_abs _ (negsuc 4) (search rules), ((IsUtf8-from_ascii (codes "q\"z") (search rules), refl), tt))), tt); spelled = refl },
   refl,
 )
+
+-- the state with this row
+abbrev s_row : State
+s_row = state_of (grown (new_stream (codes "s") columns) (row ∷ []) ∷ [])
+
+-- `run t = from s`
+run_gives_rows : Step s_row (command.Run (codes "t") (From (codes "s"))) (result_of (row ∷ [])) s_row
+run_gives_rows = inl ((refl, refl, omega arith), refl)
+
+-- `run t = from s | concat (from nope)`
+run_names_no_stream : Step s_row (command.Run (codes "t") (Concat (From (codes "s")) (From (codes "nope")))) (Refused (Unknown (codes "nope"))) s_row
+run_names_no_stream = inl (refl, refl)
+
+-- `run t = from s | order b`
+run_names_no_column : Step s_row (command.Run (codes "t") (Order (From (codes "s")) (record { column = codes "b"; down = false } ∷ []))) (Refused IllTyped) s_row
+run_names_no_column = inl (refl, refl)
 
 -- a row of two values has a comma
 abbrev comma : List ℕ → Bool

@@ -1,5 +1,9 @@
 pub mod Examples
+pub mod FewColumns
 pub mod RefusalLemmas
+pub mod RowLemmas
+pub mod RunLemmas
+pub mod RunRefusalLemmas
 pub mod OutcomeLemmas
 pub mod ReadingLemmas
 pub mod StreamLemmas

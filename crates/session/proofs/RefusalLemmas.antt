@@ -12,7 +12,8 @@ use Rattle.row_text.proofs.Lines.{row_spelling-injective}
 use Rattle.session.specs.State.{Stream, State}
 use Rattle.session.specs.Rows.{Spell, SpellsNone, IsFirstBad, Reading, Rows, BadLine, Reads, have_long}
 use Rattle.session.specs.Machine.{HasNoChoice, Outcome, outcome, refused, AppendsTo, Performs, Step, stream_of, extent_count, row_count, grown, with_rows, with_streams, new_stream, made, appended}
-use Rattle.session.specs.Refusals.{IsMakingRefused, IsAppendRefused, IsAboveLimit, IsRefusedFor}
+use Rattle.session.specs.Refusals.{IsMakingRefused, IsAppendRefused, IsAboveLimit, IsRefusedFor, IsOtherEvent}
+use Rattle.session.proofs.RunRefusalLemmas.{ComesOrOther, same_run, run_exactly, run_cause}
 use Rattle.script_text.specs.declared.answer.Answer.{Answer}
 use Rattle.script_text.specs.declared.answer.Answer.TheVariants.{Ok, Held, Refused}
 use Rattle.script_text.specs.declared.item.Command.{Command}
@@ -73,9 +74,12 @@ one_append : (state : State) (stream : Option Stream) (name : List ℕ) (lines :
 one_append state None name lines a b p q = p ∙ sym q
 one_append state (Some stream) name lines a b p q = p.2 ∙ ap (appended state name stream) (one_reading (kinds_of stream.columns) lines p.0 q.0 p.1 q.1) ∙ sym q.2
 
-pub same_outcome : (state : State) (asked : Command) (a b : Outcome) → HasNoChoice asked → Performs state asked a → Performs state asked b → a ≡ b
+pub same_outcome : (state : State) (asked : Command) (a b : Outcome) → HasNoChoice state asked → Performs state asked a → Performs state asked b → a ≡ b
 same_outcome state (command.Stream name columns) a b none p q = p ∙ sym q
 same_outcome state (command.Append name lines) a b none p q = one_append state (stream_of state.streams name) name lines a b p q
+same_outcome state (command.Run name plan) a b one p q =
+    let answers = same_run state.streams plan a.answer b.answer one p.0 q.0 in
+    λ i. outcome (answers i) ((p.1 ∙ sym q.1) i)
 
 none_there : (stream : Option Stream) → is_some stream ≡ false → stream ≡ None
 none_there None e = refl
@@ -114,19 +118,24 @@ module _ (state : State) (name : List ℕ) where
     append_refused (refusal.Limit kind) h = subst (λ o. AppendsTo state o name lines (refused state (refusal.Limit kind))) (sym h.1) (Rows h.2, h.3, above_limit h.0 h.2 kind h.4)
     append_refused _ h = absurd h
 
-performs_refused : (state : State) (asked : Command) (why : Refusal) → IsRefusedFor state asked why → Performs state asked (refused state why)
-performs_refused state (command.Stream name columns) why h = making_refused state name columns why h
-performs_refused state (command.Append name lines) why h = append_refused state name lines why h
+-- a refusal whose condition holds comes, or want of memory, or another refusal that the work met first
+abbrev ComesFor : Refusal → Answer → Type 0
+ComesFor why given = (given ≡ Refused why) ⊎ ((given ≡ Refused refusal.Memory) ⊎ ((other : Refusal) × IsOtherEvent why other × (given ≡ Refused other)))
 
-no_choice : (asked : Command) → HasNoChoice asked
-no_choice (command.Stream name columns) = tt
-no_choice (command.Append name lines) = tt
+module _ (old new : State) (given : Answer) (why : Refusal) where
+  or_memory : ComesOrOther why given → ComesFor why given
+  or_memory comes = elim comes [ inl is ↦ inl is | inr other ↦ inr (inr other) ]
 
--- where the condition of a refusal holds, it comes, or want of memory
-pub refused_exactly : (old new : State) (asked : Command) (answer : Answer) → Step old asked answer new → (why : Refusal) → IsRefusedFor old asked why → (answer ≡ Refused why) ⊎ (answer ≡ Refused refusal.Memory)
+  exactly_done : (asked : Command) → Performs old asked (outcome given new) → IsRefusedFor old asked why → ComesFor why given
+  exactly_done (command.Stream name columns) done h = inl (ap (λ o. o.answer) (done ∙ sym (making_refused old name columns why h)))
+  exactly_done (command.Append name lines) done h = inl (ap (λ o. o.answer) (one_append old (stream_of old.streams name) name lines (outcome given new) (refused old why) done (append_refused old name lines why h)))
+  exactly_done (command.Run name plan) done h = or_memory (run_exactly old plan given done.0 why h)
+
+-- where the condition of a refusal holds
+pub refused_exactly : (old new : State) (asked : Command) (answer : Answer) → Step old asked answer new → (why : Refusal) → IsRefusedFor old asked why → ComesFor why answer
 refused_exactly old new asked answer step why h = elim step [
-  | inl done ↦ inl (ap (λ o. o.answer) (same_outcome old asked (outcome answer new) (refused old why) (no_choice asked) done (performs_refused old asked why h)))
-  | inr none ↦ inr (ap (λ o. o.answer) none)
+  | inl done ↦ exactly_done old new answer why asked done h
+  | inr none ↦ inr (inl (ap (λ o. o.answer) none))
 ]
 
 module _ (state new : State) (why : Refusal) where
@@ -174,6 +183,7 @@ module _ (state new : State) (why : Refusal) where
   performed_cause (command.Stream name columns) e =
       making_cause name columns (is_some (stream_of state.streams name)) (has_repeat columns) (nat_lt 32 (length columns)) (nat_le 1024 (length state.streams)) refl refl refl refl e
   performed_cause (command.Append name lines) e = append_cause name lines (stream_of state.streams name) refl e
+  performed_cause (command.Run name plan) e = (run_cause state plan why e.0, e.1)
 
 -- a refusal comes where its condition holds, or it is want of memory, and it changes nothing
 refused_for : (old new : State) (asked : Command) (why : Refusal) → Step old asked (Refused why) new → (IsRefusedFor old asked why ⊎ (why ≡ refusal.Memory)) × (new ≡ old)

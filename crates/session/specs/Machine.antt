@@ -4,6 +4,9 @@ use Rattle.rows_core.specs.declared.schema.Column.{Column}
 use Rattle.rows_core.specs.declared.value.Value.{Value}
 use Rattle.rows_core.specs.Schema.{kinds_of, has_repeat}
 use Rattle.session.specs.State.{Stream, State}
+use Rattle.plan_core.specs.PlainPlan.{PlainPlan}
+use Rattle.std.specs.Prelude as std
+use Rattle.session.specs.Running.{bound_plan, lists_of, IsRun, HasTwoRefusals}
 use Rattle.session.specs.Rows.{Reading, Reads, Rows, BadLine, have_long}
 use Rattle.script_text.specs.declared.answer.Answer.{Answer}
 use Rattle.script_text.specs.declared.answer.Answer.TheVariants.{Ok, Held, Refused}
@@ -89,11 +92,14 @@ AppendsTo state (Some stream) name lines given =
 abbrev pub Performs : State → Command → Outcome → Type 0
 Performs state (command.Stream name columns) given = given ≡ made state name columns
 Performs state (command.Append name lines) given = AppendsTo state (stream_of state.streams name) name lines given
+Performs state (command.Run name plan) given = IsRun state.streams plan given.answer × (given.state ≡ state)
 
--- a command that leaves the machine no choice
-abbrev pub HasNoChoice : Command → Type 0
-HasNoChoice (command.Stream name columns) = ⊤
-HasNoChoice (command.Append name lines) = ⊤
+-- a command that leaves the machine no choice: all but a run with two refusals, of which the first event decides
+abbrev pub HasNoChoice : State → Command → Type 0
+HasNoChoice state (command.Stream name columns) = ⊤
+HasNoChoice state (command.Append name lines) = ⊤
+HasNoChoice state (command.Run name tree) =
+    (plan : PlainPlan) → bound_plan state.streams tree ≡ std.Ok plan → HasTwoRefusals plan (lists_of state.streams plan) → ⊥
 
 -- one step; want of memory may be answered in place of any answer, and changes nothing
 abbrev pub Step : State → Command → Answer → State → Type 0

@@ -3,6 +3,7 @@
 
 pub mod laws;
 mod reading;
+mod running;
 pub mod session;
 mod stream;
 

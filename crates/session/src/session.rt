@@ -1,18 +1,22 @@
 //! The session: what the commands of a script make and fill, and what they are answered.
-ghost use Rattle.std.specs.Prelude.{◌≡◌, ◌⊎◌, ℕ, ◌<◌, ◌-◌, ◌^◌, min, not, false, IsTrue, List, All, length};
+ghost use Rattle.std.specs.Prelude.{◌≡◌, ◌⊎◌, ℕ, ◌<◌, ◌-◌, ◌^◌, min, not, IsTrue, List, length};
 ghost use Rattle.std.specs.Prelude.{slice_index_or, IfSome};
-ghost use Rattle.script_text.specs.Answer.{IsShort, answer_lines};
+ghost use Rattle.rows_core.specs.Schema.{kinds_of};
+ghost use Rattle.plan_core.specs.TypedRows.{HaveKinds};
+ghost use Rattle.script_text.specs.Answer.{IsNarrow};
 ghost use Rattle.script_text.specs.Script.{IsWhole};
 ghost use Rattle.script_text.specs.declared.answer.Refusal.{Refusal};
 ghost use Rattle.session.specs.Rows.{Rows, have_long};
 ghost use Rattle.session.specs.Machine.{IsGiven, Step, place_of, extent_count, added, appended};
 ghost use Rattle.session.specs.State.{Stream, state_of, empty_state, StandsFor};
-ghost use Rattle.session.specs.Refusals.{IsRefusedFor};
+ghost use Rattle.session.specs.Refusals.{IsRefusedFor, IsOtherEvent};
 
 use crate::reading::read_rows;
+use crate::running::run;
 use crate::stream::StreamRows;
+use plan_text::Stream;
 use rows_core::{Column, Memory, Name, Row, Schema, SchemaRefusal, Seq, Text};
-use script_text::{Answer, Command, LimitKind, Refusal, count_is_short, refusal_is_short};
+use script_text::{Answer, Command, LimitKind, Refusal};
 use std::alloc::Global;
 use std::marker::Model;
 
@@ -57,20 +61,20 @@ impl Session {
         requires { IsWhole command }
         ensures step { Step self command result.1 result.0 }
 
-        // Each line of the answer has room in the longest line of an answer.
-        ensures short { All IsShort (answer_lines false result.1) }
+        // Each line of the answer has room in the longest line of an answer (`line_is_short`).
+        ensures narrow { IsNarrow result.1 }
 
         // Each refusal but want of memory comes exactly where its condition holds, unless memory is wanted
-        // first.
+        // first; where a run meets an overflow and its machine time is above the limit, one of the two comes.
         ensures cause { (why : Refusal) → result.1 ≡ Answer.Refused why
             → IsRefusedFor self command why ⊎ (why ≡ Refusal.Memory) }
         ensures exactly { (why : Refusal) → IsRefusedFor self command why
-            → (result.1 ≡ Answer.Refused why) ⊎ (result.1 ≡ Answer.Refused Refusal.Memory) }
+            → (result.1 ≡ Answer.Refused why) ⊎ ((result.1 ≡ Answer.Refused Refusal.Memory)
+            ⊎ ((other : Refusal) × IsOtherEvent why other × (result.1 ≡ Answer.Refused other))) }
         ensures unchanged { (why : Refusal) → result.1 ≡ Answer.Refused why → result.0 ≡ self }
     {
         let Session { mut streams, alloc } = self;
         let answer = perform(&mut streams, alloc, command);
-        answer_is_short(&answer);
         (Session { streams, alloc }, answer)
     }
 }
@@ -78,30 +82,22 @@ impl Session {
 // Performs a command.
 fn perform(streams: &mut Vec<StreamRows>, alloc: Global, command: Command) -> Answer
     requires { IsWhole command }
-    ensures { Step (state_of streams.old.items) command result (state_of streams.new.items) }
+    ensures step { Step (state_of streams.old.items) command result (state_of streams.new.items) }
+    ensures narrow { IsNarrow result }
 {
     match command {
         Command::Stream { name, columns } => make(streams, alloc, name, columns),
         Command::Append { name, lines } => append(streams, alloc, name, lines),
-    }
-}
-
-// How long the lines of an answer are.
-fn answer_is_short(answer: &Answer)
-    ensures { All IsShort (answer_lines false answer.now) }
-{
-    match answer {
-        Answer::Ok => {}
-        Answer::Held(rows) => count_is_short(*rows),
-        Answer::Refused(refusal) => refusal_is_short(refusal),
+        Command::Run { name: _, plan } => run(alloc, streams, &plan),
     }
 }
 
 // Makes a stream.
 fn make(streams: &mut Vec<StreamRows>, alloc: Global, name: Name, columns: Seq<Column>) -> Answer
     requires { 0 < length columns }
-    ensures { Step (state_of streams.old.items) (Command.Stream name columns) result
+    ensures step { Step (state_of streams.old.items) (Command.Stream name columns) result
         (state_of streams.new.items) }
+    ensures narrow { IsNarrow result }
 {
     if place_of(streams, &name).is_some() {
         return Answer::Refused(Refusal::Exists(name));
@@ -116,8 +112,9 @@ fn make(streams: &mut Vec<StreamRows>, alloc: Global, name: Name, columns: Seq<C
 
 // Puts a stream behind the others.
 fn add_stream(streams: &mut Vec<StreamRows>, alloc: Global, name: Name, schema: Schema) -> Answer
-    ensures { IsGiven (state_of streams.old.items) (added (state_of streams.old.items) name schema) result
-        (state_of streams.new.items) }
+    ensures given { IsGiven (state_of streams.old.items) (added (state_of streams.old.items) name schema)
+        result (state_of streams.new.items) }
+    ensures narrow { IsNarrow result }
 {
     if streams.len() >= MAX_STREAMS {
         return Answer::Refused(Refusal::Limit(LimitKind::Streams));
@@ -130,8 +127,9 @@ fn add_stream(streams: &mut Vec<StreamRows>, alloc: Global, name: Name, schema: 
 
 // Appends the rows that these lines spell.
 fn append(streams: &mut Vec<StreamRows>, alloc: Global, name: Name, lines: Seq<Text>) -> Answer
-    ensures { Step (state_of streams.old.items) (Command.Append name lines) result
+    ensures step { Step (state_of streams.old.items) (Command.Append name lines) result
         (state_of streams.new.items) }
+    ensures narrow { IsNarrow result }
 {
     let Some(place) = place_of(streams, &name) else {
         return Answer::Refused(Refusal::Unknown(name));
@@ -146,11 +144,14 @@ fn append(streams: &mut Vec<StreamRows>, alloc: Global, name: Name, lines: Seq<T
 fn add_rows(streams: &mut Vec<StreamRows>, alloc: Global, place: usize, rows: Vec<Row>) -> Answer
     requires place { place < length streams.old.items }
     requires short { IsTrue (not (have_long rows.items)) }
-    ensures { (name : List ℕ) (stream : Stream) → place_of streams.old.items name ≡ Some place
+    requires typed { (stream : Stream)
+        → HaveKinds (kinds_of (slice_index_or streams.old.items place stream).columns) rows.items }
+    ensures given { (name : List ℕ) (stream : Stream) → place_of streams.old.items name ≡ Some place
         → let there = slice_index_or streams.old.items place stream in
         IsGiven (state_of streams.old.items)
         (appended (state_of streams.old.items) name there (Rows rows.items)) result
         (state_of streams.new.items) }
+    ensures narrow { IsNarrow result }
 {
     if streams[place].extent_count() >= MAX_EXTENTS {
         return Answer::Refused(Refusal::Limit(LimitKind::Extents));

@@ -1,14 +1,18 @@
 //! A stream, and its growth.
 ghost use Rattle.std.specs.Prelude.{◌≡◌, ◌+◌, length, sum_by, IfOk, OnErr, IfSome};
+ghost use Rattle.rows_core.specs.Schema.{kinds_of};
+ghost use Rattle.plan_core.specs.TypedRows.{HaveKinds};
 ghost use Rattle.session.specs.Machine.{row_count, new_stream, grown};
+ghost use Rattle.session.specs.State.{HasTypedRows};
 
+use plan_text::Stream;
 use rows_core::{Memory, Name, Row, Schema, Seq};
 use std::alloc::Global;
 use std::marker::Model;
 use std::mem;
 
-/// A stream with its rows: its name, its columns, and the extents in the order of appending. Contracts see it
-/// as plain data.
+/// A stream with its rows: its name, its columns, and the extents in the order of appending. Each row has
+/// values of the columns' kinds. Contracts see it as plain data.
 #[derive(Drop)]
 pub struct StreamRows {
     name: Name,
@@ -17,11 +21,14 @@ pub struct StreamRows {
 }
 
 impl Model for StreamRows {
-    ghost use Rattle.session.specs.State.{Stream};
+    ghost use Rattle.session.specs.State.{Stream, HasTypedRows};
 
     ghost Value = { Stream };
 
     ghost view = { λ s. record { name = s.name; columns = s.schema; extents = s.extents } };
+
+    ghost invariant = { λ s.
+        HasTypedRows (record { name = s.name; columns = s.schema; extents = s.extents }) };
 
     ghost inverse = { λ v. record { name = v.name; schema = v.columns; extents = v.extents } };
 }
@@ -38,18 +45,12 @@ impl StreamRows {
         }
     }
 
-    /// The name.
-    pub fn name(&self) -> &Name
-        ensures { result.now ≡ self.now.name }
+    /// The extents in the order of appending, each with its rows.
+    pub fn extents(&self) -> &[Seq<Row>]
+        ensures extents { result.now ≡ self.now.extents }
+        ensures typed { HasTypedRows self.now }
     {
-        &self.name
-    }
-
-    /// The columns.
-    pub fn schema(&self) -> &Schema
-        ensures { result.now ≡ self.now.columns }
-    {
-        &self.schema
+        self.extents.items()
     }
 
     /// The number of extents.
@@ -62,6 +63,7 @@ impl StreamRows {
     /// Puts these rows behind the older ones, as an extent of their own, and gives the number of rows that
     /// the stream then holds. After want of memory it is as before; a number above u64 is want of memory too.
     pub fn grow(&mut self, alloc: Global, rows: Vec<Row>) -> Result<u64, Memory>
+        requires { HaveKinds (kinds_of self.old.columns) rows.items }
         ensures stream { IfOk result (λ held. self.new ≡ grown self.old rows.items) }
         ensures held { IfOk result (λ held. held ≡ row_count (grown self.old rows.items)) }
         ensures err { OnErr result (self.new ≡ self.old) }
@@ -76,6 +78,7 @@ impl StreamRows {
     }
 
     fn push(&mut self, alloc: Global, rows: Vec<Row>) -> Result<(), Memory>
+        requires { HaveKinds (kinds_of self.old.columns) rows.items }
         ensures stream { IfOk result (λ _. self.new ≡ grown self.old rows.items) }
         ensures err { OnErr result (self.new ≡ self.old) }
     {
@@ -86,6 +89,20 @@ impl StreamRows {
             Ok(()) => Ok(()),
             Err(_) => Err(Memory),
         }
+    }
+}
+
+impl Stream for StreamRows {
+    ghost name_of = { λ s. s.name };
+
+    ghost columns_of = { λ s. s.columns };
+
+    fn name(&self) -> &Name {
+        &self.name
+    }
+
+    fn schema(&self) -> &Schema {
+        &self.schema
     }
 }
 

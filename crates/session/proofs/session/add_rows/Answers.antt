@@ -4,8 +4,8 @@ use Rattle.session.specs.Machine.{extent_count, row_count, grown}
 use Rattle.session.proofs.OutcomeLemmas.{IsGiven-held}
 use Rattle.session.proofs.session.add_rows.Goals as goal
 
-pub returns-in-Ok : goal.returns-in-Ok
-returns-in-Ok c = λ name stream is.
+pub returns-in-Ok-clause-given : goal.returns-in-Ok-clause-given
+returns-in-Ok-clause-given c = λ name stream is.
     let state = c.args.streams.now.items in
     let there = slice_index_or c.args.streams.now.items c.args.place stream in
     let first_is : c.index.result.now ≡ there = c.index.ensures ∙ get_or_default state c.args.place _ stream c.requires.place in

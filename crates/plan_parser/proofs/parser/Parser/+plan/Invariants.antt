@@ -2,7 +2,8 @@
 -- turns that are left is what it reads in all.
 use Rattle.std.proofs.Common.{◌≡◌, ◌+◌, ◌-◌, ◌*◌}
 use Rattle.plan_parser.specs.PlanDraft.{seen_plan, limits}
-use Rattle.plan_parser.specs.Reader.{bar_at, repeated}
+use Rattle.plan_parser.specs.declared.parser.Terminal.TheVariants.{Bar}
+use Rattle.plan_parser.specs.Reader.{terminal_at, repeated}
 use Rattle.plan_parser.specs.PlanReading.{stage_at, inner_plan, plan_at}
 use Rattle.plan_parser.proofs.parser.Parser.+plan.Given as goal
 
@@ -30,4 +31,4 @@ decreases-plan_within l = 8 * l.levels + 0
 abbrev pub invariant-plan-loop : goal.invariant-plan-loop
 invariant-plan-loop l =
     plan_at limits l.levels l.fn.self.rest.now
-    ≡ repeated bar_at (λ _. stage_at limits (inner_plan limits l.levels) l.levels) (l.turns - l.counter) (seen_plan l.plan) l.self.rest.now
+    ≡ repeated (terminal_at Bar) (λ _. stage_at limits (inner_plan limits l.levels) l.levels) (l.turns - l.counter) (seen_plan l.plan) l.self.rest.now
