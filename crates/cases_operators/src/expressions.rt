@@ -1,5 +1,5 @@
-//! Expressions and keys, written with each operation behind its parts, as `#0 1 op17`: `#0` is a column, `op17`
-//! the operation with that row of the table, of two arguments, and `and` the truth of both.
+//! Expressions and keys, written with each operation behind its parts, as `#0 1 op17`: `#0` is a column,
+//! `op17` the operation with that row of the table, of two arguments, and `and` the truth of both.
 
 use anyhow::{Context, Result};
 use plan_core::Expr;
