@@ -1,14 +1,15 @@
-//! Cases of normal plans: two plans a line on standard input, with ` => ` between them, and on standard
-//! output a line for each: whether the second is the normal plan of the first, or else whether the two have
-//! one normal plan. `reader` says how plans are written. A line that is empty or begins with `#` is no case.
+//! Cases of normal plans, a case a line on standard input, and on standard output a line for each.
+//!
+//! A case is two plans with ` => ` between them: whether the second is the normal plan of the first, or else
+//! whether the two have one normal plan. Or it is a plan and its streams, with ` | ` before each: the rows of
+//! the plan, and whether its normal plan gives the same. `postfix_plans` says how plans and streams are
+//! written. A line that is empty or begins with `#` is no case.
 #![tactic(auto)]
 
-mod plans;
-mod reader;
+mod forms;
+mod meaning;
 
-use anyhow::{Context, Result};
-use plans::normal_of;
-use reader::plan_of;
+use anyhow::Result;
 use std::alloc::Global;
 use std::io;
 
@@ -28,17 +29,12 @@ fn main(rt: HostRuntime) -> io::Result<()> {
 }
 
 /// What the case gives.
-fn answer(alloc: Global, case: &str) -> Result<&'static str> {
-    let (first, second) = case.split_once(" => ").context("no second plan")?;
-    let second = plan_of(alloc, second)?;
-    let normal = normal_of(alloc, plan_of(alloc, first)?)?;
-    if normal.plan().is_same(&second) {
-        return Ok("its normal plan");
+fn answer(alloc: Global, case: &str) -> Result<String> {
+    match case.split_once(" => ") {
+        Some((first, second)) => {
+            let answer = forms::compared(alloc, first, second)?;
+            Ok(String::from_str(alloc, answer)?)
+        }
+        None => meaning::compared(alloc, case),
     }
-    let other = normal_of(alloc, second)?;
-    Ok(if normal.plan().is_same(other.plan()) {
-        "one normal plan"
-    } else {
-        "two normal plans"
-    })
 }

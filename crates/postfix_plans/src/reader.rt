@@ -1,4 +1,4 @@
-//! Plans, written with each operator behind its parts, as `s0 #0 1 op17 filter`.
+//! Expressions and plans, written with each operator behind its parts, as `s0 #0 1 op17 filter`.
 //!
 //! Of expressions: `#0` is a column; a number, `'tea`, `true` and `false` are literals; `op17` is the
 //! operation with that row of the table; `and`, `or` and `if`. Of plans: `s0` is a scan; `filter` takes a
@@ -22,6 +22,13 @@ struct Reader {
     aggs: Vec<Agg>,
     pairs: Vec<(u32, u32)>,
     order: Vec<Key>,
+}
+
+/// The expression that is written so.
+pub fn expr_of(alloc: Global, text: &str) -> Result<Expr> {
+    let mut reader = Reader::new(alloc);
+    reader.read(text)?;
+    reader.expr()
 }
 
 /// The plan that is written so.
@@ -228,7 +235,7 @@ fn number_behind(word: &str, letters: &str) -> Option<u32> {
 }
 
 /// The literal that is written so.
-fn literal_of(alloc: Global, word: &str) -> Result<Option<Cell>> {
+pub fn literal_of(alloc: Global, word: &str) -> Result<Option<Cell>> {
     if let Some(text) = word.strip_prefix('\'') {
         return Ok(Some(Cell::Text(Txt::new(alloc, text.as_bytes())?)));
     }
@@ -255,7 +262,22 @@ fn agg_of(word: &str) -> Option<Agg> {
     if word == "count" {
         return Some(Agg::Count);
     }
-    Some(Agg::Sum(number_behind(word, "sum")?))
+    if let Some(column) = number_behind(word, "sum") {
+        return Some(Agg::Sum(column));
+    }
+    if let Some(column) = number_behind(word, "min") {
+        return Some(Agg::Min(column));
+    }
+    if let Some(column) = number_behind(word, "max") {
+        return Some(Agg::Max(column));
+    }
+    if let Some(column) = number_behind(word, "first") {
+        return Some(Agg::First(column));
+    }
+    if let Some(column) = number_behind(word, "last") {
+        return Some(Agg::Last(column));
+    }
+    Some(Agg::Avg(number_behind(word, "avg")?))
 }
 
 /// Two columns, as `on0=1`.

@@ -1,0 +1,60 @@
+//! Streams, written as the kinds of their columns and the lines of their rows, with ` | ` between them.
+
+use anyhow::{Context, Result};
+use plan_core::Schemas;
+use row_text::read_row;
+use rows_core::{Column, Kind, Name, Row, Schema, Seq};
+use std::alloc::Global;
+
+const NAMES: &[u8] = b"abcd";
+
+/// The kinds of each stream, and its rows.
+#[derive(Drop)]
+pub struct Streams {
+    pub schemas: Schemas,
+    pub rows: Vec<Vec<Row>>,
+}
+
+/// The streams that are written so; each has at most four columns.
+pub fn streams_of(alloc: Global, text: &str) -> Result<Streams> {
+    let mut schemas = Vec::new(alloc);
+    let mut rows = Vec::new(alloc);
+    for stream in text.split(" | ") {
+        let (kinds, lines) = stream.split_once(' ').unwrap_or((stream, ""));
+        let kinds = kinds_of(alloc, kinds)?;
+        rows.push(rows_of(alloc, lines, &schema_of(alloc, &kinds)?)?)?;
+        schemas.push(Seq::new(kinds))?;
+    }
+    let schemas = Schemas {
+        kinds: Seq::new(schemas),
+    };
+    Ok(Streams { schemas, rows })
+}
+
+/// Kinds, written as `int,text`.
+pub fn kinds_of(alloc: Global, text: &str) -> Result<Vec<Kind>> {
+    let mut kinds = Vec::new(alloc);
+    for word in text.split(',') {
+        kinds.push(Kind::of(word.as_bytes()).context("no kind")?)?;
+    }
+    Ok(kinds)
+}
+
+fn schema_of(alloc: Global, kinds: &[Kind]) -> Result<Schema> {
+    let mut columns = Vec::new(alloc);
+    for (kind, letter) in kinds.iter().zip(NAMES) {
+        columns.push(Column {
+            name: Name::new(alloc, &[*letter])?,
+            kind: *kind,
+        })?;
+    }
+    Ok(Schema::new(columns)?)
+}
+
+fn rows_of(alloc: Global, lines: &str, schema: &Schema) -> Result<Vec<Row>> {
+    let mut rows = Vec::new(alloc);
+    for line in lines.split_whitespace() {
+        rows.push(read_row(alloc, line.as_bytes(), schema)?)?;
+    }
+    Ok(rows)
+}
