@@ -24,7 +24,8 @@ use std::alloc::Global;
 pub fn read_change(alloc: Global, bytes: &[u8]) -> Result<Change, ChangeRefusal>
     // What is read is spelled so.
     ensures found { IfOk result
-        (λ change. HasChangeSpelling change × (keyless change ≡ change) × (bytes.now ≡ change_spelling change)) }
+        (λ change. HasChangeSpelling change × (keyless change ≡ change)
+        × (bytes.now ≡ change_spelling change)) }
     // What is spelled so is read, but for the keys, unless memory runs out.
     ensures only { (change : Change) → HasChangeSpelling change → bytes.now ≡ change_spelling change
         → MatchResult result (λ found. found ≡ keyless change) (λ e. e ≡ ChangeRefusal.Memory) }

@@ -6,7 +6,8 @@ ghost use Rattle.plan_spelling.specs.Spelling.{counted, plan_spelling, AreCounte
 ghost use Rattle.record_codec.specs.Spelling.{listed, sized_spelling, byte_of_kind, column_spelling};
 ghost use Rattle.record_codec.specs.Spelling.{cut_spelling, extent_spelling, program_spelling};
 ghost use Rattle.record_codec.specs.Spelling.{program_if_spelling, new_entry_spelling, entry_spelling};
-ghost use Rattle.record_codec.specs.Spelling.{stream_spelling, snapshot_spelling, change_spelling, kept, kept_of};
+ghost use Rattle.record_codec.specs.Spelling.{stream_spelling, snapshot_spelling};
+ghost use Rattle.record_codec.specs.Spelling.{change_spelling, kept, kept_of};
 ghost use Rattle.record_codec.specs.Spelling.{uses_spelling, numbers_spelling, lists_spelling};
 ghost use Rattle.record_codec.specs.Spelling.{IsNumber, IsFile, AreListed, HasExtentSpelling, extent_with};
 ghost use Rattle.record_codec.specs.Spelling.{HasProgramSpelling, HasProgramIfSpelling, HasInnerPlan};
@@ -163,7 +164,8 @@ fn put_program(out: &mut Vec<u8>, program: &Program) -> Result<(), Memory>
 /// A plan behind the length of its spelling.
 fn put_plan(alloc: Global, out: &mut Vec<u8>, plan: &Plan) -> Result<(), Memory>
     requires { HasInnerPlan (plan_of plan.now) }
-    ensures { OnOk result (out.new.items ≡ out.old.items ++ sized_spelling (plan_spelling (plan_of plan.now))) }
+    ensures { OnOk result
+        (out.new.items ≡ out.old.items ++ sized_spelling (plan_spelling (plan_of plan.now))) }
 {
     let bytes = spell(alloc, plan)?;
     put_sized(out, &bytes)
@@ -231,8 +233,8 @@ fn put_kept(
     machine: u32,
 ) -> Result<(), Memory>
     requires { HasNewEntrySpelling (kept (plan_of plan.now) cuts.now file.now machine) }
-    ensures { OnOk result
-        (out.new.items ≡ out.old.items ++ new_entry_spelling (kept (plan_of plan.now) cuts.now file.now machine)) }
+    ensures { OnOk result (out.new.items ≡ out.old.items
+        ++ new_entry_spelling (kept (plan_of plan.now) cuts.now file.now machine)) }
 {
     put_plan(alloc, out, plan)?;
     put_cuts(out, cuts)?;
