@@ -34,9 +34,14 @@ pub fn result(alloc: Global, quiet: bool, arguments: &str) -> Result<String> {
         kept: Seq::new(ids(alloc, kept)?),
         read: read.parse::<u64>()?,
     };
+    text_of(alloc, &answer, quiet)
+}
+
+// All lines of an answer.
+fn text_of(alloc: Global, answer: &Answer, quiet: bool) -> Result<String> {
     let mut to = Vec::new(alloc);
-    for line in 0..line_count(&answer, quiet) {
-        print_line(&answer, quiet, line, &mut to)?;
+    for line in 0..line_count(answer, quiet) {
+        print_line(answer, quiet, line, &mut to)?;
     }
     shown::lines(alloc, &to)
 }
