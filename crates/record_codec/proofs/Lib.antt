@@ -8,3 +8,4 @@ pub mod ChainLoop
 pub mod InnerPlan
 pub mod Joined
 pub mod Optional
+pub mod Lengths

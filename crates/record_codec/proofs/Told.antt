@@ -9,7 +9,7 @@ use Rattle.record_codec.specs.declared.refusal.ChangeRefusal.{ChangeRefusal}
 use Rattle.record_codec.specs.declared.refusal.ChangeRefusal.TheVariants as refusal
 use Rattle.record_codec.specs.Spelling.{change_spelling, HasChangeSpelling, keyless}
 use Rattle.record_codec.specs.Formats.{change_format}
-use Rattle.record_codec.specs.Place.{IsPlace, Reads}
+use Rattle.record_codec.specs.Place.{IsPlace, Reads, Spells}
 use Rattle.record_codec.proofs.ChangeLaws.{change_exact}
 use Rattle.record_codec.proofs.Keyless.{keyless_spelled, keyless_is}
 
@@ -36,6 +36,9 @@ place bytes (Err (refusal.NotChange at)) wide told = subst (λ (n : ℕ). StopsA
 
 pub one_spelling : (a b : Change) → HasChangeSpelling a → HasChangeSpelling b → change_spelling a ≡ change_spelling b → keyless a ≡ keyless b
 one_spelling a b p q e = whole.one_spelling change_format change_exact (keyless a) (keyless b) (keyless_is a p) (keyless_is b q) (keyless_spelled a ∙ e ∙ sym (keyless_spelled b))
+
+pub one_change : (bytes : List ℕ) (a b : Change) → Spells a bytes → Spells b bytes → a ≡ b
+one_change bytes a b p q = whole.one_spelling change_format change_exact a b p.0 q.0 (sym p.1 ∙ q.1)
 
 pub one_place : (bytes : List ℕ) (a b : ℕ) → StopsAt change_format bytes a → StopsAt change_format bytes b → a ≡ b
 one_place = whole.one_place change_format change_exact

@@ -4,3 +4,4 @@ pub mod Tags
 pub mod Formats
 pub mod Reading
 pub mod Place
+pub mod Limits

@@ -3,6 +3,7 @@
 #![tactic(auto)]
 
 mod entries;
+pub mod laws;
 mod order;
 mod parts;
 mod programs;
@@ -12,6 +13,9 @@ mod snapshot;
 pub mod spelling;
 mod tag;
 
-pub use reading::{one_place, one_spelling, read_change};
+pub use laws::{
+    changes_are_short, no_spelling_is_empty, one_change, one_place, one_spelling, small_changes,
+};
+pub use reading::read_change;
 pub use refusal::ChangeRefusal;
 pub use spelling::spell_change;

@@ -1,7 +1,7 @@
 //! What bytes are read as.
-ghost use Rattle.std.specs.Prelude.{◌≡◌, ◌≤◌, ℕ, List, length, IfOk, IfErr, MatchResult};
+ghost use Rattle.std.specs.Prelude.{◌≡◌, length, IfOk, IfErr, MatchResult};
 ghost use Rattle.byte_formats.specs.Reading.{Gives};
-ghost use Rattle.byte_formats.specs.Format.{StopsAt, all_of};
+ghost use Rattle.byte_formats.specs.Format.{all_of};
 ghost use Rattle.catalog_types.specs.declared.change.Change.{Change};
 ghost use Rattle.record_codec.specs.Spelling.{change_spelling, HasChangeSpelling, keyless};
 ghost use Rattle.record_codec.specs.Formats.{change_tag, change_format};
@@ -34,18 +34,6 @@ pub fn read_change(alloc: Global, bytes: &[u8]) -> Result<Change, ChangeRefusal>
 {
     read(alloc, bytes)
 }
-
-/// No two changes have one spelling, but for the keys of entries.
-pub fn one_spelling()
-    ensures { (a b : Change) → HasChangeSpelling a → HasChangeSpelling b
-        → change_spelling a ≡ change_spelling b → keyless a ≡ keyless b }
-{}
-
-/// Bytes have one place at which reading stops.
-pub fn one_place()
-    ensures { (bytes : List ℕ) (a b : ℕ) → StopsAt change_format bytes a → StopsAt change_format bytes b
-        → a ≡ b }
-{}
 
 fn read(alloc: Global, bytes: &[u8]) -> Result<Change, ChangeRefusal>
     ensures { Reads result (all_of change_format bytes.now) (length bytes.now) }
