@@ -1,5 +1,5 @@
 -- The lines of an answer: which they are, and that they are short.
-use Rattle.std.proofs.Common.{◌≡◌, ℕ, ◌+◌, ◌*◌, ◌-◌, ◌^◌, ◌<◌, ◌≤◌, Bool, [], ◌∷◌, ◌++◌, codes, decimal, List, map, get_or, zero, suc, length, subst, sym, ap, ◌∙◌, add-one, length-append, arith}
+use Rattle.std.proofs.Common.{◌≡◌, ℕ, ◌+◌, ◌*◌, ◌-◌, ◌^◌, ◌<◌, ◌≤◌, [], ◌∷◌, ◌++◌, codes, decimal, List, map, get_or, suc, length, subst, sym, ap, ◌∙◌, add-one, append_assoc, length-append, arith}
 use Rattle.std.specs.List.{flat_map}
 use Rattle.std.proofs.lemmas.Fmt.{length-decimal-le}
 use Rattle.std.proofs.lemmas.List.{get_or-map, get_or_append_left, get_or-append_right, length-map}
@@ -62,3 +62,7 @@ ids_are_short (id ∷ ids) small =
 -- words and such numbers
 pub IsShort-ids : (words ids : List ℕ) → length words ≤ 20 → length ids ≤ 4096 → length (ids_text ids) ≤ 4 + 11 * length ids → IsShort (words ++ ids_text ids)
 IsShort-ids words ids few_words few short = omega (arith, length-append (words ++ ids_text ids) (10 ∷ []), length-append words (ids_text ids), few_words, few, short)
+
+-- words and three texts, each with the byte behind it, appended one after another
+pub in_parts : (old words first second third start a b c d : List ℕ) → start ≡ old → a ≡ start ++ words → b ≡ a ++ (first ++ 32 ∷ []) → c ≡ b ++ (second ++ 32 ∷ []) → d ≡ c ++ (third ++ 10 ∷ []) → d ≡ old ++ (words ++ (first ++ 32 ∷ (second ++ 32 ∷ (third ++ 10 ∷ []))))
+in_parts old words first second third start a b c d e0 e1 e2 e3 e4 = rw (e4, e3, e2, e1, e0) (simp append_assoc)

@@ -1,5 +1,5 @@
 -- A line spells a run, or one with a plan that is too large, exactly where it is read so.
-use Rattle.std.proofs.Common.{◌≡◌, ℕ, List, [], ◌∷◌, ◌++◌, codes, Option, Some, None, Ok, Err, option_and_then, refl, sym, ap, ◌∙◌, subst}
+use Rattle.std.proofs.Common.{◌≡◌, ℕ, List, ◌∷◌, ◌++◌, codes, Option, Some, None, Ok, Err, option_and_then, refl, sym, ap, ◌∙◌, subst}
 use Rattle.std.specs.Prelude.{⊤}
 use Rattle.plan_grammar.specs.PlainNamed.{PlainTree}
 use Rattle.plan_grammar.specs.declared.limit.PlanLimit.{PlanLimit}
@@ -10,9 +10,8 @@ use Rattle.script_text.specs.Dispatch.{behind_or, command_of, stream_command, li
 use Rattle.script_text.specs.RunLine.{limit_of, run_with, run_of_text, run_named, run_of_parts, run_of}
 use Rattle.script_text.specs.Spelled.{Spelled, or_syntax}
 use Rattle.script_text.specs.Spelling.{SpellsRunOf}
-use Rattle.script_text.specs.StreamLine.{Parts, parts_at, closed_columns, stream_with, stream_of_parts, stream_of}
+use Rattle.script_text.specs.StreamLine.{Parts, parts_at, closed_columns, stream_with, stream_of_parts}
 use Rattle.script_text.specs.Words.{trimmed, behind_word, only_name}
-use Rattle.script_text.specs.declared.answer.LimitKind.{LimitKind}
 use Rattle.script_text.specs.declared.answer.Refusal.TheVariants.{Limit, Syntax}
 use Rattle.script_text.specs.declared.item.Command.TheVariants.{Stream, Append, Run}
 use Rattle.script_text.proofs.Spellings.{trimmed-spaces, trimmed-whole, parts_at-first, parts_at-whole}

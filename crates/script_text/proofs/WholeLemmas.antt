@@ -1,5 +1,5 @@
--- Each command that a script spells has a column or a row line.
-use Rattle.std.proofs.Common.{◌≡◌, ℕ, ◌<◌, true, false, cond, ◌||◌, List, [], ◌∷◌, ◌++◌, length, codes, Option, Some, None, Ok, Err, IfOk, option_to_list, option_and_then, subst, arith}
+-- Each command that a script spells has a column, a row line, or a plan within the limits.
+use Rattle.std.proofs.Common.{◌≡◌, ℕ, ◌<◌, true, false, cond, ◌||◌, List, [], ◌∷◌, ◌++◌, length, codes, Option, Some, None, Ok, Err, IfOk, option_to_list, option_and_then, refl, subst, arith}
 use Rattle.std.specs.List.{slice_split, AllByRecursion}
 use Rattle.std.specs.Prelude.{⊤}
 use Rattle.std.proofs.lemmas.List.Splits.{length-slice_split}
@@ -9,7 +9,9 @@ use Rattle.script_text.specs.StreamLine.{is_mark, Parts, parts_at, column_of, co
 use Rattle.script_text.specs.Dispatch.{behind_or, stream_command, command_of, line_command}
 use Rattle.script_text.specs.RunLine.{run_with, run_of_text, run_named, run_of_parts, run_of}
 use Rattle.script_text.specs.Spelled.{Spelled, or_syntax}
+use Rattle.plan_grammar.specs.Counts.{IsWithinLimits}
 use Rattle.plan_parser.specs.Answer.{TextReading, AsPlan, AsTooLarge, AsNone, text_reading}
+use Rattle.plan_parser.proofs.WholePlans.{reading_plan}
 use Rattle.script_text.specs.Script.{Block, block_limit, line_limit, spelled_item, append_with, command_item, is_end, line_item, line_block, unended_item, no_items, last_items, items_of_lines, is_newline, items_by, items, all_items, IsWhole, IsWholeItem}
 use Rattle.script_text.specs.declared.answer.LimitKind.{LimitKind}
 use Rattle.script_text.specs.declared.answer.Refusal.TheVariants.{Syntax}
@@ -65,14 +67,25 @@ IsWhole-or_syntax : (command : Option Command) → IsWholeIfAny command → IfOk
 IsWhole-or_syntax (Some command) whole = whole
 IsWhole-or_syntax None whole = tt
 
-IsWhole-run_with : (name : List ℕ) (reading : TextReading) → IfOk (run_with name reading) IsWhole
-IsWhole-run_with name (AsPlan plan) = tt
-IsWhole-run_with name (AsTooLarge what) = tt
-IsWhole-run_with name AsNone = tt
+-- what a text is read as is within the limits
+abbrev IsWithin : TextReading → Type 0
+IsWithin (AsPlan plan) = IsWithinLimits plan
+IsWithin (AsTooLarge what) = ⊤
+IsWithin AsNone = ⊤
+
+IsWithin-text : (text : List ℕ) (reading : TextReading) → text_reading text ≡ reading → IsWithin reading
+IsWithin-text text (AsPlan plan) is = (reading_plan text plan is).1
+IsWithin-text text (AsTooLarge what) is = tt
+IsWithin-text text AsNone is = tt
+
+IsWhole-run_with : (name : List ℕ) (reading : TextReading) → IsWithin reading → IfOk (run_with name reading) IsWhole
+IsWhole-run_with name (AsPlan plan) within = within
+IsWhole-run_with name (AsTooLarge what) within = tt
+IsWhole-run_with name AsNone within = tt
 
 IsWhole-run_of_text : (name text : List ℕ) → IfOk (run_of_text name text) IsWhole
 unfolding run_of_text
-IsWhole-run_of_text name text = IsWhole-run_with name (text_reading text)
+IsWhole-run_of_text name text = IsWhole-run_with name (text_reading text) (IsWithin-text text (text_reading text) refl)
 
 IsWhole-named : (name : Option (List ℕ)) (text : List ℕ) → IfOk (run_named name text) IsWhole
 IsWhole-named (Some name) text = IsWhole-run_of_text name text

@@ -1,11 +1,13 @@
 -- The text of an answer.
 use Rattle.std.specs.Prelude.{ℕ, ◌≤◌, length, All, Bool, false, if◌then◌else◌, List, [], ◌∷◌, ◌++◌, codes, decimal, flat_map, map, ⊤}
 use Rattle.rows_core.specs.declared.value.Value.{Value}
+use Rattle.hex.specs.Hex.{encode_lower}
+use Rattle.rows_core.specs.declared.file_ref.Digest.{Digest}
 use Rattle.row_text.specs.RowSpelling.{row_spelling}
 use Rattle.script_text.specs.declared.answer.LimitKind.{LimitKind}
-use Rattle.script_text.specs.declared.answer.LimitKind.TheVariants.{Line, Block, Nodes, Wide, Expr, Text, Columns, Streams, Extents, AllExtents, Machine}
+use Rattle.script_text.specs.declared.answer.LimitKind.TheVariants.{Line, Block, Nodes, Wide, Expr, Text, Extent, Columns, Streams, Extents, AllExtents, PlanText, Programs, Files, Commands, Machine}
 use Rattle.script_text.specs.declared.answer.Refusal.{Refusal}
-use Rattle.script_text.specs.declared.answer.Refusal.TheVariants.{Limit, Syntax, Unknown, Exists, IllTyped, Row, Overflow, Memory}
+use Rattle.script_text.specs.declared.answer.Refusal.TheVariants.{Limit, Syntax, Unknown, Exists, IllTyped, Row, Fault, Damaged, Unreadable, Overflow, Memory}
 use Rattle.script_text.specs.declared.answer.Answer.{Answer}
 use Rattle.script_text.specs.declared.answer.Answer.TheVariants.{Ok, Held, Result, Refused}
 
@@ -17,11 +19,20 @@ limit_text Nodes = codes "nodes 40"
 limit_text Wide = codes "wide 8"
 limit_text Expr = codes "expr 512"
 limit_text Text = codes "text 1000"
+limit_text Extent = codes "extent 16777216"
 limit_text Columns = codes "columns 32"
 limit_text Streams = codes "streams 1024"
 limit_text Extents = codes "extents 65535"
 limit_text AllExtents = codes "allextents 262144"
+limit_text PlanText = codes "plantext 65536"
+limit_text Programs = codes "programs 1024"
+limit_text Files = codes "files 4294967295"
+limit_text Commands = codes "commands 4294967295"
 limit_text Machine = codes "machine 4294967295"
+
+-- two digests, with one space between them, each in 64 hexadecimal digits
+abbrev pub digests_text : Digest → Digest → List ℕ
+digests_text kept found = encode_lower kept.bytes ++ 32 ∷ encode_lower found.bytes
 
 abbrev pub refusal_line : Refusal → List ℕ
 refusal_line (Limit kind) = codes "refused limit " ++ limit_text kind
@@ -30,6 +41,9 @@ refusal_line (Unknown name) = codes "refused unknown " ++ name
 refusal_line (Exists name) = codes "refused exists " ++ name
 refusal_line IllTyped = codes "refused type"
 refusal_line (Row number) = codes "refused row " ++ decimal number
+refusal_line Fault = codes "refused fault"
+refusal_line (Damaged file kept found) = codes "refused damaged " ++ decimal file ++ 32 ∷ digests_text kept found
+refusal_line (Unreadable file at) = codes "refused unreadable " ++ decimal file ++ 32 ∷ decimal at
 refusal_line Overflow = codes "refused overflow"
 refusal_line Memory = codes "refused memory"
 

@@ -1,6 +1,7 @@
 -- What a script spells: its commands, as functions of whole texts that go line by line.
 use Rattle.std.specs.Prelude.{◌≡◌, ℕ, ◌+◌, ◌<◌, Bool, ◌&&◌, ◌||◌, ◌==◌, nat_le, if◌then◌else◌, List, [], ◌∷◌, ◌++◌, length, sum_by, Option, Some, None, Ok, Err, option_to_list, codes, bytes_eq, ◌⊎◌, ⊤}
 use Rattle.std.specs.List.{slice_split, list_all}
+use Rattle.plan_grammar.specs.Counts.{IsWithinLimits}
 use Rattle.script_text.specs.Words.{is_skipped, begins_block, head_name}
 use Rattle.script_text.specs.Dispatch.{line_command}
 use Rattle.script_text.specs.Spelled.{Spelled, or_syntax}
@@ -132,11 +133,11 @@ pub record Completes (text : List ℕ) (given : Item) : Type 0 where
   pub goes_on : (more : List ℕ) → items (text ++ more) ≡ spelled ∷ items more
   pub ends : (more : List ℕ) → all_items (text ++ more) ≡ spelled ∷ all_items more
 
--- a stream has one column or more, and an append one row line or more
+-- a stream has one column or more, an append one row line or more, and the plan of a run passes no limit of plans as written
 abbrev pub IsWhole : Command → Type 0
 IsWhole (Stream name columns) = 0 < length columns
 IsWhole (Append name lines) = 0 < length lines
-IsWhole (Run name plan) = ⊤
+IsWhole (Run name plan) = IsWithinLimits plan
 
 abbrev pub IsWholeItem : Item → Type 0
 IsWholeItem (item.Command command) = IsWhole command

@@ -4,10 +4,11 @@ ghost use Rattle.std.specs.Prelude.{OnErr, IsOk, slice_index_or, [], decimal};
 ghost use Rattle.script_text.specs.Answer.{answer_lines, refusal_line, limit_text, printed_line};
 ghost use Rattle.script_text.specs.AnswerLine.{line_text};
 
+use crate::file_lines::{print_damage, print_place};
 use crate::line_of_answer::{AnswerLine, line_of};
 use crate::long_lines::{print_ids, print_row_line};
 use itoa::Buffer;
-use rows_core::{Memory, Name, Row, Seq};
+use rows_core::{Digest, Memory, Name, Row, Seq};
 
 /// What a command has more of than it may. Each has its word and its number in the answer's line.
 #[derive(Clone, Copy, Debug, PartialEq, Eq)]
@@ -24,6 +25,8 @@ pub enum LimitKind {
     Expr,
     /// `text 1000`: the bytes of a text in a row.
     Text,
+    /// `extent 16777216`: the bytes of the file of an append's rows.
+    Extent,
     /// `columns 32`: the columns of a stream or of an operator's rows, the keys of an order, or the pairs of
     /// a join.
     Columns,
@@ -33,6 +36,14 @@ pub enum LimitKind {
     Extents,
     /// `allextents 262144`: the extents of all streams.
     AllExtents,
+    /// `plantext 65536`: the bytes of the canonical text of a plan.
+    PlanText,
+    /// `programs 1024`: the names that stand for a plan.
+    Programs,
+    /// `files 4294967295`: the numbers of extent and result files that were ever given.
+    Files,
+    /// `commands 4294967295`: the recorded commands of the folder's life.
+    Commands,
     /// `machine 4294967295`: the machine time of a plan, which is 1 and the rows that its operators take in.
     Machine,
 }
@@ -53,6 +64,26 @@ pub enum Refusal {
     /// `refused row K`: this row line, counted from 1, is the first that spells no row of the stream's
     /// schema.
     Row(u64),
+    /// `refused fault`: the folder failed while a file was read.
+    Fault,
+    /// `refused damaged FILE KEPT FOUND`: the digest that is kept of this file isn't that of the bytes that
+    /// were found. Each digest has 64 hexadecimal digits in lower case.
+    Damaged {
+        /// The number of the file.
+        file: u64,
+        /// The digest of the bytes that were written.
+        kept: Digest,
+        /// The digest of the bytes that were found.
+        found: Digest,
+    },
+    /// `refused unreadable FILE AT`: the bytes of this file, whose digest is the one that is kept, spell no
+    /// rows of its columns.
+    Unreadable {
+        /// The number of the file.
+        file: u64,
+        /// The place of the first byte that doesn't fit.
+        at: u64,
+    },
     /// `refused overflow`: an operator of the plan meets an overflow.
     Overflow,
     /// `refused memory`: memory was asked for and refused.
@@ -142,6 +173,9 @@ fn print_refusal(refusal: &Refusal, to: &mut Vec<u8>) -> Result<(), Memory>
         Refusal::Exists(name) => append_line(to, b"refused exists ", name.bytes()),
         Refusal::IllTyped => append_line(to, b"refused ", b"type"),
         Refusal::Row(number) => append_number_line(to, b"refused row ", *number),
+        Refusal::Fault => append_line(to, b"refused ", b"fault"),
+        Refusal::Damaged { file, kept, found } => print_damage(*file, kept, found, to),
+        Refusal::Unreadable { file, at } => print_place(*file, *at, to),
         Refusal::Overflow => append_line(to, b"refused ", b"overflow"),
         Refusal::Memory => append_line(to, b"refused ", b"memory"),
     }
@@ -158,10 +192,15 @@ fn limit_text(kind: LimitKind) -> &'static [u8]
         LimitKind::Wide => b"wide 8",
         LimitKind::Expr => b"expr 512",
         LimitKind::Text => b"text 1000",
+        LimitKind::Extent => b"extent 16777216",
         LimitKind::Columns => b"columns 32",
         LimitKind::Streams => b"streams 1024",
         LimitKind::Extents => b"extents 65535",
         LimitKind::AllExtents => b"allextents 262144",
+        LimitKind::PlanText => b"plantext 65536",
+        LimitKind::Programs => b"programs 1024",
+        LimitKind::Files => b"files 4294967295",
+        LimitKind::Commands => b"commands 4294967295",
         LimitKind::Machine => b"machine 4294967295",
     }
 }

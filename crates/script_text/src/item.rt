@@ -16,7 +16,7 @@ pub enum Command {
     /// Appends rows to a stream. There is one row line or more, as written and without its LF, blank ones
     /// too.
     Append { name: Name, lines: Seq<Text> },
-    /// Runs a plan, which then goes by the name.
+    /// Runs a plan, which then goes by the name. It passes no limit of plans as written.
     Run { name: Name, plan: NamedPlan },
 }
 
@@ -29,7 +29,8 @@ pub enum Item {
     Refused(Refusal),
 }
 
-/// Each stream that a script spells has one column or more, and each append one row line or more.
+/// Each stream that a script spells has one column or more, each append one row line or more, and the plan of
+/// each run passes no limit of plans as written.
 pub fn commands_are_whole()
     ensures front { (bytes : List ℕ) → AllByRecursion IsWholeItem (items bytes) }
     ensures all { (bytes : List ℕ) → AllByRecursion IsWholeItem (all_items bytes) }

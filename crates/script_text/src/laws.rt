@@ -2,11 +2,14 @@
 ghost use Rattle.std.specs.Prelude.{◌≡◌, ◌+◌, ◌*◌, ◌<◌, ◌≤◌, [], length, decimal, slice_index_or};
 ghost use Rattle.script_text.specs.Answer.{IsNarrow, IsShort, answer_lines, ids_text, refusal_line};
 ghost use Rattle.script_text.specs.AnswerLine.{IsNarrowLine, line_text};
+ghost use Rattle.script_text.specs.declared.answer.Refusal.TheVariants.{Damaged, Unreadable};
+ghost use Rattle.hex.specs.Hex.{encode_lower};
 
 use crate::answer::{Answer, Refusal};
+use crate::file_lines::hex_of;
 use crate::line_of_answer::{AnswerLine, line_of};
 use row_text::row_is_short;
-use rows_core::Name;
+use rows_core::{Digest, Name};
 
 /// The line of this number, from 0, of a narrow answer has at most 65,536 bytes with its LF. It reads what
 /// the line tells, and does nothing else.
@@ -40,12 +43,36 @@ fn refusal_is_short(refusal: &Refusal)
     match refusal {
         Refusal::Unknown(name) | Refusal::Exists(name) => name_is_short(name),
         Refusal::Row(number) => number_is_short(*number),
+        Refusal::Damaged { file, kept, found } => damage_is_short(*file, kept, found),
+        Refusal::Unreadable { file, at } => place_is_short(*file, *at),
         Refusal::Limit(_)
         | Refusal::Syntax
         | Refusal::IllTyped
+        | Refusal::Fault
         | Refusal::Overflow
         | Refusal::Memory => {}
     }
+}
+
+fn damage_is_short(file: u64, kept: &Digest, found: &Digest)
+    ensures { IsShort (refusal_line (Damaged file kept.now found.now)) }
+{
+    number_is_short(file);
+    digest_is_short(kept);
+    digest_is_short(found);
+}
+
+fn place_is_short(file: u64, at: u64)
+    ensures { IsShort (refusal_line (Unreadable file at)) }
+{
+    number_is_short(file);
+    number_is_short(at);
+}
+
+fn digest_is_short(digest: &Digest)
+    ensures { length (encode_lower digest.now.bytes) ≡ 64 }
+{
+    let _ = hex_of(digest);
 }
 
 fn name_is_short(name: &Name)

@@ -4,6 +4,7 @@
 pub mod answer;
 mod block;
 mod dispatch;
+mod file_lines;
 pub mod item;
 pub mod laws;
 mod line;
