@@ -1,10 +1,11 @@
-//! Cases of the extent files, the log, and the store, source and sink in memory: a case a line on standard
-//! input, and on standard output a line for each, what it gives. A case is the word of its subject and then
-//! its arguments, words with a space between them, bytes in hex and `-` for none. A line that is empty or
-//! begins with `#` is no case.
+//! Cases of the extent files, the log, the journal, and the store, source and sink in memory: a case a line
+//! on standard input, and on standard output a line for each, what it gives. A case is the word of its
+//! subject and then its arguments, words with a space between them, bytes in hex and `-` for none. A line
+//! that is empty or begins with `#` is no case.
 #![tactic(auto)]
 
 mod files;
+mod journals;
 mod logs;
 mod streams;
 mod words;
@@ -35,6 +36,9 @@ fn answer(alloc: Global, case: &str) -> Result<String> {
         "committed" => logs::committed(alloc, arguments),
         "reading" => logs::reading(alloc, arguments),
         "stop" => logs::stop(alloc, arguments),
+        "load" => journals::load(alloc, arguments),
+        "commit" => journals::commit(alloc, arguments),
+        "journal_stop" => journals::stop(alloc, arguments),
         "digest" => files::digest(alloc, arguments),
         "front" => files::front(alloc, arguments),
         "dropped" => files::dropped(alloc, arguments),

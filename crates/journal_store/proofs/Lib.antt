@@ -1,0 +1,5 @@
+pub mod Committing
+pub mod LoadingLemmas
+pub mod MakingLemmas
+pub mod Numbers
+pub mod OneReading

@@ -1,0 +1,4 @@
+pub mod Journals
+pub mod Making
+pub mod Readings
+pub mod Refusals

@@ -1,0 +1,286 @@
+//! Journals in a store.
+ghost use Rattle.std.specs.Prelude.{◌≡◌, ◌⊎◌, ℕ, ◌+◌, ◌^◌, ◌<◌, ◌≤◌, List, [], ◌∷◌, ◌++◌, length, take};
+ghost use Rattle.std.specs.Prelude.{drop, IsTrue, IfOk, IsErrOf, OnOk, OnErr};
+ghost use Rattle.std.specs.List.{All};
+ghost use Rattle.outside_traits.specs.Counts.{Rose};
+ghost use Rattle.outside_traits.specs.View.{Now, Only};
+ghost use Rattle.outside_traits.specs.Calls.{CountsTaken, MayRaiseWrites, Rises};
+ghost use Rattle.outside_traits.specs.Runs.{Touches, ChangesOnly, Spans, Narrows};
+ghost use Rattle.gated_log.specs.Logs.{front, sealed, contents, IsBody, Reads, StopsAt};
+ghost use Rattle.gated_log.specs.Stands.{file_of, IsBeforeOrAfter};
+ghost use Rattle.journal_store.specs.Readings.{
+  generation_file,
+  generations,
+  IsJournalFile,
+  IsUnfinished,
+  IsMade,
+  HaveBodies,
+  StopsReading,
+};
+ghost use Rattle.journal_store.specs.Making.{AreStable, IsLoading};
+
+use crate::making::{GENERATION_0, make_behind, make_short, root_is_short};
+use crate::refusal::{JournalRefusal, in_file};
+use crate::root::generation_in_use;
+use gated_log::Log;
+use outside_traits::{Failed, Store};
+use std::alloc::Global;
+
+/// The generation in use, and its log.
+#[derive(Drop)]
+pub struct Journal {
+    generation: u64,
+    log: Log,
+    ghost in_range: { generation < 2 ^ 63 },
+    ghost is_file: { file_of log ≡ generation_file generation },
+}
+
+impl Journal {
+    ghost use Rattle.journal_store.specs.Journals.{
+      generation_of,
+      end_of,
+      Keeps,
+      HaveBeforeOrAfter,
+    };
+
+    /// Loads the journal: its bodies, and what it takes to add further ones. Where its making isn't
+    /// finished it is made, and has none. `NotAStore` comes exactly where the files are no journal, with the
+    /// first byte where reading stops, and leaves each file as it was. `Fault` comes only where the store
+    /// failed. The root and the log are read once each.
+    pub fn load<D: Store>(
+        alloc: Global,
+        store: &mut D,
+    ) -> Result<(Journal, Vec<Vec<u8>>), JournalRefusal>
+        ensures end { IfOk result (λ r. end_of r.0 ≡ length (front (contents r.1.items)) + 1) }
+        ensures bound { IfOk result (λ r. end_of r.0 < 2 ^ 63) }
+        ensures sizes { IfOk result (λ r. All IsBody (contents r.1.items)) }
+        ensures reading { IsTrue D.tells → IfOk result
+            (λ r. HaveBodies (D.view store.old).files (generation_of r.0) (contents r.1.items)) }
+        ensures keeps { IsTrue D.tells
+            → IfOk result (λ r. Keeps (D.view store.new) r.0 (generation_of r.0) (contents r.1.items)) }
+        ensures stable { IsTrue D.tells
+            → IfOk result (λ r. AreStable (D.view store.new) (generation_of r.0)) }
+        ensures crash { IsTrue D.tells
+            → Spans IsJournalFile (IsLoading (D.view store.old)) (D.view store.old) (D.view store.new) }
+        // Where the making is finished no file is changed, nor before `NotAStore`.
+        ensures finished { IsTrue D.tells → (IsUnfinished ((D.view store.old).files 0) → ⊥)
+            → Narrows (D.view store.old) (D.view store.new) }
+        ensures unchanged { (file at : ℕ) → IsErrOf result (JournalRefusal.NotAStore file at)
+            → Narrows (D.view store.old) (D.view store.new) }
+        ensures not_a_store { IsTrue D.tells → (file at : ℕ)
+            → IsErrOf result (JournalRefusal.NotAStore file at)
+            → StopsReading (D.view store.old).files file at }
+        // What has bodies is a store, and what stops is answered with its place, unless a fault or want of
+        // memory comes first.
+        ensures store { IsTrue D.tells → (generation : ℕ) (bodies : List (List ℕ))
+            → HaveBodies (D.view store.old).files generation bodies
+            → (file at : ℕ) → IsErrOf result (JournalRefusal.NotAStore file at) → ⊥ }
+        ensures exactly { IsTrue D.tells → (file at : ℕ) → StopsReading (D.view store.old).files file at
+            → OnOk result ⊥ }
+        ensures place { IsTrue D.tells → (file at g b : ℕ) → StopsReading (D.view store.old).files file at
+            → IsErrOf result (JournalRefusal.NotAStore g b) → (g ≡ file) × (b ≡ at) }
+        ensures cause { IsErrOf result JournalRefusal.Fault
+            → Rose (D.counts store.old).reads (D.counts store.new).reads
+            ⊎ Rose (D.counts store.old).writes (D.counts store.new).writes }
+        ensures no_fault { OnOk result
+            (((D.counts store.new).reads ≡ (D.counts store.old).reads)
+            × ((D.counts store.new).writes ≡ (D.counts store.old).writes)) }
+        ensures taken { IsTrue D.tells → IfOk result (λ r.
+            IsMade (D.view store.old).files (generation_of r.0) (contents r.1.items)
+            → CountsTaken (length ((D.view store.old).files 0)
+            + length ((D.view store.old).files (generation_file (generation_of r.0))))
+            (D.counts store.old) (D.counts store.new)) }
+        ensures root_taken { IsTrue D.tells → 9 < length ((D.view store.old).files 0)
+            → Reads [] ((D.view store.old).files 0)
+            → OnOk result (CountsTaken (length ((D.view store.old).files 0))
+            (D.counts store.old) (D.counts store.new)) }
+        ensures none_taken { IsTrue D.tells → length ((D.view store.old).files 0) ≤ 9
+            → (D.counts store.new).taken ≡ (D.counts store.old).taken }
+        // Never are more bytes taken than those of the root and of the log that it names.
+        ensures most_taken { IsTrue D.tells → (n : ℕ)
+            → ((generation : ℕ) → Reads (generations generation) ((D.view store.old).files 0)
+            → length ((D.view store.old).files (generation_file generation)) ≤ n)
+            → (D.counts store.new).taken
+            ≤ (D.counts store.old).taken + length ((D.view store.old).files 0) + n }
+        ensures counts { Rises (D.counts store.old) (D.counts store.new) }
+        ensures removes { (D.counts store.new).removes ≡ (D.counts store.old).removes }
+    {
+        let short = root_is_short(store)?;
+        if short {
+            let log = make_short(store)?;
+            return Ok((Journal { generation: 0, log }, Vec::new(alloc)));
+        }
+        Journal::load_long(alloc, store)
+    }
+
+    // Loads the journal whose root is longer than an empty log.
+    fn load_long<D: Store>(
+        alloc: Global,
+        store: &mut D,
+    ) -> Result<(Journal, Vec<Vec<u8>>), JournalRefusal>
+        ensures end { IfOk result (λ r. end_of r.0 ≡ length (front (contents r.1.items)) + 1) }
+        ensures bound { IfOk result (λ r. end_of r.0 < 2 ^ 63) }
+        ensures sizes { IfOk result (λ r. All IsBody (contents r.1.items)) }
+        ensures reading { IsTrue D.tells → IfOk result
+            (λ r. HaveBodies (D.view store.old).files (generation_of r.0) (contents r.1.items)) }
+        ensures keeps { IsTrue D.tells
+            → IfOk result (λ r. Keeps (D.view store.new) r.0 (generation_of r.0) (contents r.1.items)) }
+        ensures stable { IsTrue D.tells
+            → IfOk result (λ r. AreStable (D.view store.new) (generation_of r.0)) }
+        ensures crash { IsTrue D.tells
+            → Spans IsJournalFile (IsLoading (D.view store.old)) (D.view store.old) (D.view store.new) }
+        ensures finished { IsTrue D.tells → (IsUnfinished ((D.view store.old).files 0) → ⊥)
+            → Narrows (D.view store.old) (D.view store.new) }
+        ensures unchanged { (file at : ℕ) → IsErrOf result (JournalRefusal.NotAStore file at)
+            → Narrows (D.view store.old) (D.view store.new) }
+        ensures not_a_store { IsTrue D.tells → 9 < length ((D.view store.old).files 0) → (file at : ℕ)
+            → IsErrOf result (JournalRefusal.NotAStore file at)
+            → StopsReading (D.view store.old).files file at }
+        ensures cause { IsErrOf result JournalRefusal.Fault
+            → Rose (D.counts store.old).reads (D.counts store.new).reads
+            ⊎ Rose (D.counts store.old).writes (D.counts store.new).writes }
+        ensures no_fault { OnOk result
+            (((D.counts store.new).reads ≡ (D.counts store.old).reads)
+            × ((D.counts store.new).writes ≡ (D.counts store.old).writes)) }
+        ensures taken { IsTrue D.tells → IfOk result (λ r.
+            IsMade (D.view store.old).files (generation_of r.0) (contents r.1.items)
+            → CountsTaken (length ((D.view store.old).files 0)
+            + length ((D.view store.old).files (generation_file (generation_of r.0))))
+            (D.counts store.old) (D.counts store.new)) }
+        ensures root_taken { IsTrue D.tells → Reads [] ((D.view store.old).files 0)
+            → OnOk result (CountsTaken (length ((D.view store.old).files 0))
+            (D.counts store.old) (D.counts store.new)) }
+        ensures most_taken { IsTrue D.tells → (n : ℕ)
+            → ((generation : ℕ) → Reads (generations generation) ((D.view store.old).files 0)
+            → length ((D.view store.old).files (generation_file generation)) ≤ n)
+            → (D.counts store.new).taken
+            ≤ (D.counts store.old).taken + length ((D.view store.old).files 0) + n }
+        ensures counts { Rises (D.counts store.old) (D.counts store.new) }
+        ensures removes { (D.counts store.new).removes ≡ (D.counts store.old).removes }
+    {
+        let (root, roots) = match Log::read(alloc, store, 0) {
+            Ok(read) => read,
+            Err(refusal) => return Err(in_file(0, refusal)),
+        };
+        if roots.is_empty() {
+            let log = make_behind(store, root)?;
+            return Ok((Journal { generation: 0, log }, Vec::new(alloc)));
+        }
+        let generation = generation_in_use(&roots)?;
+        Journal::load_generation(alloc, store, generation)
+    }
+
+    // Reads the log of the generation in use. No file is changed.
+    fn load_generation<D: Store>(
+        alloc: Global,
+        store: &mut D,
+        generation: u64,
+    ) -> Result<(Journal, Vec<Vec<u8>>), JournalRefusal>
+        requires { generation < 2 ^ 63 }
+        ensures generation { IfOk result (λ r. generation_of r.0 ≡ generation) }
+        ensures end { IfOk result (λ r. end_of r.0 ≡ length (front (contents r.1.items)) + 1) }
+        ensures bound { IfOk result (λ r. end_of r.0 < 2 ^ 63) }
+        ensures sizes { IfOk result (λ r. All IsBody (contents r.1.items)) }
+        ensures bodies { IsTrue D.tells → IfOk result
+            (λ r. Reads (contents r.1.items) ((D.view store.old).files (generation_file generation))) }
+        ensures keeps { IsTrue D.tells
+            → ((x : List ℕ) → Now (D.view store.old) 0 x → Reads (generations generation) x)
+            → IfOk result (λ r. Keeps (D.view store.new) r.0 generation (contents r.1.items)) }
+        ensures stable { IsTrue D.tells → Only ((D.view store.old).files 0) (Now (D.view store.old) 0)
+            → OnOk result (AreStable (D.view store.new) generation) }
+        ensures not_a_store { IsTrue D.tells → (file at : ℕ)
+            → IsErrOf result (JournalRefusal.NotAStore file at)
+            → (file ≡ generation_file generation) × StopsAt at ((D.view store.old).files file) }
+        ensures cause { IsErrOf result JournalRefusal.Fault
+            → Rose (D.counts store.old).reads (D.counts store.new).reads
+            ⊎ Rose (D.counts store.old).writes (D.counts store.new).writes }
+        ensures no_fault { OnOk result
+            (((D.counts store.new).reads ≡ (D.counts store.old).reads)
+            × ((D.counts store.new).writes ≡ (D.counts store.old).writes)) }
+        ensures taken { IsTrue D.tells
+            → OnOk result (CountsTaken (length ((D.view store.old).files (generation_file generation)))
+            (D.counts store.old) (D.counts store.new)) }
+        ensures most_taken { IsTrue D.tells → (D.counts store.new).taken
+            ≤ (D.counts store.old).taken + length ((D.view store.old).files (generation_file generation)) }
+        ensures narrows { Narrows (D.view store.old) (D.view store.new) }
+        ensures counts { Rises (D.counts store.old) (D.counts store.new) }
+        ensures removes { (D.counts store.new).removes ≡ (D.counts store.old).removes }
+    {
+        let file = GENERATION_0 + generation;
+        match Log::read(alloc, store, file) {
+            Ok((log, bodies)) => Ok((Journal { generation, log }, bodies)),
+            Err(refusal) => Err(in_file(file, refusal)),
+        }
+    }
+
+    /// Adds a body. From the start of the call each crash leaves the bodies without the new one or with it,
+    /// and after `Ok` with it. `Failed` comes only where the store failed in a write or sync. It takes no
+    /// memory.
+    pub fn commit<D: Store>(self, store: &mut D, body: &[u8]) -> Result<Journal, Failed>
+        requires size { IsBody body.now }
+        requires room { end_of self + length body.now + 5 < 2 ^ 64 }
+        ensures generation { IfOk result (λ journal. generation_of journal ≡ generation_of self) }
+        ensures end { IfOk result (λ journal. end_of journal ≡ end_of self + length body.now + 5) }
+        ensures committed { IsTrue D.tells → (g : ℕ) (bodies : List (List ℕ))
+            → Keeps (D.view store.old) self g bodies
+            → IfOk result (λ journal. Keeps (D.view store.new) journal g (bodies ++ body.now ∷ [])) }
+        // The log's bodies, the new one, a closed gate 0, and what stood behind.
+        ensures bytes { IsTrue D.tells → (g : ℕ) (bodies : List (List ℕ))
+            → Keeps (D.view store.old) self g bodies
+            → OnOk result ((D.view store.new).files (generation_file g) ≡ sealed (bodies ++ body.now ∷ [])
+            (drop (end_of self + length body.now + 5) ((D.view store.old).files (generation_file g)))) }
+        ensures stable { IsTrue D.tells → (g : ℕ) (bodies : List (List ℕ))
+            → Keeps (D.view store.old) self g bodies → AreStable (D.view store.old) g
+            → OnOk result (AreStable (D.view store.new) g) }
+        ensures crash { IsTrue D.tells → (g : ℕ) (bodies : List (List ℕ))
+            → Keeps (D.view store.old) self g bodies
+            → Touches (generation_file g) (IsBeforeOrAfter bodies body.now)
+            (D.view store.old) (D.view store.new) }
+        ensures images { IsTrue D.tells → (g : ℕ) (bodies : List (List ℕ))
+            → Keeps (D.view store.old) self g bodies
+            → Spans IsJournalFile (λ image. HaveBeforeOrAfter image g bodies body.now)
+            (D.view store.old) (D.view store.new) }
+        ensures alone { ChangesOnly (generation_file (generation_of self))
+            (D.view store.old) (D.view store.new) }
+        ensures cause { OnErr result (Rose (D.counts store.old).writes (D.counts store.new).writes) }
+        ensures no_fault { OnOk result ((D.counts store.new).writes ≡ (D.counts store.old).writes) }
+        ensures counts { MayRaiseWrites (D.counts store.old) (D.counts store.new) }
+    {
+        let log = self.log.commit(store, body)?;
+        Ok(Journal {
+            generation: self.generation,
+            log,
+        })
+    }
+
+    /// Where body i begins in the log of these bodies.
+    pub fn place(bodies: &[Vec<u8>], i: usize) -> u64
+        requires in_range { i < length bodies.now }
+        requires fits { length (front (contents (take i bodies.now))) + 5 < 2 ^ 64 }
+        ensures { result ≡ length (front (contents (take i bodies.now))) + 5 }
+    {
+        Log::place(bodies, i)
+    }
+
+    /// The number of the generation in use.
+    pub fn generation(&self) -> u64
+        ensures { result ≡ generation_of self.now }
+    {
+        self.generation
+    }
+
+    /// The file of the generation in use.
+    pub fn file(&self) -> u64
+        ensures { result ≡ generation_file (generation_of self.now) }
+    {
+        GENERATION_0 + self.generation
+    }
+
+    /// The place after the last gate of the log in use.
+    pub fn end(&self) -> u64
+        ensures end { result ≡ end_of self.now }
+        ensures header { 9 ≤ result }
+    {
+        self.log.end()
+    }
+}
