@@ -1,0 +1,6 @@
+pub mod ByName
+pub mod Growth
+pub mod Kept
+pub mod Nested
+pub mod Places
+pub mod Texts

@@ -1,0 +1,23 @@
+-- What is said of a value that may be there, in an answer that may be want of memory.
+use Rattle.std.proofs.Common.{◌≡◌, Option, None, Some, Result, Ok, Err, IfOk, IfSome, IfNone, subst}
+
+pub ok-some : {A E : Type 0} {P Q : A → Type 0} (r : Result (Option A) E) → ((x : A) → P x → Q x) → IfOk r (λ found. IfSome found P) → IfOk r (λ found. IfSome found Q)
+ok-some (Ok (Some x)) f given = f x given
+ok-some (Ok None) f given = tt
+ok-some (Err e) f given = tt
+
+pub ok-none : {A E : Type 0} {P Q : Type 0} (r : Result (Option A) E) → (P → Q) → IfOk r (λ (found : Option A). IfNone found P) → IfOk r (λ (found : Option A). IfNone found Q)
+ok-none (Ok (Some x)) f given = tt
+ok-none (Ok None) f given = f given
+ok-none (Err e) f given = tt
+
+pub some-at : {A : Type 0} (P : A → Type 0) (found : Option A) (x : A) → found ≡ Some x → IfSome found P → P x
+some-at {A = A} P (Some y) x e given = subst P (some-injective y x e) given
+  where
+    some-injective : (y x : A) → Some y ≡ Some x → y ≡ x
+    some-injective y x e = cc
+some-at P None x e given = absurd (cc)
+
+pub none-at : {A : Type 0} (P : Type 0) (found : Option A) → found ≡ None → IfNone found P → P
+none-at P None e given = given
+none-at P (Some x) e given = absurd (cc)

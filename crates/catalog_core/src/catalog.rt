@@ -1,0 +1,376 @@
+//! The table in memory.
+ghost use Rattle.std.specs.Prelude.{◌≡◌, ◌↔◌, map, not, [], IsTrue};
+ghost use Rattle.catalog_core.specs.IsTable.{IsTable, IsTable-prop};
+ghost use Rattle.catalog_core.specs.Streams.{name_of, states_of};
+ghost use Rattle.catalog_core.specs.Table.{table_with, extent_count};
+
+use crate::columns::are_schema;
+use crate::program::is_program;
+use crate::programs::{has_room_for, store};
+use crate::refusal::CatalogRefusal;
+use crate::snapshot::{copy_entries, copy_programs, copy_streams};
+use crate::stream::CatalogStream;
+use catalog_types::{Change, Entry, Extent, Program, Snapshot};
+use indexmap::IndexSet;
+use rows_core::{Column, Memory, Name, Schema, Seq};
+use std::alloc::Global;
+use std::mem;
+
+/// The most ticks.
+const MAX_TICKS: u32 = 4_294_967_295;
+
+/// The number behind the last file's.
+const FILE_END: u64 = 4_294_967_296;
+
+/// The most streams.
+const MAX_STREAMS: usize = 1_024;
+
+/// The most extents of one stream.
+const MAX_EXTENTS: usize = 65_535;
+
+/// The most extents of all streams together.
+const MAX_ALL_EXTENTS: usize = 262_144;
+
+/// The most bytes of an extent's file.
+const MAX_EXTENT_BYTES: u64 = 16_777_216;
+
+/// The table, and room for the change that it was last prepared for.
+#[derive(Drop)]
+pub struct Catalog {
+    tick: u32,
+    next_file: u64,
+    next_id: u64,
+    /// In the order of making.
+    streams: Vec<CatalogStream>,
+    /// The names of the streams, in the same order.
+    names: IndexSet<Name>,
+    /// The extents of all streams.
+    extents: usize,
+    /// In the byte order of names.
+    programs: Vec<Program>,
+    /// By their ids. There are none yet.
+    entries: Vec<Entry>,
+    /// The name of the stream that is to be made next, for `names`.
+    spare_name: Option<Name>,
+    alloc: Global,
+    ghost named: { names.keys ≡ map name_of streams.items },
+    ghost counted: { extents ≡ extent_count (states_of streams.items) },
+    ghost sound: { IsTable (table_with tick next_file next_id (states_of streams.items)
+        programs.items entries.items) } by { IsTable-prop (table_with tick next_file next_id (states_of streams.items)
+            programs.items entries.items) },
+}
+
+impl Catalog {
+    ghost use Rattle.std.specs.Prelude.{◌<◌, ◌≤◌, IfSome, IfOk, OnOk, IsErrOf, length, vec_len, vec_capacity};
+    ghost use Rattle.catalog_types.specs.declared.change.Change.TheVariants as change;
+    ghost use Rattle.catalog_core.specs.Catalogs.{table_of, HasRoom, HasRoomForStream, HasRoomAt};
+    ghost use Rattle.catalog_core.specs.Catalogs.{HasRoomForProgram, IsReady};
+    ghost use Rattle.catalog_core.specs.Programs.{names_of, columns_of, with_program};
+    ghost use Rattle.catalog_core.specs.Streams as stream;
+    ghost use Rattle.catalog_core.specs.Table.{empty_table, place_of, most_ticks, Fits, FitsStream, FitsAppend};
+    ghost use Rattle.catalog_core.specs.Table.{IsNextExtent, HasPlaceForExtent, FitsProgram, after, with_tick};
+    ghost use Rattle.catalog_core.specs.Table.{with_programs, with_stored, most_programs};
+
+    /// The empty table.
+    pub fn new(alloc: Global) -> Catalog
+        ensures { table_of result ≡ empty_table }
+    {
+        Catalog {
+            tick: 0,
+            next_file: 1,
+            next_id: 1,
+            streams: Vec::new(alloc),
+            names: IndexSet::new(alloc),
+            extents: 0,
+            programs: Vec::new(alloc),
+            entries: Vec::new(alloc),
+            spare_name: None,
+            alloc,
+        }
+    }
+
+    /// How many commands were recorded.
+    pub fn tick(&self) -> u32
+        ensures { result ≡ (table_of self.now).tick }
+    {
+        self.tick
+    }
+
+    /// The number of the next extent or result file.
+    pub fn next_file(&self) -> u64
+        ensures { result ≡ (table_of self.now).next_file }
+    {
+        self.next_file
+    }
+
+    /// The id of the next kept result.
+    pub fn next_id(&self) -> u64
+        ensures { result ≡ (table_of self.now).next_id }
+    {
+        self.next_id
+    }
+
+    /// The streams in the order of making.
+    pub fn streams(&self) -> &[CatalogStream]
+        ensures states { states_of result.now ≡ (table_of self.now).streams }
+        ensures names { map name_of result.now ≡ names_of (table_of self.now).streams }
+        ensures columns { map stream.columns_of result.now ≡ columns_of (table_of self.now).streams }
+        ensures table { IsTable (table_of self.now) }
+    {
+        self.streams.as_slice()
+    }
+
+    /// The extents of all streams. They are counted as extents come, and not anew.
+    pub fn extent_count(&self) -> usize
+        ensures { result ≡ extent_count (table_of self.now).streams }
+    {
+        self.extents
+    }
+
+    /// The programs in the byte order of their names.
+    pub fn programs(&self) -> &[Program]
+        ensures { result.now ≡ (table_of self.now).programs }
+    {
+        self.programs.as_slice()
+    }
+
+    /// The kept results by their ids.
+    pub fn entries(&self) -> &[Entry]
+        ensures { result.now ≡ (table_of self.now).entries }
+    {
+        self.entries.as_slice()
+    }
+
+    /// The place of the stream with this name, which is found by an index of the names.
+    pub fn place_of(&self, name: &Name) -> Option<usize>
+        ensures place { result ≡ place_of (table_of self.now).streams name.now }
+        ensures bound { IfSome result (λ place. place < length (table_of self.now).streams) }
+    {
+        self.names.get_index_of(name)
+    }
+
+    /// A copy of the table.
+    pub fn snapshot(&self, alloc: Global) -> Result<Snapshot, Memory>
+        ensures { IfOk result (λ snapshot. snapshot ≡ table_of self.now) }
+    {
+        Ok(Snapshot {
+            tick: self.tick,
+            next_file: self.next_file,
+            next_id: self.next_id,
+            streams: copy_streams(alloc, self.streams.as_slice())?,
+            programs: copy_programs(alloc, self.programs.as_slice())?,
+            entries: copy_entries(alloc, self.entries.as_slice())?,
+        })
+    }
+
+    /// Takes all the memory that the change wants. `Misfit` exactly where the change doesn't fit, else
+    /// `Memory` where memory was asked for and refused. The table stays in each case.
+    pub fn prepare(&mut self, change: &Change) -> Result<(), CatalogRefusal>
+        ensures same { table_of self.new ≡ table_of self.old }
+        ensures ready { OnOk result (IsReady self.new change.now) }
+        ensures fits { OnOk result (Fits change.now (table_of self.old)) }
+        ensures misfit { IsErrOf result CatalogRefusal.Misfit → Fits change.now (table_of self.old) → ⊥ }
+    {
+        if !self.fits(change)? {
+            return Err(CatalogRefusal::Misfit);
+        }
+        self.make_room(change)?;
+        Ok(())
+    }
+
+    // Whether the change fits.
+    fn fits(&self, change: &Change) -> Result<bool, Memory>
+        ensures { IfOk result (λ fits. IsTrue fits ↔ Fits change.now (table_of self.now)) }
+    {
+        match change {
+            Change::Stream { name, columns } => Ok(self.fits_stream(name, columns.items())),
+            Change::Append { stream, extent } => Ok(self.fits_append(*stream, extent)),
+            Change::Work {
+                program,
+                reads,
+                dropped,
+                kept,
+            } => {
+                let has_results = has_any(reads.items())
+                    || has_any(dropped.items())
+                    || has_any(kept.items());
+                Ok(!has_results && self.tick < MAX_TICKS && self.fits_program(program)?)
+            }
+            Change::Collect { .. } | Change::Checkpoint { .. } => Ok(false),
+        }
+    }
+
+    fn fits_stream(&self, name: &Name, columns: &[Column]) -> bool
+        ensures { IsTrue result ↔ FitsStream name.now columns.now (table_of self.now) }
+    {
+        self.tick < MAX_TICKS
+            && are_schema(columns)
+            && self.place_of(name).is_none()
+            && self.streams.len() < MAX_STREAMS
+    }
+
+    fn fits_append(&self, place: u32, extent: &Extent) -> bool
+        ensures { IsTrue result ↔ FitsAppend place extent.now (table_of self.now) }
+    {
+        self.tick < MAX_TICKS
+            && self.is_next_extent(extent)
+            && self.has_place_for_extent(place)
+            && self.extents < MAX_ALL_EXTENTS
+    }
+
+    // Whether the extent is the next file, has a row and is short enough.
+    fn is_next_extent(&self, extent: &Extent) -> bool
+        ensures { IsTrue result ↔ IsNextExtent extent.now (table_of self.now) }
+    {
+        extent.file.file == self.next_file
+            && self.next_file < FILE_END
+            && 0 < extent.rows
+            && extent.file.len <= MAX_EXTENT_BYTES
+    }
+
+    // Whether the stream is there and has fewer extents than it may have.
+    fn has_place_for_extent(&self, place: u32) -> bool
+        ensures { IsTrue result ↔ HasPlaceForExtent place (table_of self.now).streams }
+    {
+        match self.streams.get(place as usize) {
+            Some(stream) => stream.extents().len() < MAX_EXTENTS,
+            None => false,
+        }
+    }
+
+    // Whether the program is one over the streams, and there are few enough of them.
+    fn fits_program(&self, program: &Option<Program>) -> Result<bool, Memory>
+        ensures { IfOk result (λ fits. IsTrue fits ↔ FitsProgram program.now (table_of self.now)) }
+    {
+        match program {
+            Some(program) => Ok(
+                has_room_for(self.programs.as_slice(), program)
+                    && is_program(self.alloc, self.streams.as_slice(), program)?,
+            ),
+            None => Ok(true),
+        }
+    }
+
+    // Takes the memory for a change that fits.
+    fn make_room(&mut self, change: &Change) -> Result<(), Memory>
+        requires { Fits change.now (table_of self.old) }
+        ensures same { table_of self.new ≡ table_of self.old }
+        ensures room { OnOk result (HasRoom change.now self.new) }
+    {
+        match change {
+            Change::Stream { name, .. } => self.make_room_for_stream(name),
+            Change::Append { stream, .. } => self.make_room_at(*stream),
+            Change::Work { program, .. } => self.make_room_for_program(program),
+            Change::Collect { .. } | Change::Checkpoint { .. } => Ok(()),
+        }
+    }
+
+    fn make_room_for_stream(&mut self, name: &Name) -> Result<(), Memory>
+        ensures same { table_of self.new ≡ table_of self.old }
+        ensures room { OnOk result (HasRoomForStream name.now self.new) }
+    {
+        let name = name.try_copy(self.alloc)?;
+        self.names.reserve(1)?;
+        self.streams.reserve(1)?;
+        self.spare_name = Some(name);
+        Ok(())
+    }
+
+    fn make_room_at(&mut self, place: u32) -> Result<(), Memory>
+        requires { place < length (table_of self.old).streams }
+        ensures same { table_of self.new ≡ table_of self.old }
+        ensures room { OnOk result (HasRoomAt place self.new) }
+    {
+        self.streams[place as usize].make_room()
+    }
+
+    fn make_room_for_program(&mut self, program: &Option<Program>) -> Result<(), Memory>
+        ensures same { table_of self.new ≡ table_of self.old }
+        ensures room { OnOk result (HasRoomForProgram program.now self.new) }
+    {
+        if program.is_some() {
+            self.programs.reserve(1)?;
+        }
+        Ok(())
+    }
+
+    /// Makes the change that it was prepared for. It takes no memory.
+    pub fn apply(&mut self, change: Change)
+        requires { IsReady self.old change }
+        ensures { table_of self.new ≡ after change (table_of self.old) }
+    {
+        match change {
+            Change::Stream { name, columns } => self.add_stream(name, columns),
+            Change::Append { stream, extent } => self.add_extent(stream, extent),
+            Change::Work { program, .. } => self.add_work(program),
+            Change::Collect { .. } | Change::Checkpoint { .. } => unreachable!(),
+        }
+    }
+
+    fn add_stream(&mut self, name: Name, columns: Seq<Column>)
+        requires fits { FitsStream name columns (table_of self.old) }
+        requires room { HasRoomForStream name self.old }
+        ensures { table_of self.new ≡ after (change.Stream name columns) (table_of self.old) }
+    {
+        let schema = match Schema::new(columns.into_vec()) {
+            Ok(schema) => schema,
+            Err(_) => unreachable!(),
+        };
+        match mem::replace(&mut self.spare_name, None) {
+            Some(name) => match self.names.insert(name) {
+                Ok(_) => {}
+                Err(_) => unreachable!(),
+            },
+            None => unreachable!(),
+        }
+        self.streams
+            .push_reserved(CatalogStream::new(self.alloc, name, schema));
+        self.add_tick();
+    }
+
+    fn add_extent(&mut self, place: u32, extent: Extent)
+        requires fits { FitsAppend place extent (table_of self.old) }
+        requires room { HasRoomAt place self.old }
+        ensures { table_of self.new ≡ after (change.Append place extent) (table_of self.old) }
+    {
+        self.streams[place as usize].push(extent);
+        self.extents += 1;
+        self.next_file += 1;
+        self.add_tick();
+    }
+
+    fn add_work(&mut self, program: Option<Program>)
+        requires counted { (table_of self.old).tick < most_ticks }
+        requires fits { FitsProgram program (table_of self.old) }
+        requires room { HasRoomForProgram program self.old }
+        ensures { table_of self.new ≡ with_tick (with_programs (with_stored program (table_of self.old).programs)
+            (table_of self.old)) }
+    {
+        if let Some(program) = program {
+            self.add_program(program);
+        }
+        self.add_tick();
+    }
+
+    fn add_program(&mut self, program: Program)
+        requires few { length (with_program program (table_of self.old).programs) ≤ most_programs }
+        requires room { vec_len self.old.programs < vec_capacity self.old.programs }
+        ensures { table_of self.new ≡ with_programs (with_program program (table_of self.old).programs)
+            (table_of self.old) }
+    {
+        store(&mut self.programs, program);
+    }
+
+    fn add_tick(&mut self)
+        requires { (table_of self.old).tick < most_ticks }
+        ensures { table_of self.new ≡ with_tick (table_of self.old) }
+    {
+        self.tick += 1;
+    }
+}
+
+fn has_any<T>(items: &[T]) -> bool
+    ensures { IsTrue (not result) ↔ (items.now ≡ []) }
+{
+    !items.is_empty()
+}

@@ -1,0 +1,16 @@
+//! The catalogue: the table in memory, and the changes that make it.
+#![tactic(auto)]
+
+pub mod catalog;
+mod columns;
+pub mod laws;
+mod program;
+mod programs;
+pub mod refusal;
+mod snapshot;
+pub mod stream;
+
+pub use catalog::Catalog;
+pub use laws::tables_stay_tables;
+pub use refusal::CatalogRefusal;
+pub use stream::CatalogStream;

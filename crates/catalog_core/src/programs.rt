@@ -1,0 +1,68 @@
+//! The programs in the byte order of their names.
+ghost use Rattle.std.specs.Prelude.{◌≡◌, ◌↔◌, ◌<◌, ◌≤◌, List, length, slice_get, IsTrue, Some, vec_len, vec_capacity};
+ghost use Rattle.catalog_types.specs.declared.program.Program as plain;
+ghost use Rattle.catalog_core.specs.Programs.{AreByName, is_below, below, with_program};
+ghost use Rattle.catalog_core.specs.Table.{most_programs};
+
+use catalog_types::Program;
+use rows_core::Name;
+
+/// The most programs.
+const MAX_PROGRAMS: usize = 1_024;
+
+/// Whether the programs stay within their limit where a program of this name is put among them.
+pub(crate) fn has_room_for(programs: &[Program], program: &Program) -> bool
+    requires order { AreByName programs.now }
+    requires few { length programs.now ≤ most_programs }
+    ensures { IsTrue result ↔ (length (with_program program.now programs.now) ≤ most_programs) }
+{
+    let name = &program.name;
+    programs.len() < MAX_PROGRAMS || has_name_at(programs, count_below(programs, name), name)
+}
+
+/// Puts a program in its place, or in place of the one that has its name. It takes no memory.
+pub(crate) fn store(programs: &mut Vec<Program>, program: Program)
+    requires order { AreByName programs.old.items }
+    requires room { vec_len programs.old < vec_capacity programs.old }
+    ensures { programs.new.items ≡ with_program program programs.old.items }
+{
+    let place = count_below(programs.as_slice(), &program.name);
+    if has_name_at(programs.as_slice(), place, &program.name) {
+        programs[place] = program;
+    } else {
+        match programs.insert(place, program) {
+            Ok(()) => {}
+            Err(_) => unreachable!(),
+        }
+    }
+}
+
+// The number of programs whose names are below this one.
+fn count_below(programs: &[Program], name: &Name) -> usize
+    ensures { result ≡ length (below name.now programs.now) }
+{
+    let mut count = 0;
+    for program in programs {
+        if is_below(&program.name, name) {
+            count += 1;
+        }
+    }
+    count
+}
+
+fn is_below(name: &Name, other: &Name) -> bool
+    ensures { result ≡ is_below name.now other.now }
+{
+    name.bytes().cmp(&other.bytes()).is_lt()
+}
+
+// Whether the program at this place is there and has this name.
+fn has_name_at(programs: &[Program], place: usize, name: &Name) -> bool
+    ensures { IsTrue result ↔ ((program : plain.Program) × (slice_get programs.now place ≡ Some program)
+        × (program.name ≡ name.now)) }
+{
+    match programs.get(place) {
+        Some(program) => program.name.is_same(name),
+        None => false,
+    }
+}
