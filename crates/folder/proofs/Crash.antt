@@ -1,0 +1,171 @@
+-- What a crash leaves while a change is recorded.
+use Rattle.std.proofs.Common.{◌≡◌, ◌≢◌, inl, inr, ℕ, ◌+◌, ◌==◌, false, List, [], ◌∷◌, ◌++◌, refl, sym, ap, ◌∙◌, subst, arith}
+use Rattle.std.specs.Prelude.{IsTrue}
+use Rattle.std.proofs.lemmas.Bool.{eqb-true, eq-eqb}
+use Rattle.outside_traits.specs.View.{View, Now, IsImageAt}
+use Rattle.outside_traits.specs.Runs.{Touches}
+use Rattle.outside_traits.proofs.RunLemmas.{spans_of, image_has, files_have}
+use Rattle.gated_log.specs.Stands.{IsBeforeOrAfter}
+use Rattle.catalog_types.specs.declared.change.Change.{Change}
+use Rattle.catalog_core.specs.Table.{Table, empty_table, after}
+use Rattle.journal_store.specs.Readings.{generation_file, is_journal_file, IsJournalFile}
+use Rattle.journal_store.specs.Journals.{Keeps}
+use Rattle.journal_store.specs.Making.{AreStable}
+use Rattle.journal_store.specs.declared.journal.Journal.{Journal}
+use Rattle.folder.specs.State.{State, IsValid, table}
+use Rattle.folder.specs.Replay.{IsBodyOf, MayBeMade, Replays, due_in}
+use Rattle.folder.specs.Sound.{Care, HoldsAll, Speaks, IsSound}
+use Rattle.folder.specs.Left.{Near, IsSoundForOneOf, IsSettled, IsLeft, IsLeftWith, Everything, Since, StaysSound}
+use Rattle.folder.specs.Standing.{Stands, Means, IsNext}
+use Rattle.folder.proofs.Replays.{Replays-push}
+use Rattle.folder.proofs.Frames.{root_is_journal, log_is_journal, named_is_no_journal, sound_beside, holds_beside}
+
+root_is_no_generation : (g : ℕ) → 0 ≢ generation_file g
+root_is_no_generation g is = let e : 0 ≡ 4294967296 + g = is in absurd (omega (arith, e))
+
+-- ---- the table and the journal, on every store that tells its files
+
+-- after a commit
+pub commit_stands : (u v : View) (t t' : Table) (journal journal' : Journal) (c : Change) (body : List ℕ) (stands : Stands u t journal) → IsBodyOf c body → MayBeMade false t c
+    → t' ≡ after c t → Keeps v journal' stands.generation (stands.bodies ++ body ∷ []) → AreStable v stands.generation → Stands v t' journal'
+commit_stands u v t t' journal journal' c body stands is_body may t_is keeps stable = record {
+  generation = stands.generation;
+  bodies = stands.bodies ++ body ∷ [];
+  keeps = keeps;
+  replays = subst (λ x. Replays (due_in stands.generation) empty_table (stands.bodies ++ body ∷ []) x) (sym t_is)
+      (Replays-push (due_in stands.generation) empty_table t stands.bodies body c stands.replays is_body may);
+  stable = stable;
+}
+
+-- and after a run on a file that is no log
+pub beside_stands : (u v : View) (t : Table) (journal : Journal) (file : ℕ) (P : List ℕ → Type 0) → ((g : ℕ) → IsJournalFile g → g ≢ file) → Touches file P u v → Stands u t journal → Stands v t journal
+beside_stands u v t journal file P other run stands =
+    let here = λ (g : ℕ) (x : List ℕ) (log : IsJournalFile g) (now : Now v g x). run.others v.moment g x run.time.later (omega arith) (other g log) now in
+    let log : IsJournalFile (generation_file stands.generation) = log_is_journal stands.generation in
+    record {
+      generation = stands.generation;
+      bodies = stands.bodies;
+      keeps = record {
+        is_generation = stands.keeps.is_generation;
+        end = stands.keeps.end;
+        root = λ x now. stands.keeps.root x (here 0 x root_is_journal now);
+        log = λ x now. stands.keeps.log x (here (generation_file stands.generation) x log now);
+      };
+      replays = stands.replays;
+      stable = record {
+        root = λ x now. stands.stable.root x (here 0 x root_is_journal now) ∙ sym (run.same 0 (other 0 root_is_journal));
+        log = λ x now. stands.stable.log x (here (generation_file stands.generation) x log now) ∙ sym (run.same (generation_file stands.generation) (other (generation_file stands.generation) log));
+      };
+    }
+
+-- ---- a commit
+
+module _ (care : Care) (u v : View) (t : Table) (journal : Journal) (s s' : State) (c : Change) (body : List ℕ)
+    (law : (g : ℕ) → Now u g (u.files g)) (means : Means care u t journal s) (next : IsNext care u s c s') (is_body : IsBodyOf c body) where
+  pub before_replays : Replays (due_in means.stands.generation) empty_table means.stands.bodies (table s)
+  before_replays = subst (λ x. Replays (due_in means.stands.generation) empty_table means.stands.bodies x) means.table_is means.stands.replays
+
+  pub after_replays : Replays (due_in means.stands.generation) empty_table (means.stands.bodies ++ body ∷ []) (table s')
+  after_replays = subst (λ x. Replays (due_in means.stands.generation) empty_table (means.stands.bodies ++ body ∷ []) x) (sym next.step.1)
+      (Replays-push (due_in means.stands.generation) empty_table (table s) means.stands.bodies body c before_replays is_body next.step.0)
+
+  beside_logs : (image : ℕ → List ℕ) → ((g : ℕ) → g ≢ generation_file means.stands.generation → Now u g (image g)) → (g : ℕ) → (IsTrue (is_journal_file g) → ⊥) → Now u g (image g)
+  beside_logs image others g plain = others g (λ is. plain (subst IsJournalFile (sym is) (log_is_journal means.stands.generation)))
+
+  keeps_files : (x : State) → IsValid x → ((image : ℕ → List ℕ) → IsImageAt u u.moment image → HoldsAll care x image)
+      → (image : ℕ → List ℕ) → ((g : ℕ) → g ≢ generation_file means.stands.generation → Now u g (image g)) → HoldsAll care x image
+  keeps_files x valid ready image others =
+      holds_beside care u is_journal_file law image (beside_logs image others) x ready (λ at bytes names. named_is_no_journal x at bytes valid names)
+
+  -- an image is of the old state where the log lacks the new body, and of the next one where it has it
+  pub commit_one : (image : ℕ → List ℕ) → IsBeforeOrAfter means.stands.bodies body (image (generation_file means.stands.generation))
+      → ((g : ℕ) → g ≢ generation_file means.stands.generation → Now u g (image g)) → IsSoundForOneOf care s s' image
+  commit_one image (inl old) others = inl (record {
+    reading = record {
+      generation = means.stands.generation;
+      bodies = means.stands.bodies;
+      logs = inl (record { root = means.stands.keeps.root (image 0) (others 0 (root_is_no_generation means.stands.generation)); log = old });
+      replays = before_replays;
+    };
+    valid = means.valid;
+    holds = keeps_files s means.valid (λ i is. (means.settled i is).holds) image others;
+  })
+  commit_one image (inr new) others = inr (record {
+    reading = record {
+      generation = means.stands.generation;
+      bodies = means.stands.bodies ++ body ∷ [];
+      logs = inl (record { root = means.stands.keeps.root (image 0) (others 0 (root_is_no_generation means.stands.generation)); log = new });
+      replays = after_replays;
+    };
+    valid = next.valid;
+    holds = keeps_files s' next.valid next.ready image others;
+  })
+
+  pub commit_since : Touches (generation_file means.stands.generation) (IsBeforeOrAfter means.stands.bodies body) u v → Since care s s' u v
+  commit_since run = spans_of (generation_file means.stands.generation) (IsBeforeOrAfter means.stands.bodies body) Everything (IsSoundForOneOf care s s') u v run tt commit_one
+
+  -- and once it is done the next state is meant
+  pub commit_means : (t' : Table) (journal' : Journal) → t' ≡ after c t → Touches (generation_file means.stands.generation) (IsBeforeOrAfter means.stands.bodies body) u v
+      → Keeps v journal' means.stands.generation (means.stands.bodies ++ body ∷ []) → AreStable v means.stands.generation → Means care v t' journal' s'
+  commit_means t' journal' t_is run keeps stable =
+      record {
+        table_is = t_is ∙ ap (after c) means.table_is ∙ sym next.step.1;
+        stands = commit_stands u v t t' journal journal' c body means.stands is_body (subst (λ (x : Table). MayBeMade false x c) (sym means.table_is) next.step.0) t_is keeps stable;
+        valid = next.valid;
+        settled = λ image is. record {
+          reading = record {
+            generation = means.stands.generation;
+            bodies = means.stands.bodies ++ body ∷ [];
+            logs = inl (record { root = keeps.root (image 0) (is 0); log = keeps.log (image (generation_file means.stands.generation)) (is (generation_file means.stands.generation)) });
+            replays = after_replays;
+          };
+          valid = next.valid;
+          holds = keeps_files s' next.valid next.ready image (λ g other. run.others v.moment g (image g) run.time.later (omega arith) other (is g));
+        };
+      }
+
+-- ---- a run on a file of which neither the logs nor the state speak
+
+module _ (care : Care) (u v : View) (t : Table) (journal : Journal) (s : State) (file : ℕ) (P : List ℕ → Type 0)
+    (law : (g : ℕ) → Now u g (u.files g)) (means : Means care u t journal s) (unnamed : Speaks s file → ⊥) (run : Touches file P u v) where
+  beside_one : (image : ℕ → List ℕ) → ((g : ℕ) → g ≢ file → Now u g (image g)) → IsSound care image s
+  beside_one image others = sound_beside care u (λ g. g == file) law image (λ g plain. others g (λ is. plain (eq-eqb g file is))) s means.settled
+      (λ g is speaks. unnamed (subst (λ n. Speaks s n) (eqb-true g file is) speaks))
+
+  pub beside_stays : StaysSound care s u v
+  beside_stays = spans_of file P Everything (λ image. IsSound care image s) u v run tt (λ image any others. beside_one image others)
+
+  pub beside_settled : IsSettled care v s
+  beside_settled image is = beside_one image (λ g other. run.others v.moment g (image g) run.time.later (omega arith) other (is g))
+
+  other_log : (g : ℕ) → IsJournalFile g → g ≢ file
+  other_log g is same = unnamed (inl (subst IsJournalFile same is))
+
+  pub beside_means : Means care v t journal s
+  beside_means = record {
+    table_is = means.table_is;
+    stands = beside_stands u v t journal file P other_log run means.stands;
+    valid = means.valid;
+    settled = beside_settled;
+  }
+
+-- ---- what stands after a call that failed
+
+pub near_back : (a b : State) → Near a b → Near b a
+near_back a b (inl same) = inl (sym same)
+near_back a b (inr (inl up)) = inr (inr up)
+near_back a b (inr (inr down)) = inr (inl down)
+
+module _ (care : Care) (u v : View) (a b : State) (near : Near a b) (law : (g : ℕ) → Now v g (v.files g)) (since : Since care a b u v) where
+  images : (image : ℕ → List ℕ) → IsImageAt v v.moment image → IsSoundForOneOf care a b image
+  images = image_has Everything (IsSoundForOneOf care a b) u v since
+
+  pub left_of_since : IsLeftWith care v a b
+  left_of_since = elim (files_have Everything (IsSoundForOneOf care a b) u v since law) [
+    | inl of_a ↦ inl (record { near = near; read = of_a; images = images })
+    | inr of_b ↦ inr (record { near = near_back a b near; read = of_b; images = λ image is. elim (images image is) [ inl x ↦ inr x | inr x ↦ inl x ] })
+  ]
+
+-- a store with a state that is meant is left with it
+pub left_of_means : (care : Care) (v : View) (t : Table) (journal : Journal) (s : State) → ((g : ℕ) → Now v g (v.files g)) → Means care v t journal s → IsLeft care v s s
+left_of_means care v t journal s law means = record { near = inl refl; read = means.settled v.files law; images = λ image is. inl (means.settled image is) }

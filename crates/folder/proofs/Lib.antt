@@ -1,0 +1,17 @@
+pub mod Replays
+pub mod JournalLemmas
+pub mod Frames
+pub mod Crash
+pub mod Loading
+pub mod Narrowing
+pub mod NextStates
+pub mod Steps
+pub mod LoadLemmas
+pub mod Recording
+pub mod ReadLemmas
+pub mod Going
+pub mod Writing
+pub mod ReadRefusals
+pub mod RowsSpelled
+pub mod StreamReading
+pub mod Unread

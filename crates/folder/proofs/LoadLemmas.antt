@@ -1,0 +1,129 @@
+-- From what was read of the journal to the folder.
+use Rattle.std.proofs.Common.{◌≡◌, inl, inr, ℕ, ◌+◌, ◌≤◌, false, List, [], length, Result, Ok, Err, OnErr, OnOk, IfOk, IsErrOf, refl, sym, ap, ◌∙◌, subst, arith}
+use Rattle.std.specs.Prelude.{Vec}
+use Rattle.std.proofs.lemmas.Bool.{false≢true}
+use Rattle.std.specs.declared.alloc.Global.{Global}
+use Rattle.outside_traits.specs.View.{View, Now}
+use Rattle.outside_traits.specs.Runs.{Spans, Narrows}
+use Rattle.gated_log.specs.Logs.{Reads, contents}
+use Rattle.catalog_core.specs.Table.{Table, empty_table}
+use Rattle.journal_store.specs.Readings.{generation_file, generations, IsJournalFile, IsUnfinished, HaveBodies}
+use Rattle.journal_store.specs.Readings as of_journal
+use Rattle.journal_store.specs.Making.{IsLoading, AreStable}
+use Rattle.journal_store.specs.Journals.{generation_of, Keeps}
+use Rattle.journal_store.specs.declared.journal.Journal.{Journal}
+use Rattle.journal_store.specs.declared.refusal.JournalRefusal.{JournalRefusal}
+use Rattle.journal_store.specs.declared.refusal.JournalRefusal.TheVariants as journal_refusal
+use Rattle.folder.specs.State.{State}
+use Rattle.folder.specs.Replay.{ReadsAs, StopsReading, StopsReplay, due_in}
+use Rattle.folder.specs.Sound.{Care}
+use Rattle.folder.specs.Left.{IsLeft, IsLeftWith}
+use Rattle.folder.specs.Folders.{Gives, table_in, journal_of, FolderStands, FolderMeans}
+use Rattle.folder.specs.declared.folder.Folder.{Folder}
+use Rattle.folder.specs.declared.refusal.LoadRefusal.{LoadRefusal}
+use Rattle.folder.specs.declared.refusal.LoadRefusal.TheVariants as refusal
+use Rattle.journal_store.proofs.OneReading.{root_once, unfinished_names}
+use Rattle.folder.proofs.JournalLemmas.{none_of_unfinished}
+use Rattle.folder.proofs.Crash.{left_of_since}
+use Rattle.folder.proofs.Loading.{reads_or_stops, loading_since, loaded_means}
+
+abbrev pub Read : Type 0
+Read = Result (Journal × Vec (Vec ℕ Global) Global) JournalRefusal
+
+abbrev pub Loaded : Type 0
+Loaded = Result Folder LoadRefusal
+
+abbrev pub HaveRead : View → Read → Type 0
+HaveRead u read = IfOk read (λ p. HaveBodies u.files (generation_of p.0) (contents p.1.items))
+
+pub load_reading : (u : View) (read : Read) (r : Loaded) → Gives read r → HaveRead u read → IfOk r (λ folder. ReadsAs u.files (table_in folder))
+load_reading u read (Err e) gives have = tt
+load_reading u (Ok p) (Ok folder) gives have = record { generation = generation_of p.0; bodies = contents p.1.items; logs = have; replays = gives.1 }
+load_reading u (Err e) (Ok folder) gives have = absurd gives
+
+pub load_stands : (v : View) (read : Read) (r : Loaded) → Gives read r → IfOk read (λ p. Keeps v p.0 (generation_of p.0) (contents p.1.items)) → IfOk read (λ p. AreStable v (generation_of p.0))
+    → IfOk r (λ folder. FolderStands v folder)
+load_stands v read (Err e) gives keeps stable = tt
+load_stands v (Ok p) (Ok folder) gives keeps stable = record {
+  generation = generation_of p.0;
+  bodies = contents p.1.items;
+  keeps = subst (λ (j : Journal). Keeps v j (generation_of p.0) (contents p.1.items)) (sym gives.0) keeps;
+  replays = gives.1;
+  stable = stable;
+}
+load_stands v (Err e) (Ok folder) gives keeps stable = absurd gives
+
+module _ (care : Care) (u v : View) (a b : State) (left : IsLeft care u a b) (loading : Spans IsJournalFile (IsLoading u) u v) where
+  pub load_means : (r : Loaded) → IfOk r (λ folder. ReadsAs u.files (table_in folder)) → IfOk r (λ folder. FolderStands v folder) → IfOk r (λ folder. FolderMeans care v folder a)
+  load_means (Err e) reading stands = tt
+  load_means (Ok folder) reading stands = loaded_means care u v a b left loading (table_in folder) (journal_of folder) stands reading
+
+  pub load_left : (r : Loaded) → ((g : ℕ) → Now v g (v.files g)) → OnErr r (IsLeftWith care v a b)
+  load_left (Ok folder) law = tt
+  load_left (Err e) law = left_of_since care u v a b left.near law (loading_since care u v a b left loading)
+
+-- which refusal of the journal it was
+was_not_a_store : (g b f a : ℕ) → refusal.NotAStore g b ≡ refusal.NotAStore f a → (f ≡ g) × (a ≡ b)
+was_not_a_store g b f a is = (cc, cc)
+
+err_of : (f a g b : ℕ) → (f ≡ g) × (a ≡ b) → IsErrOf {T = Journal × Vec (Vec ℕ Global) Global} (Err (journal_refusal.NotAStore f a)) (journal_refusal.NotAStore g b)
+err_of f a g b same = ap (λ x. Err (journal_refusal.NotAStore x a)) same.0 ∙ ap (λ y. Err (journal_refusal.NotAStore g y)) same.1
+
+none_stops : (t : Table) (at : ℕ) (g : ℕ) (bodies : List (List ℕ)) → (g ≡ 0) × (bodies ≡ []) → StopsReplay (due_in g) t 8 bodies at → ⊥
+none_stops t at g bodies none stops =
+    let first : StopsReplay false t 8 bodies at = subst (λ n. StopsReplay (due_in n) t 8 bodies at) none.0 stops in
+    let empty : StopsReplay false t 8 [] at = subst (λ l. StopsReplay false t 8 l at) none.1 first in
+    false≢true empty.0
+
+-- a refusal of a place: the journal's, or the replay's
+pub load_stops : (u : View) (file at : ℕ) (read : Read) → Gives read (Err (refusal.NotAStore file at)) → HaveRead u read
+    → ((file at : ℕ) → IsErrOf read (journal_refusal.NotAStore file at) → of_journal.StopsReading u.files file at) → StopsReading u.files file at
+load_stops u file at (Ok p) gives have journal = inr (record { generation = generation_of p.0; bodies = contents p.1.items; logs = have; file_is = gives.0; stops = gives.1 })
+load_stops u file at (Err journal_refusal.Fault) gives have journal = absurd (cc)
+load_stops u file at (Err (journal_refusal.NotAStore f a)) gives have journal = inl (journal file at (err_of f a file at (was_not_a_store file at f a gives)))
+load_stops u file at (Err journal_refusal.Memory) gives have journal = absurd (cc)
+
+pub load_unchanged : (u v : View) (file at : ℕ) (read : Read) → Gives read (Err (refusal.NotAStore file at)) → HaveRead u read
+    → ((IsUnfinished (u.files 0) → ⊥) → Narrows u v) → ((file at : ℕ) → IsErrOf read (journal_refusal.NotAStore file at) → Narrows u v) → Narrows u v
+load_unchanged u v file at (Ok p) gives have finished unchanged =
+    finished (λ unfinished. none_stops empty_table at (generation_of p.0) (contents p.1.items) (none_of_unfinished u.files (generation_of p.0) (contents p.1.items) have unfinished) gives.1)
+load_unchanged u v file at (Err journal_refusal.Fault) gives have finished unchanged = absurd (cc)
+load_unchanged u v file at (Err (journal_refusal.NotAStore f a)) gives have finished unchanged = unchanged file at (err_of f a file at (was_not_a_store file at f a gives))
+load_unchanged u v file at (Err journal_refusal.Memory) gives have finished unchanged = absurd (cc)
+
+pub gave : (read : Read) (r : Loaded) (file at : ℕ) → Gives read r → IsErrOf r (refusal.NotAStore file at) → Gives read (Err (refusal.NotAStore file at))
+gave read r file at gives is = subst (λ x. Gives read x) is gives
+
+pub load_exactly : (u : View) (r : Loaded) → IfOk r (λ folder. ReadsAs u.files (table_in folder)) → (file at : ℕ) → StopsReading u.files file at → OnOk r ⊥
+load_exactly u (Err e) reading file at stops = tt
+load_exactly u (Ok folder) reading file at stops = reads_or_stops u.files (table_in folder) file at reading stops
+
+pub load_ok : (P : Type 0) (read : Read) (r : Loaded) → Gives read r → OnOk read P → OnOk r P
+load_ok P read (Err e) gives ok = tt
+load_ok P (Ok p) (Ok folder) gives ok = ok
+load_ok P (Err e) (Ok folder) gives ok = absurd gives
+
+pub load_fault : (read : Read) (r : Loaded) → Gives read r → IsErrOf r refusal.Fault → IsErrOf read journal_refusal.Fault
+load_fault read r gives is = by read (subst (λ x. Gives read x) is gives)
+  where
+    by : (read : Read) → Gives read (Err refusal.Fault) → IsErrOf read journal_refusal.Fault
+    by (Ok p) gives = absurd gives
+    by (Err journal_refusal.Fault) gives = refl
+    by (Err (journal_refusal.NotAStore f a)) gives = absurd (cc)
+    by (Err journal_refusal.Memory) gives = absurd (cc)
+
+generation_once : (files : ℕ → List ℕ) (g h : ℕ) (bodies : List (List ℕ)) → HaveBodies files g bodies → Reads (generations h) (files 0) → h ≡ g
+generation_once files g h bodies (inl made) reads = root_once h g (files 0) reads made.root
+generation_once files g h bodies (inr unmade) reads = absurd (unfinished_names h (files 0) reads unmade.root)
+
+pub load_taken : (u : View) (taken more : ℕ) (read : Read) (r : Loaded) → Gives read r → HaveRead u read
+    → ((n : ℕ) → ((g : ℕ) → Reads (generations g) (u.files 0) → length (u.files (generation_file g)) ≤ n) → more ≤ taken + length (u.files 0) + n)
+    → IfOk r (λ folder. more ≤ taken + length (u.files 0) + length (u.files (generation_file (generation_of (journal_of folder)))))
+load_taken u taken more read (Err e) gives have most = tt
+load_taken u taken more (Err e) (Ok folder) gives have most = absurd gives
+load_taken u taken more (Ok p) (Ok folder) gives have most =
+    subst (λ (j : Journal). more ≤ taken + length (u.files 0) + length (u.files (generation_file (generation_of j)))) (sym gives.0)
+    (most (length (u.files (generation_file (generation_of p.0)))) (λ g reads.
+    let same : length (u.files (generation_file g)) ≡ length (u.files (generation_file (generation_of p.0))) =
+    ap (λ n. length (u.files (generation_file n))) (generation_once u.files (generation_of p.0) g (contents p.1.items) have reads) in
+    omega (arith, same)))

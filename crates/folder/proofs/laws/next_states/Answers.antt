@@ -1,0 +1,11 @@
+use Rattle.folder.proofs.Steps.{next_stream, next_rows, next_run}
+use Rattle.folder.proofs.laws.next_states.Goals as goal
+
+pub returns-clause-stream : goal.returns-clause-stream
+returns-clause-stream g c = λ care store s name columns settled valid fits. next_stream care _ s settled valid name columns fits
+
+pub returns-clause-rows : goal.returns-clause-rows
+returns-clause-rows g c = λ care store s place rows settled valid fits typed only. next_rows care _ s settled valid place rows fits typed only
+
+pub returns-clause-run : goal.returns-clause-run
+returns-clause-run g c = λ care store s program settled valid fits. next_run care _ s settled valid program fits

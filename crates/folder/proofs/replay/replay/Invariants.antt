@@ -1,0 +1,7 @@
+use Rattle.catalog_core.specs.Catalogs.{table_of}
+use Rattle.folder.specs.Replay.{due_in}
+use Rattle.folder.proofs.Going.{Going}
+use Rattle.folder.proofs.replay.replay.Given as goal
+
+abbrev pub invariant-loop-i : goal.invariant-loop-i
+invariant-loop-i l = Going (due_in l.generation) l.bodies l.i l.due (table_of l.catalog)

@@ -1,0 +1,10 @@
+pub mod State
+pub mod Replay
+pub mod Sound
+pub mod Left
+pub mod Standing
+pub mod Next
+pub mod Reads
+pub mod Refusals
+pub mod Folders
+pub mod StreamRows

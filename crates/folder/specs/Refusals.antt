@@ -1,0 +1,59 @@
+-- Reasons of the crates below, as reasons why a folder isn't loaded or an extent isn't read.
+use Rattle.std.specs.Prelude.{ℕ, ◌+◌, ◌^◌, ◌<◌, ◌≤◌, Bool, List, length, ⊤}
+use Rattle.row_blob.specs.declared.refusal.BlobRefusal.{BlobRefusal}
+use Rattle.row_blob.specs.declared.refusal.BlobRefusal.TheVariants as of_blob
+use Rattle.extent_files.specs.declared.refusal.FileRefusal.{FileRefusal}
+use Rattle.extent_files.specs.declared.refusal.FileRefusal.TheVariants as of_file
+use Rattle.record_codec.specs.declared.refusal.ChangeRefusal.{ChangeRefusal}
+use Rattle.record_codec.specs.declared.refusal.ChangeRefusal.TheVariants as of_change
+use Rattle.catalog_core.specs.Table.{Table}
+use Rattle.journal_store.specs.declared.refusal.JournalRefusal.{JournalRefusal}
+use Rattle.journal_store.specs.declared.refusal.JournalRefusal.TheVariants as of_journal
+use Rattle.folder.specs.Replay.{StopsIn}
+use Rattle.folder.specs.declared.refusal.LoadRefusal.{LoadRefusal}
+use Rattle.folder.specs.declared.refusal.LoadRefusal.TheVariants as load
+use Rattle.folder.specs.declared.refusal.ReadRefusal.{ReadRefusal}
+use Rattle.folder.specs.declared.refusal.ReadRefusal.TheVariants as read
+use Rattle.folder.specs.declared.replay.ReplayRefusal.{ReplayRefusal}
+use Rattle.folder.specs.declared.replay.ReplayRefusal.TheVariants as replay
+
+-- why the journal isn't loaded
+abbrev pub journal_as : JournalRefusal → LoadRefusal
+journal_as of_journal.Fault = load.Fault
+journal_as (of_journal.NotAStore file at) = load.NotAStore file at
+journal_as of_journal.Memory = load.Memory
+
+-- why a body isn't read as a change
+abbrev pub change_as : ChangeRefusal → ReplayRefusal
+change_as (of_change.NotChange at) = replay.Stops at
+change_as of_change.Memory = replay.Memory
+
+-- why the log in this file isn't replayed
+abbrev pub replay_as : ℕ → ReplayRefusal → LoadRefusal
+replay_as file (replay.Stops at) = load.NotAStore file at
+replay_as file replay.Memory = load.Memory
+
+-- the same with the place counted from the log's start, in which the body begins at this place
+abbrev pub from_place : ℕ → ReplayRefusal → ReplayRefusal
+from_place place (replay.Stops at) = replay.Stops (place + at)
+from_place place replay.Memory = replay.Memory
+
+abbrev pub FitsFrom : ℕ → ReplayRefusal → Type 0
+FitsFrom place (replay.Stops at) = place + at < 2 ^ 64
+FitsFrom place replay.Memory = ⊤
+
+-- reading of the body stops where the refusal says, within its bytes
+abbrev pub IsStop : Bool → Table → List ℕ → ReplayRefusal → Type 0
+IsStop due t body (replay.Stops within) = StopsIn due t body within × (within ≤ length body)
+IsStop due t body replay.Memory = ⊤
+
+-- why this file's bytes aren't given
+abbrev pub file_as : ℕ → FileRefusal → ReadRefusal
+file_as file of_file.Fault = read.Fault
+file_as file (of_file.Damaged kept found) = read.Damaged file kept found
+file_as file of_file.Memory = read.Memory
+
+-- why they spell no rows
+abbrev pub rows_as : ℕ → BlobRefusal → ReadRefusal
+rows_as file (of_blob.NotBlob at) = read.Unreadable file at
+rows_as file of_blob.Memory = read.Memory

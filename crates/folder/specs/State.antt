@@ -1,0 +1,101 @@
+-- What a folder holds: the table of the catalogue, with the rows of each extent in it.
+use Rattle.std.specs.Prelude.{◌≡◌, ℕ, ◌<◌, ◌≤◌, List, [], length, map}
+use Rattle.std.specs.List.{Contains}
+use Rattle.rows_core.specs.declared.file_ref.FileRef.{FileRef}
+use Rattle.rows_core.specs.declared.schema.Column.{Column}
+use Rattle.rows_core.specs.declared.value.Value.{Value}
+use Rattle.rows_core.specs.Schema.{kinds_of}
+use Rattle.row_blob.specs.Kept.{IsKept}
+use Rattle.row_blob.specs.Spelling.{kept_spelling}
+use Rattle.row_blob.specs.declared.kept.Kept.TheVariants as kept
+use Rattle.row_blob.specs.declared.shape.Shape.TheVariants as shape
+use Rattle.extent_files.specs.Files.{digest_of}
+use Rattle.catalog_types.specs.PlainEntry.{PlainEntry}
+use Rattle.catalog_types.specs.declared.extent.Extent as of_table
+use Rattle.catalog_types.specs.declared.program.Program.{Program}
+use Rattle.catalog_types.specs.declared.snapshot.StreamState.{StreamState}
+use Rattle.catalog_core.specs.Table.{Table}
+
+-- rows that were appended together, and the file that they stand in
+pub record Extent : Type 0 where
+  pub rows : List (List Value)
+  pub file : FileRef
+
+pub record Stream : Type 0 where
+  pub name : List ℕ
+  pub columns : List Column
+  pub extents : List Extent
+
+pub record State : Type 0 where
+  -- how many commands were recorded
+  pub tick : ℕ
+  -- the number of the next file, and the id of the next kept result
+  pub next_file : ℕ
+  pub next_id : ℕ
+  -- in the order of their making
+  pub streams : List Stream
+  -- in the byte order of their names
+  pub programs : List Program
+  -- kept results, by their ids
+  pub entries : List PlainEntry
+
+-- the state of a new folder
+abbrev pub empty_state : State
+empty_state = record { tick = 0; next_file = 1; next_id = 1; streams = []; programs = []; entries = [] }
+
+-- ---- the table of a state: each extent's rows are replaced by their number
+
+abbrev pub extent_of : Extent → of_table.Extent
+extent_of e = record { file = e.file; rows = length e.rows }
+
+abbrev pub stream_of : Stream → StreamState
+stream_of stream = record { name = stream.name; columns = stream.columns; extents = map extent_of stream.extents }
+
+abbrev pub table : State → Table
+table s = record {
+  tick = s.tick;
+  next_file = s.next_file;
+  next_id = s.next_id;
+  streams = map stream_of s.streams;
+  programs = s.programs;
+  entries = s.entries;
+}
+
+-- ---- the files that a state names
+
+-- the bytes of a file of these rows
+unfoldable pub file_bytes : List (List Value) → List ℕ
+file_bytes rows = kept_spelling (kept.Rows rows)
+
+-- what a file of these bytes is known by
+abbrev pub ref_of : ℕ → List ℕ → FileRef
+ref_of file bytes = record { file = file; len = length bytes; digest = digest_of bytes }
+
+-- the extent is one of this stream, which is one of the state
+abbrev pub HasExtent : State → Stream → Extent → Type 0
+HasExtent s stream e = Contains s.streams stream × Contains stream.extents e
+
+pub record NamesExtent (s : State) (at : FileRef) (bytes : List ℕ) : Type 0 where
+  pub stream : Stream
+  pub extent : Extent
+  pub has : HasExtent s stream extent
+  pub at_is : at ≡ extent.file
+  pub bytes_are : bytes ≡ file_bytes extent.rows
+
+-- The state names this file, and its first bytes are to be these, which are a function of the state. Extents name files;
+-- kept results, which no command makes yet, will be a second case.
+abbrev pub Names : State → FileRef → List ℕ → Type 0
+Names s at bytes = NamesExtent s at bytes
+
+-- What holds of each state that can be reached, whatever the files are.
+pub record IsValid (s : State) : Type 0 where
+  -- a reference is that of its file's bytes
+  pub refs : (at : FileRef) (bytes : List ℕ) → Names s at bytes → at ≡ ref_of at.file bytes
+  -- its number was given
+  pub given : (at : FileRef) (bytes : List ℕ) → Names s at bytes → (0 < at.file) × (at.file < s.next_file)
+  -- rows have values of their stream's kinds
+  pub rows : (stream : Stream) (e : Extent) → HasExtent s stream e → IsKept (shape.Rows (kinds_of stream.columns)) (kept.Rows e.rows)
+  pub first : 0 < s.next_file
+  pub last : s.next_file ≤ 4294967296
+  -- no command keeps results yet
+  pub no_entries : s.entries ≡ []

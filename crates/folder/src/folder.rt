@@ -1,0 +1,212 @@
+//! Folders in a store.
+ghost use Rattle.std.specs.Prelude.{◌≡◌, ◌⊎◌, ℕ, ◌+◌, ◌*◌, ◌^◌, ◌<◌, ◌≤◌, true, false, List, length};
+ghost use Rattle.std.specs.Prelude.{IsTrue, IsOk, IfOk, OnOk, OnErr, IsErrOf};
+ghost use Rattle.outside_traits.specs.Counts.{Rose};
+ghost use Rattle.outside_traits.specs.View.{View, Counts, Now, Only};
+ghost use Rattle.outside_traits.specs.Calls.{MayRaiseWrites, Rises};
+ghost use Rattle.outside_traits.specs.Runs.{ChangesOnly, Narrows};
+ghost use Rattle.gated_log.specs.Logs.{front, contents};
+ghost use Rattle.record_codec.specs.Spelling.{change_spelling, HasChangeSpelling};
+ghost use Rattle.catalog_core.specs.Table.{Table, empty_table, after, Fits};
+ghost use Rattle.catalog_core.specs.Catalogs.{table_of, IsReady};
+ghost use Rattle.journal_store.specs.Readings.{generation_file};
+ghost use Rattle.journal_store.specs.Journals.{end_of, generation_of};
+ghost use Rattle.folder.specs.State.{State, table, file_bytes};
+ghost use Rattle.folder.specs.Replay.{Replays, ReadsAs, StopsReading, StopsReplay, due_in, is_checkpoint};
+ghost use Rattle.folder.specs.Sound.{Care};
+ghost use Rattle.folder.specs.Left.{IsLeft, IsLeftWith, Since, StaysSound};
+ghost use Rattle.folder.specs.Standing.{Means, IsNext};
+
+use crate::refusal::{LoadRefusal, of_journal};
+use crate::replay::{of_replay, replay};
+use catalog_core::{Catalog, CatalogRefusal};
+use catalog_types::Change;
+use extent_files::write_file;
+use journal_store::{Journal, JournalRefusal};
+use outside_traits::{Failed, Store};
+use std::alloc::Global;
+
+/// A folder that was loaded: its table in memory, and the journal that keeps it.
+#[derive(Drop)]
+pub struct Folder {
+    catalog: Catalog,
+    journal: Journal,
+    ghost room: { end_of journal ≤ 2 ^ 63 + (table_of catalog).tick * 2 ^ 30 },
+}
+
+impl Folder {
+    ghost use Rattle.folder.specs.Folders.{catalog_of, journal_of, table_in, FolderStands, FolderMeans};
+
+    /// Loads a folder, which is made where its making isn't finished. The table is what the logs read as.
+    /// `NotAStore` comes exactly where they read as none, with the first byte where reading stops, and leaves
+    /// each file as it was. `Fault` comes only where the store failed. No file is read but the logs, each
+    /// once.
+    pub fn load<D: Store>(alloc: Global, store: &mut D) -> Result<Folder, LoadRefusal>
+        ensures reading { IsTrue D.tells
+            → IfOk result (λ folder. ReadsAs (D.view store.old).files (table_in folder)) }
+        ensures stands { IsTrue D.tells → IfOk result (λ folder. FolderStands (D.view store.new) folder) }
+        // From a store that is left: each crash since leaves one of its states, and after `Ok` the first alone.
+        // It is never `NotAStore`, by `store`.
+        ensures crash { IsTrue D.tells → (care : Care) (a b : State) → IsLeft care (D.view store.old) a b
+            → Since care a b (D.view store.old) (D.view store.new) }
+        ensures means { IsTrue D.tells → (care : Care) (a b : State) → IsLeft care (D.view store.old) a b
+            → IfOk result (λ folder. FolderMeans care (D.view store.new) folder a) }
+        ensures left { IsTrue D.tells → (care : Care) (a b : State) → IsLeft care (D.view store.old) a b
+            → OnErr result (IsLeftWith care (D.view store.new) a b) }
+        ensures not_a_store { IsTrue D.tells → (file at : ℕ)
+            → IsErrOf result (LoadRefusal.NotAStore file at) → StopsReading (D.view store.old).files file at }
+        ensures store { IsTrue D.tells → (t : Table) → ReadsAs (D.view store.old).files t
+            → (file at : ℕ) → IsErrOf result (LoadRefusal.NotAStore file at) → ⊥ }
+        ensures exactly { IsTrue D.tells → (file at : ℕ) → StopsReading (D.view store.old).files file at
+            → OnOk result ⊥ }
+        ensures place { IsTrue D.tells → (file at g b : ℕ) → StopsReading (D.view store.old).files file at
+            → IsErrOf result (LoadRefusal.NotAStore g b) → (g ≡ file) × (b ≡ at) }
+        ensures unchanged { IsTrue D.tells → (file at : ℕ) → IsErrOf result (LoadRefusal.NotAStore file at)
+            → Narrows (D.view store.old) (D.view store.new) }
+        ensures cause { IsErrOf result LoadRefusal.Fault
+            → Rose (D.counts store.old).reads (D.counts store.new).reads
+            ⊎ Rose (D.counts store.old).writes (D.counts store.new).writes }
+        ensures no_fault { OnOk result
+            (((D.counts store.new).reads ≡ (D.counts store.old).reads)
+            × ((D.counts store.new).writes ≡ (D.counts store.old).writes)) }
+        ensures taken { IsTrue D.tells → IfOk result (λ folder. (D.counts store.new).taken
+            ≤ (D.counts store.old).taken + length ((D.view store.old).files 0)
+            + length ((D.view store.old).files (generation_file (generation_of (journal_of folder))))) }
+        ensures counts { Rises (D.counts store.old) (D.counts store.new) }
+        ensures removes { (D.counts store.new).removes ≡ (D.counts store.old).removes }
+    {
+        let read = Journal::load(alloc, store);
+        Folder::over_read(alloc, read)
+    }
+
+    /// The table.
+    pub fn catalog(&self) -> &Catalog
+        ensures { result.now ≡ catalog_of self.now }
+    {
+        &self.catalog
+    }
+
+    /// The generation in use, and the end of its log.
+    pub fn journal(&self) -> &Journal
+        ensures { result.now ≡ journal_of self.now }
+    {
+        &self.journal
+    }
+
+    /// Takes all the memory that recording the change wants. Nothing changes but that.
+    pub fn prepare(&mut self, change: &Change) -> Result<(), CatalogRefusal>
+        ensures same { table_in self.new ≡ table_in self.old }
+        ensures journal { journal_of self.new ≡ journal_of self.old }
+        ensures ready { OnOk result (IsReady (catalog_of self.new) change.now) }
+        ensures fits { OnOk result (Fits change.now (table_in self.old)) }
+        ensures misfit { IsErrOf result CatalogRefusal.Misfit → Fits change.now (table_in self.old) → ⊥ }
+    {
+        self.catalog.prepare(change)
+    }
+
+    /// Writes the next file, which no state names yet. Each crash leaves the state as it was. `Failed` comes
+    /// only where the store failed. It takes no memory.
+    pub fn write_extent<D: Store>(&self, store: &mut D, bytes: &[u8]) -> Result<(), Failed>
+        requires { (table_in self.now).next_file < 2 ^ 32 }
+        ensures stays { IsTrue D.tells → (care : Care) (s : State)
+            → FolderMeans care (D.view store.old) self.now s
+            → StaysSound care s (D.view store.old) (D.view store.new) }
+        ensures means { IsTrue D.tells → (care : Care) (s : State)
+            → FolderMeans care (D.view store.old) self.now s
+            → FolderMeans care (D.view store.new) self.now s }
+        ensures stands { FolderStands (D.view store.old) self.now → FolderStands (D.view store.new) self.now }
+        ensures stable { IsTrue D.tells → OnOk result
+            (Only bytes.now (Now (D.view store.new) (table_in self.now).next_file)) }
+        ensures alone { ChangesOnly (table_in self.now).next_file (D.view store.old) (D.view store.new) }
+        ensures cause { OnErr result (Rose (D.counts store.old).writes (D.counts store.new).writes) }
+        ensures no_fault { OnOk result ((D.counts store.new).writes ≡ (D.counts store.old).writes) }
+        ensures counts { MayRaiseWrites (D.counts store.old) (D.counts store.new) }
+    {
+        let file = self.catalog.next_file();
+        match write_file(store, file, bytes) {
+            Ok(_) => Ok(()),
+            Err(Failed) => Err(Failed),
+        }
+    }
+
+    /// Records a change for which the folder was prepared. Each crash since leaves the state as it was or the
+    /// next one, and after `Ok` the next one. `Failed` comes only where the store failed. It takes no memory.
+    pub fn record<D: Store>(
+        self,
+        store: &mut D,
+        change: Change,
+        body: &[u8],
+    ) -> Result<Folder, Failed>
+        requires ready { IsReady (catalog_of self) change }
+        requires no_checkpoint { is_checkpoint change ≡ false }
+        requires spelled { HasChangeSpelling change }
+        requires body { body.now ≡ change_spelling change }
+        requires size { length body.now < 2 ^ 29 }
+        ensures table { IfOk result (λ folder. table_in folder ≡ after change (table_in self)) }
+        ensures crash { IsTrue D.tells → (care : Care) (s s' : State)
+            → FolderMeans care (D.view store.old) self s → IsNext care (D.view store.old) s change s'
+            → Since care s s' (D.view store.old) (D.view store.new) }
+        ensures means { IsTrue D.tells → (care : Care) (s s' : State)
+            → FolderMeans care (D.view store.old) self s → IsNext care (D.view store.old) s change s'
+            → IfOk result (λ folder. FolderMeans care (D.view store.new) folder s') }
+        ensures left { IsTrue D.tells → (care : Care) (s s' : State)
+            → FolderMeans care (D.view store.old) self s → IsNext care (D.view store.old) s change s'
+            → OnErr result (IsLeftWith care (D.view store.new) s s') }
+        ensures stands { IsTrue D.tells → FolderStands (D.view store.old) self
+            → IfOk result (λ folder. FolderStands (D.view store.new) folder) }
+        ensures alone { ChangesOnly (generation_file (generation_of (journal_of self)))
+            (D.view store.old) (D.view store.new) }
+        ensures cause { OnErr result (Rose (D.counts store.old).writes (D.counts store.new).writes) }
+        ensures no_fault { OnOk result ((D.counts store.new).writes ≡ (D.counts store.old).writes) }
+        ensures counts { MayRaiseWrites (D.counts store.old) (D.counts store.new) }
+    {
+        let Folder {
+            mut catalog,
+            journal,
+        } = self;
+        match journal.commit(store, body) {
+            Ok(journal) => {
+                catalog.apply(change);
+                Ok(Folder { catalog, journal })
+            }
+            Err(Failed) => Err(Failed),
+        }
+    }
+}
+
+impl Folder {
+    ghost use Rattle.folder.specs.Folders.{journal_of, table_in, Gives};
+
+    // The folder over what was read of the journal.
+    fn over(alloc: Global, journal: Journal, bodies: &[Vec<u8>]) -> Result<Folder, LoadRefusal>
+        requires end { end_of journal ≡ length (front (contents bodies.now)) + 1 }
+        requires bound { end_of journal < 2 ^ 63 }
+        ensures journal { IfOk result (λ folder. journal_of folder ≡ journal) }
+        ensures replays { IfOk result (λ folder. Replays (due_in (generation_of journal)) empty_table
+            (contents bodies.now) (table_in folder)) }
+        ensures stops { (file at : ℕ) → IsErrOf result (LoadRefusal.NotAStore file at)
+            → (file ≡ generation_file (generation_of journal))
+            × StopsReplay (due_in (generation_of journal)) empty_table 8 (contents bodies.now) at }
+        ensures no_fault { IsErrOf result LoadRefusal.Fault → ⊥ }
+    {
+        match replay(alloc, journal.generation(), bodies) {
+            Ok(catalog) => Ok(Folder { catalog, journal }),
+            Err(refusal) => Err(of_replay(journal.file(), refusal)),
+        }
+    }
+
+    // The folder over the journal, if that was loaded.
+    fn over_read(
+        alloc: Global,
+        read: Result<(Journal, Vec<Vec<u8>>), JournalRefusal>,
+    ) -> Result<Folder, LoadRefusal>
+        requires end { IfOk read (λ r. end_of r.0 ≡ length (front (contents r.1.items)) + 1) }
+        requires bound { IfOk read (λ r. end_of r.0 < 2 ^ 63) }
+        ensures { Gives read result }
+    {
+        match read {
+            Ok((journal, bodies)) => Folder::over(alloc, journal, &bodies),
+            Err(refusal) => Err(of_journal(refusal)),
+        }
+    }
+}

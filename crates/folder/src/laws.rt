@@ -1,0 +1,68 @@
+//! Stores that are left, and states that follow.
+ghost use Rattle.std.specs.Prelude.{◌≡◌, ℕ, List, [], Option};
+ghost use Rattle.outside_traits.specs.View.{View, Now, Only};
+ghost use Rattle.outside_traits.specs.Runs.{Narrows};
+ghost use Rattle.rows_core.specs.declared.schema.Column.{Column};
+ghost use Rattle.rows_core.specs.declared.value.Value.{Value};
+ghost use Rattle.catalog_types.specs.declared.change.Change.{Change};
+ghost use Rattle.catalog_types.specs.declared.program.Program.{Program};
+ghost use Rattle.catalog_core.specs.Table.{Table, Fits};
+ghost use Rattle.folder.specs.State.{State, IsValid, extent_of, empty_state, table, file_bytes};
+ghost use Rattle.folder.specs.Replay.{ReadsAs, StopsReading};
+ghost use Rattle.folder.specs.Sound.{Care, IsSound};
+ghost use Rattle.folder.specs.Left.{IsLeft, IsSettled, Since};
+ghost use Rattle.folder.specs.Standing.{Stands, Means, IsNext};
+ghost use Rattle.folder.specs.Next.{with_stream, with_rows, with_run, new_extent, AreRowsOf};
+ghost use Rattle.journal_store.specs.declared.journal.Journal.{Journal};
+
+use outside_traits::Store;
+
+/// Files read as one table, or reading them stops at one place, and never both.
+pub fn one_table()
+    ensures once { (files : ℕ → List ℕ) (x y : Table) → ReadsAs files x → ReadsAs files y → x ≡ y }
+    ensures or_stops { (files : ℕ → List ℕ) (x : Table) (file at : ℕ) → ReadsAs files x
+        → StopsReading files file at → ⊥ }
+    ensures one_place { (files : ℕ → List ℕ) (file at g b : ℕ) → StopsReading files file at
+        → StopsReading files g b → (file ≡ g) × (at ≡ b) }
+{}
+
+/// A store without files is left with the state of a new folder, and one that was begun from files of a state
+/// with that state. So is one whose state a folder means. Calls that change no file keep what is left.
+pub fn left_stores<D: Store>()
+    ensures new { (care : Care) (store : D) → ((file : ℕ) → Only [] (Now (D.view store) file))
+        → IsLeft care (D.view store) empty_state empty_state }
+    ensures begun { (care : Care) (store : D) (s : State)
+        → ((file : ℕ) → Only ((D.view store).files file) (Now (D.view store) file))
+        → IsSound care (D.view store).files s → IsLeft care (D.view store) s s }
+    ensures meant { (care : Care) (store : D) (t : Table) (journal : Journal) (s : State)
+        → Means care (D.view store) t journal s → IsLeft care (D.view store) s s }
+    ensures kept { (care : Care) (a b : State) (before then : D)
+        → Narrows (D.view before) (D.view then) → IsLeft care (D.view before) a b
+        → IsLeft care (D.view then) a b }
+    ensures since { (care : Care) (a b : State) (origin before then : D)
+        → Narrows (D.view before) (D.view then) → Since care a b (D.view origin) (D.view before)
+        → Since care a b (D.view origin) (D.view then) }
+    ensures means { (care : Care) (before then : D) (t : Table) (journal : Journal) (s : State)
+        → Narrows (D.view before) (D.view then) → Means care (D.view before) t journal s
+        → Means care (D.view then) t journal s }
+    ensures stands { (before then : D) (t : Table) (journal : Journal)
+        → Narrows (D.view before) (D.view then) → Stands (D.view before) t journal
+        → Stands (D.view then) t journal }
+{}
+
+/// The states that follow from one, where the change fits its table: with one more stream; with one more
+/// extent, where the next file has the bytes of its rows after each crash now; with what a run leaves.
+pub fn next_states<D: Store>()
+    ensures stream { (care : Care) (store : D) (s : State) (name : List ℕ) (columns : List Column)
+        → IsSettled care (D.view store) s → IsValid s → Fits (Change.Stream name columns) (table s)
+        → IsNext care (D.view store) s (Change.Stream name columns) (with_stream s name columns) }
+    ensures rows { (care : Care) (store : D) (s : State) (place : ℕ) (rows : List (List Value))
+        → IsSettled care (D.view store) s → IsValid s
+        → Fits (Change.Append place (extent_of (new_extent s.next_file rows))) (table s)
+        → AreRowsOf s place rows → Only (file_bytes rows) (Now (D.view store) s.next_file)
+        → IsNext care (D.view store) s (Change.Append place (extent_of (new_extent s.next_file rows)))
+        (with_rows s place rows) }
+    ensures run { (care : Care) (store : D) (s : State) (program : Option Program)
+        → IsSettled care (D.view store) s → IsValid s → Fits (Change.Work program [] [] []) (table s)
+        → IsNext care (D.view store) s (Change.Work program [] [] []) (with_run s program) }
+{}

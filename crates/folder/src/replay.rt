@@ -1,0 +1,118 @@
+//! The table to which the bodies of a log lead.
+ghost use Rattle.std.specs.Prelude.{◌≡◌, ℕ, ◌^◌, ◌<◌, length, IfOk, OnOk, IsErrOf, IfErr};
+ghost use Rattle.gated_log.specs.Logs.{front, contents};
+ghost use Rattle.catalog_types.specs.declared.change.Change.{Change};
+ghost use Rattle.catalog_core.specs.Table.{empty_table, after};
+ghost use Rattle.catalog_core.specs.Catalogs.{table_of};
+ghost use Rattle.folder.specs.Refusals.{change_as, from_place, replay_as, FitsFrom, IsStop};
+ghost use Rattle.folder.specs.Replay.{IsBodyOf, MayBeMade, Replays, StopsReplay, due_in, is_checkpoint};
+
+use crate::refusal::LoadRefusal;
+use catalog_core::{Catalog, CatalogRefusal};
+use catalog_types::Change;
+use journal_store::Journal;
+use record_codec::{ChangeRefusal, read_change};
+use std::alloc::Global;
+
+/// The place of the first gate of a log.
+const FIRST_GATE: u64 = 8;
+
+/// Why bodies aren't replayed.
+#[derive(Clone, Copy)]
+pub enum ReplayRefusal {
+    /// Reading stops at this byte.
+    Stops { at: u64 },
+    /// Memory was refused.
+    Memory,
+}
+
+// Whether the change is a checkpoint.
+fn is_checkpoint(change: &Change) -> bool
+    ensures { result ≡ is_checkpoint change.now }
+{
+    match change {
+        Change::Checkpoint { .. } => true,
+        _ => false,
+    }
+}
+
+// Why a body isn't replayed, where it isn't read as a change.
+fn of_change(refusal: ChangeRefusal) -> ReplayRefusal
+    ensures { result ≡ change_as refusal }
+{
+    match refusal {
+        ChangeRefusal::NotChange { at } => ReplayRefusal::Stops { at },
+        ChangeRefusal::Memory => ReplayRefusal::Memory,
+    }
+}
+
+// Makes the change that a body spells. `Stops` says at which byte of the body reading stops.
+fn make(alloc: Global, catalog: &mut Catalog, due: bool, body: &[u8]) -> Result<(), ReplayRefusal>
+    ensures made { OnOk result ((c : Change) × IsBodyOf c body.now × MayBeMade due (table_of catalog.old) c
+        × (table_of catalog.new ≡ after c (table_of catalog.old))) }
+    ensures stops { IfErr result (IsStop due (table_of catalog.old) body.now) }
+{
+    let change = match read_change(alloc, body) {
+        Ok(change) => change,
+        Err(refusal) => return Err(of_change(refusal)),
+    };
+    if is_checkpoint(&change) != due {
+        return Err(ReplayRefusal::Stops { at: 0 });
+    }
+    match catalog.prepare(&change) {
+        Ok(()) => {
+            catalog.apply(change);
+            Ok(())
+        }
+        Err(CatalogRefusal::Misfit) => Err(ReplayRefusal::Stops { at: 0 }),
+        Err(CatalogRefusal::Memory) => Err(ReplayRefusal::Memory),
+    }
+}
+
+// The refusal of a body that begins at this place.
+fn behind(place: u64, refusal: ReplayRefusal) -> ReplayRefusal
+    requires { FitsFrom place refusal }
+    ensures { result ≡ from_place place refusal }
+{
+    match refusal {
+        ReplayRefusal::Stops { at } => ReplayRefusal::Stops { at: place + at },
+        ReplayRefusal::Memory => ReplayRefusal::Memory,
+    }
+}
+
+// Why a folder isn't loaded, where the log in this file isn't replayed.
+pub(crate) fn of_replay(file: u64, refusal: ReplayRefusal) -> LoadRefusal
+    ensures { result ≡ replay_as file refusal }
+{
+    match refusal {
+        ReplayRefusal::Stops { at } => LoadRefusal::NotAStore { file, at },
+        ReplayRefusal::Memory => LoadRefusal::Memory,
+    }
+}
+
+// The table to which the changes of a generation's log lead. `Stops` says at which byte of the log reading
+// stops.
+pub(crate) fn replay(
+    alloc: Global,
+    generation: u64,
+    bodies: &[Vec<u8>],
+) -> Result<Catalog, ReplayRefusal>
+    requires { length (front (contents bodies.now)) < 2 ^ 63 }
+    ensures replays { IfOk result
+        (λ catalog. Replays (due_in generation) empty_table (contents bodies.now) (table_of catalog)) }
+    ensures stops { (at : ℕ) → IsErrOf result (ReplayRefusal.Stops at)
+        → StopsReplay (due_in generation) empty_table 8 (contents bodies.now) at }
+{
+    let mut catalog = Catalog::new(alloc);
+    let mut due = generation > 0;
+    for i in 0..bodies.len() {
+        match make(alloc, &mut catalog, due, &bodies[i]) {
+            Ok(()) => due = false,
+            Err(refusal) => return Err(behind(Journal::place(bodies, i), refusal)),
+        }
+    }
+    if due {
+        return Err(ReplayRefusal::Stops { at: FIRST_GATE });
+    }
+    Ok(catalog)
+}
