@@ -1,0 +1,5 @@
+pub mod Rows
+pub mod Making
+pub mod Appending
+pub mod Running
+pub mod Recorded

@@ -1,0 +1,102 @@
+//! Runs of plans.
+ghost use Rattle.std.specs.Prelude.{◌≡◌, ◌⊎◌, Ok, Err, IfOk, IfErr, IsErrOf};
+ghost use Rattle.plan_core.specs.TypedPlan.{IsTypedOver};
+ghost use Rattle.plan_grammar.specs.Counts.{IsWithinLimits};
+ghost use Rattle.catalog_core.specs.Catalogs.{table_of};
+ghost use Rattle.catalog_core.specs.Programs.{kinds_of_streams};
+ghost use Rattle.planning.specs.Running.{Run, bound_plan, running, storing, run_of, run_change};
+ghost use Rattle.planning.specs.Running.{extents_of, bytes_of};
+ghost use Rattle.planning.specs.Recorded.{IsRecordOf};
+
+use crate::extents::bytes_of_leaves;
+use crate::program::{program_of, store_program};
+use crate::recording::Recording;
+use crate::typing::typed_plan;
+use catalog_core::Catalog;
+use plan_binder::bind_laws;
+use plan_core::Typed;
+use plan_grammar::NamedPlan;
+use record_codec::small_changes;
+use rows_core::Name;
+use script_text::Refusal;
+use std::alloc::Global;
+
+/// A run of a plan.
+#[derive(Debug, Drop)]
+pub struct RunPlan {
+    /// The plan with numbers for its names, and its typing.
+    pub typed: Typed,
+    /// The bytes of the files that it reads.
+    pub bytes: u64,
+    pub recording: Recording,
+}
+
+/// A run of this plan over all extents of the table, which is stored by the name, or why it is refused:
+/// `Unknown` with the first stream from the left that isn't there, else `IllTyped` where a column isn't there
+/// or the plan has no typing, else the first limit that is passed, of columns, the program's text, programs
+/// and commands. Each comes exactly where it holds and none before it does, unless memory is wanted.
+pub fn plan_run(
+    alloc: Global,
+    catalog: &Catalog,
+    name: Name,
+    plan: &NamedPlan,
+) -> Result<RunPlan, Refusal>
+    requires { IsWithinLimits plan.now }
+    ensures ok { IfOk result (λ p. (r : Run) × (running (table_of catalog.now) name plan.now ≡ Ok r)
+        × (p.typed.plan ≡ r.plan) × IsTypedOver (kinds_of_streams (table_of catalog.now).streams) p.typed
+        × (p.recording.change ≡ run_change r)
+        × IsRecordOf (table_of catalog.now) p.recording.change p.recording.body.items
+        × (p.bytes ≡ bytes_of (extents_of (table_of catalog.now).streams r.plan))) }
+    ensures err { IfErr result (λ why.
+        (running (table_of catalog.now) name plan.now ≡ Err why) ⊎ (why ≡ Refusal.Memory)) }
+    ensures no_fault { IsErrOf result Refusal.Fault → ⊥ }
+{
+    match typed_plan(alloc, catalog, plan) {
+        Ok(typed) => run_typed(alloc, catalog, name, plan, typed),
+        Err(refusal) => Err(refusal),
+    }
+}
+
+// A run of a plan that has a typing.
+fn run_typed(
+    alloc: Global,
+    catalog: &Catalog,
+    name: Name,
+    plan: &NamedPlan,
+    typed: Typed,
+) -> Result<RunPlan, Refusal>
+    requires limits { IsWithinLimits plan.now }
+    requires bound { bound_plan (table_of catalog.now).streams plan.now ≡ Ok typed.plan }
+    requires typed { IsTypedOver (kinds_of_streams (table_of catalog.now).streams) typed }
+    ensures typed { IfOk result (λ p. p.typed ≡ typed) }
+    ensures ok { IfOk result (λ _. storing (table_of catalog.now)
+        (run_of (table_of catalog.now).streams name plan.now typed.plan)
+        ≡ Ok (run_of (table_of catalog.now).streams name plan.now typed.plan)) }
+    ensures change { IfOk result (λ p. p.recording.change
+        ≡ run_change (run_of (table_of catalog.now).streams name plan.now typed.plan)) }
+    ensures recorded { IfOk result (λ p.
+        IsRecordOf (table_of catalog.now) p.recording.change p.recording.body.items) }
+    ensures bytes { IfOk result (λ p.
+        p.bytes ≡ bytes_of (extents_of (table_of catalog.now).streams typed.plan)) }
+    ensures err { IfErr result (λ why. (storing (table_of catalog.now)
+        (run_of (table_of catalog.now).streams name plan.now typed.plan) ≡ Err why)
+        ⊎ (why ≡ Refusal.Memory)) }
+{
+    bind_laws::counts_are_of_the_written_plan();
+    small_changes();
+    let streams = catalog.streams();
+    let Some(bytes) = bytes_of_leaves(streams, typed.leaves()) else {
+        return Err(Refusal::Memory);
+    };
+    let Ok(program) = program_of(alloc, streams, name, plan, typed.leaves()) else {
+        return Err(Refusal::Memory);
+    };
+    match store_program(alloc, catalog, program) {
+        Ok(recording) => Ok(RunPlan {
+            typed,
+            bytes,
+            recording,
+        }),
+        Err(refusal) => Err(refusal),
+    }
+}

@@ -1,0 +1,114 @@
+//! The typing of a plan over the streams of the table.
+ghost use Rattle.std.specs.Prelude.{◌≡◌, ◌⊎◌, ℕ, List, Ok, Err, IfOk, IfErr};
+ghost use Rattle.rows_core.specs.Schema as schema;
+ghost use Rattle.plan_core.specs.PlainPlan.{plan_of, leaves};
+ghost use Rattle.plan_core.specs.TypedPlan.{IsTypedOver};
+ghost use Rattle.plan_core.specs.PlanTyping.{plan_typing};
+ghost use Rattle.plan_grammar.specs.PlainNamed.{PlainTree};
+ghost use Rattle.plan_binder.specs.Binding.{Binds};
+ghost use Rattle.catalog_core.specs.Catalogs.{table_of};
+ghost use Rattle.catalog_core.specs.Programs.{kinds_of_streams};
+ghost use Rattle.catalog_core.specs.Streams.{state_of, states_of};
+ghost use Rattle.catalog_core.specs.Table.{Table};
+ghost use Rattle.planning.specs.Running.{bound_plan, typing_of, unbound, running, running_typed, Run};
+
+use catalog_core::{Catalog, CatalogStream};
+use plan_binder::{BindRefusal, Stream, bind, bind_laws};
+use plan_core::{Plan, PlanRefusal, Schemas, Typed, type_plan};
+use plan_grammar::NamedPlan;
+use rows_core::{Kind, Memory, Seq};
+use script_text::{LimitKind, Refusal};
+use std::alloc::Global;
+
+// The plan with numbers for its names, and its typing, or why a run of it is refused.
+pub(crate) fn typed_plan(
+    alloc: Global,
+    catalog: &Catalog,
+    plan: &NamedPlan,
+) -> Result<Typed, Refusal>
+    ensures bound { IfOk result (λ typed.
+        bound_plan (table_of catalog.now).streams plan.now ≡ Ok typed.plan) }
+    ensures typed { IfOk result (IsTypedOver (kinds_of_streams (table_of catalog.now).streams)) }
+    ensures err { IfErr result (λ why. ((name : List ℕ) →
+        running (table_of catalog.now) name plan.now ≡ Err why) ⊎ (why ≡ Refusal.Memory)) }
+{
+    match bound_over(alloc, catalog, plan) {
+        Ok(bound) => type_bound(alloc, catalog, bound),
+        Err(refusal) => Err(unbound(refusal)),
+    }
+}
+
+// The plan with numbers for its names.
+fn bound_over(alloc: Global, catalog: &Catalog, plan: &NamedPlan) -> Result<Plan, BindRefusal>
+    ensures { Binds result (bound_plan (table_of catalog.now).streams plan.now) }
+{
+    bind(alloc, plan, catalog.streams())
+}
+
+// Why a plan whose names stand for nothing is refused.
+fn unbound(refusal: BindRefusal) -> Refusal
+    ensures { result ≡ unbound refusal }
+{
+    match refusal {
+        BindRefusal::Unknown(name) => Refusal::Unknown(name),
+        BindRefusal::IllTyped => Refusal::IllTyped,
+        BindRefusal::Memory => Refusal::Memory,
+    }
+}
+
+// The typing of a plan whose numbers stand for names.
+fn type_bound(alloc: Global, catalog: &Catalog, plan: Plan) -> Result<Typed, Refusal>
+    requires { (tree : PlainTree) × (bound_plan (table_of catalog.now).streams tree ≡ Ok (plan_of plan)) }
+    ensures plan { IfOk result (λ typed. typed.plan ≡ plan_of plan) }
+    ensures typed { IfOk result (IsTypedOver (kinds_of_streams (table_of catalog.now).streams)) }
+    ensures err { IfErr result (λ why. ((run : Run) → running_typed (table_of catalog.now) run
+        (typing_of (table_of catalog.now).streams (plan_of plan)) ≡ Err why) ⊎ (why ≡ Refusal.Memory)) }
+{
+    bind_laws::leaves_are_the_streams();
+    match schemas_of(alloc, catalog.streams()) {
+        Ok(schemas) => type_over(alloc, &schemas, plan),
+        Err(Memory) => Err(Refusal::Memory),
+    }
+}
+
+// The typing of a plan over streams of these kinds, which are all there.
+fn type_over(alloc: Global, schemas: &Schemas, plan: Plan) -> Result<Typed, Refusal>
+    requires { (number : ℕ)
+        → plan_typing schemas.now.kinds (plan_of plan) ≡ Err (PlanRefusal.Unknown number) → ⊥ }
+    ensures plan { IfOk result (λ typed. typed.plan ≡ plan_of plan) }
+    ensures typed { IfOk result (IsTypedOver schemas.now.kinds) }
+    ensures err { (t : Table) → IfErr result (λ why. ((run : Run) → running_typed t run
+        (plan_typing schemas.now.kinds (plan_of plan)) ≡ Err why) ⊎ (why ≡ Refusal.Memory)) }
+{
+    match type_plan(alloc, plan, schemas) {
+        Ok(typed) => Ok(typed),
+        Err(PlanRefusal::Unknown { .. }) => unreachable!(),
+        Err(PlanRefusal::IllTyped) => Err(Refusal::IllTyped),
+        Err(PlanRefusal::TooMany) => Err(Refusal::Limit(LimitKind::Columns)),
+        Err(PlanRefusal::Memory) => Err(Refusal::Memory),
+    }
+}
+
+// The kinds of the columns of each stream.
+fn schemas_of(alloc: Global, streams: &[CatalogStream]) -> Result<Schemas, Memory>
+    ensures { IfOk result (λ schemas. schemas.kinds ≡ kinds_of_streams (states_of streams.now)) }
+{
+    let mut kinds = Vec::with_capacity(alloc, streams.len())?;
+    for stream in streams {
+        kinds.push(kinds_of(alloc, stream)?)?;
+    }
+    Ok(Schemas {
+        kinds: Seq::new(kinds),
+    })
+}
+
+fn kinds_of(alloc: Global, stream: &CatalogStream) -> Result<Seq<Kind>, Memory>
+    ensures { IfOk result (λ kinds. kinds ≡ schema.kinds_of (state_of stream.now).columns) }
+{
+    let columns = stream.schema().columns();
+    let mut kinds = Vec::with_capacity(alloc, columns.len())?;
+    for column in columns {
+        kinds.push(column.kind)?;
+    }
+    Ok(Seq::new(kinds))
+}
