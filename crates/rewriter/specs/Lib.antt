@@ -1,0 +1,3 @@
+pub mod InStreams
+pub mod Inputs
+pub mod Reads
