@@ -2,7 +2,7 @@
 
 use crate::shown;
 use anyhow::{Context, Result};
-use rows_core::{Name, Row, Seq, Value};
+use rows_core::{Digest, Name, Row, Seq, Value};
 use script_text::{Answer, LimitKind, Refusal, line_count, print_line};
 use std::alloc::Global;
 
@@ -73,9 +73,38 @@ fn refusal(alloc: Global, word: &str, argument: &str) -> Result<Refusal> {
         "exists" => Refusal::Exists(Name::new(alloc, argument.as_bytes())?),
         "type" => Refusal::IllTyped,
         "row" => Refusal::Row(argument.parse::<u64>()?),
+        "fault" => Refusal::Fault,
+        "damaged" => damaged(argument)?,
+        "unreadable" => unreadable(argument)?,
         "overflow" => Refusal::Overflow,
         "memory" => Refusal::Memory,
         _ => return None.context("no such answer"),
+    })
+}
+
+// Of a file's number and two digests in hex.
+fn damaged(argument: &str) -> Result<Refusal> {
+    let (file, digests) = argument.split_once(' ').context("no digest")?;
+    let (kept, found) = digests.split_once(' ').context("one digest")?;
+    Ok(Refusal::Damaged {
+        file: file.parse::<u64>()?,
+        kept: digest_of(kept)?,
+        found: digest_of(found)?,
+    })
+}
+
+fn digest_of(text: &str) -> Result<Digest> {
+    let mut bytes = [0; 32];
+    hex::decode_to_slice(text, &mut bytes)?;
+    Ok(Digest { bytes })
+}
+
+// Of a file's number and a place.
+fn unreadable(argument: &str) -> Result<Refusal> {
+    let (file, at) = argument.split_once(' ').context("no place")?;
+    Ok(Refusal::Unreadable {
+        file: file.parse::<u64>()?,
+        at: at.parse::<u64>()?,
     })
 }
 
@@ -87,10 +116,15 @@ fn limit(word: &str) -> Result<LimitKind> {
         "wide" => LimitKind::Wide,
         "expr" => LimitKind::Expr,
         "text" => LimitKind::Text,
+        "extent" => LimitKind::Extent,
         "columns" => LimitKind::Columns,
         "streams" => LimitKind::Streams,
         "extents" => LimitKind::Extents,
         "allextents" => LimitKind::AllExtents,
+        "plantext" => LimitKind::PlanText,
+        "programs" => LimitKind::Programs,
+        "files" => LimitKind::Files,
+        "commands" => LimitKind::Commands,
         "machine" => LimitKind::Machine,
         _ => return None.context("no such limit"),
     })

@@ -9,6 +9,7 @@ mod reading;
 mod runs;
 mod script;
 mod shown;
+mod stops;
 
 use anyhow::{Context, Result};
 use std::alloc::Global;
@@ -44,6 +45,7 @@ fn answer(alloc: Global, case: &str) -> Result<String> {
         "words" => runs::words(alloc, arguments),
         "reads" => faults::reads(alloc, arguments),
         "writes" => faults::writes(alloc, arguments),
+        "stops" => stops::stops(alloc, arguments),
         _ => None.context("no such subject"),
     }
 }

@@ -3,7 +3,7 @@ ghost use Rattle.std.specs.Prelude.{◌≡◌, ◌≤◌, false, refl, IfOk, OnO
 ghost use Rattle.outside_traits.specs.Counts.{Rose};
 ghost use Rattle.outside_traits.specs.View.{untold};
 
-use crate::folder::Folder;
+use crate::directory::Folder;
 use outside_traits::{Failed, Store};
 use std::fs::File;
 use std::io;

@@ -3,7 +3,7 @@
 
 ghost use Rattle.std.specs.Prelude.{◌≡◌, map, drop, string_bytes, IfOk};
 
-mod folder;
+mod directory;
 mod folder_store;
 #[cfg(test)]
 mod folder_tests;
@@ -22,11 +22,20 @@ use std::{env, io};
 
 fn main(rt: HostRuntime) -> ExitCode {
     let exit = run(&rt);
-    if let Some(message) = message(exit) {
-        // The status tells as much where standard error takes nothing.
-        let _ = rt.eprintln(message);
-    }
+    // The status tells as much where standard error takes nothing.
+    let _ = tell(&rt, exit);
     ExitCode::from(status(exit))
+}
+
+// Writes the line on standard error.
+fn tell(rt: &HostRuntime, exit: Exit) -> io::Result<()> {
+    if let Exit::NotAStore { file, at } = exit {
+        return eprintln!(rt; "nectar: not a store: file {file} at {at}");
+    }
+    match message(exit) {
+        Some(message) => rt.eprintln(message),
+        None => Ok(()),
+    }
 }
 
 // Runs the program on the command line, standard input and standard output.

@@ -4,7 +4,8 @@ ghost use Rattle.nectar_cli.specs.Report.{message_of, status_of};
 
 use nectar_top::Exit;
 
-/// The line on standard error. None where all went well.
+/// The line on standard error, but for that of files that are no folder's, which has their place in it. None
+/// where all went well.
 pub fn message(exit: Exit) -> Option<&'static str>
     ensures { option_copied result ≡ message_of exit }
 {
@@ -13,6 +14,8 @@ pub fn message(exit: Exit) -> Option<&'static str>
         Exit::Usage => Some("usage: nectar FOLDER"),
         Exit::SourceFault => Some("nectar: input failed"),
         Exit::SinkFault => Some("nectar: output failed"),
+        Exit::StoreFault => Some("nectar: folder failed"),
+        Exit::NotAStore { .. } => None,
         Exit::Memory => Some("nectar: out of memory"),
         Exit::ScriptLimit => Some("nectar: script too long"),
     }
@@ -27,7 +30,9 @@ pub fn status(exit: Exit) -> u8
         Exit::Usage => 2,
         Exit::SourceFault => 3,
         Exit::SinkFault => 4,
+        Exit::StoreFault => 5,
         Exit::Memory => 6,
+        Exit::NotAStore { .. } => 7,
         Exit::ScriptLimit => 8,
     }
 }

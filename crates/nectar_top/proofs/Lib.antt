@@ -1,4 +1,6 @@
-pub mod Examples
+pub mod CauseLemmas
+pub mod CrashLemmas
+pub mod LoadingLemmas
 pub mod ProgressLemmas
 pub mod SendingLemmas
 pub mod TakingLemmas

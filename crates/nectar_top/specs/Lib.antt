@@ -1,3 +1,5 @@
+pub mod Crash
+pub mod Loading
 pub mod Machine
 pub mod Outside
 pub mod Progress

@@ -1,16 +1,17 @@
 -- The abstract machine over a script: each command is the session's, and a refused one leaves the state.
-use Rattle.std.specs.Prelude.{◌≡◌, ℕ, List, [], ◌∷◌, flat_map}
+use Rattle.std.specs.Prelude.{◌≡◌, ◌⊎◌, ℕ, List, [], ◌∷◌, flat_map}
 use Rattle.script_text.specs.Answer.{answer_text}
 use Rattle.script_text.specs.declared.answer.Answer.{Answer}
 use Rattle.script_text.specs.declared.item.Item.{Item}
 use Rattle.script_text.specs.declared.item.Item.TheVariants as item
-use Rattle.session.specs.State.{State}
+use Rattle.script_text.specs.declared.answer.Refusal.TheVariants.{Memory}
+use Rattle.folder.specs.State.{State}
 use Rattle.session.specs.Machine as session
 
 -- one step
 abbrev pub Step : State → Item → Answer → State → Type 0
 Step old (item.Command command) answer new = session.Step old command answer new
-Step old (item.Refused why) answer new = session.IsGiven old (session.refused old why) answer new
+Step old (item.Refused why) answer new = (session.outcome answer new ≡ session.refused old why) ⊎ (session.outcome answer new ≡ session.refused old Memory)
 
 -- the machine may give these answers to these commands, one step after another
 abbrev pub Run : State → List Item → List Answer → State → Type 0

@@ -1,70 +1,107 @@
--- What a run of the program has done at each exit, from a first state, by what the source and the sink show before it and
--- after it. Where the source doesn't tell what it has left, some input is meant.
+-- What a run of the program has done at each exit, from what the folder was found with, by what the source and the sink show
+-- before it and after it, and by what the store's crashes leave. Where the source doesn't tell what it has left, some input
+-- is meant.
 use Rattle.std.specs.Prelude.{◌≡◌, ℕ, ◌<◌, ◌≤◌, List, ◌∷◌, [], ◌++◌, length, ◌⊎◌}
 use Rattle.std.specs.Io.KnownBytes.{Consumes, IsAtEnd, Appends}
 use Rattle.outside_traits.specs.Bytes.{Takes}
+use Rattle.outside_traits.specs.View.{View}
 use Rattle.script_text.specs.Answer.{answer_text}
 use Rattle.script_text.specs.Script.{items, all_items}
 use Rattle.script_text.specs.declared.answer.Answer.{Answer}
 use Rattle.script_text.specs.declared.item.Item.{Item}
-use Rattle.session.specs.State.{State}
-use Rattle.nectar_top.specs.Machine.{Run, texts_of}
+use Rattle.folder.specs.State.{State}
+use Rattle.folder.specs.Left.{IsLeft, Since}
+use Rattle.nectar_top.specs.Crash.{Found, Reaches}
+use Rattle.nectar_top.specs.Machine.{Step, Run, texts_of}
 use Rattle.nectar_top.specs.Outside.{Outside}
 
 -- the most bytes of a script
 abbrev pub longest_script : ℕ
 longest_script = 1073741824
 
--- these commands, none left out, in another order or twice, were performed from the first state on, and the text of their
--- answers was written, and nothing else
-pub record Answered (start : State) (commands : List Item) (begun now : Outside) : Type 0 where
+-- These commands, none left out, in another order or twice, were performed from the first state on, and the text of their
+-- answers was written, and nothing else. The store is left with the state after them.
+pub record Answered (found : Found) (u v : View) (commands : List Item) (begun now : Outside) : Type 0 where
   pub answers : List Answer
   pub state : State
-  pub run : Run start commands answers state
+  pub run : Run found.first commands answers state
   pub wrote : Appends begun.written now.written (texts_of answers)
+  pub left : IsLeft found.care v state state
+  pub since : Reaches found commands answers u v
 
 -- the whole input was taken, and all its commands are answered
-pub record IsDone (start : State) (begun now : Outside) : Type 0 where
+pub record IsDone (found : Found) (u v : View) (begun now : Outside) : Type 0 where
   pub input : List ℕ
   pub took : Consumes begun.left now.left input
   pub at_end : IsAtEnd now.left
   pub within : length input ≤ longest_script
-  pub answered : Answered start (all_items input) begun now
+  pub answered : Answered found u v (all_items input) begun now
 
 -- no more of the input came, and the commands of what was taken are answered
-pub record IsCutOff (start : State) (begun now : Outside) : Type 0 where
+pub record IsCutOff (found : Found) (u v : View) (begun now : Outside) : Type 0 where
   pub taken : List ℕ
   pub took : Takes begun.left now.left taken
   pub within : length taken ≤ longest_script
-  pub answered : Answered start (items taken) begun now
+  pub answered : Answered found u v (items taken) begun now
 
 -- one byte more came than a script may have, and the commands before that byte are answered
-pub record IsTooLong (start : State) (begun now : Outside) : Type 0 where
+pub record IsTooLong (found : Found) (u v : View) (begun now : Outside) : Type 0 where
   pub taken : List ℕ
   pub byte : ℕ
   pub took : Consumes begun.left now.left (taken ++ byte ∷ [])
   pub full : length taken ≡ longest_script
-  pub answered : Answered start (items taken) begun now
+  pub answered : Answered found u v (items taken) begun now
 
--- the first of these commands were performed from the first state on, their answers but for the last one were written
--- whole, and of the last one a front that lacks something
-pub record AnsweredInPart (start : State) (commands : List Item) (begun now : Outside) : Type 0 where
+-- The first of these commands were performed from the first state on, their answers but for the last one were written
+-- whole, and of the last one a front that lacks something. The store is left with the state after them.
+pub record AnsweredInPart (found : Found) (u v : View) (commands : List Item) (begun now : Outside) : Type 0 where
   pub performed : List Item
   pub others : List Item
   pub first : commands ≡ performed ++ others
   pub answers : List Answer
   pub last : Answer
   pub state : State
-  pub run : Run start performed (answers ++ last ∷ []) state
+  pub run : Run found.first performed (answers ++ last ∷ []) state
   pub part : List ℕ
   pub rest : List ℕ
   pub last_text : answer_text last ≡ part ++ rest
   pub lacks : 0 < length rest
   pub wrote : Appends begun.written now.written (texts_of answers ++ part)
+  pub left : IsLeft found.care v state state
+  pub since : Reaches found performed (answers ++ last ∷ []) u v
+
+-- The first of these commands were performed from the first state on, and their answers written whole. In the next one the
+-- store failed: nothing was written of its answer, and the store is left with the state before it and the one after it.
+pub record BrokenOff (found : Found) (u v : View) (commands : List Item) (begun now : Outside) : Type 0 where
+  pub performed : List Item
+  pub broken : Item
+  pub others : List Item
+  pub first : commands ≡ performed ++ broken ∷ others
+  pub answers : List Answer
+  pub state : State
+  pub run : Run found.first performed answers state
+  pub wrote : Appends begun.written now.written (texts_of answers)
+  pub answer : Answer
+  pub new : State
+  pub step : Step state broken answer new
+  pub left : IsLeft found.care v state new ⊎ IsLeft found.care v new state
+  pub since : Reaches found (performed ++ broken ∷ []) (answers ++ answer ∷ []) u v
 
 -- an answer could not be written whole
-pub record IsUnwritten (start : State) (begun now : Outside) : Type 0 where
+pub record IsUnwritten (found : Found) (u v : View) (begun now : Outside) : Type 0 where
   pub taken : List ℕ
   pub took : Consumes begun.left now.left taken
   pub within : length taken ≤ longest_script
-  pub answered : AnsweredInPart start (items taken) begun now ⊎ (IsAtEnd now.left × AnsweredInPart start (all_items taken) begun now)
+  pub answered : AnsweredInPart found u v (items taken) begun now ⊎ (IsAtEnd now.left × AnsweredInPart found u v (all_items taken) begun now)
+
+-- the store failed in a command
+pub record IsBroken (found : Found) (u v : View) (begun now : Outside) : Type 0 where
+  pub taken : List ℕ
+  pub took : Consumes begun.left now.left taken
+  pub within : length taken ≤ longest_script
+  pub answered : BrokenOff found u v (items taken) begun now ⊎ (IsAtEnd now.left × BrokenOff found u v (all_items taken) begun now)
+
+-- The folder was not loaded: each crash since leaves one of the states that it was found with, and so the store is left.
+pub record IsUnloaded (found : Found) (u v : View) : Type 0 where
+  pub left : IsLeft found.care v found.first found.other ⊎ IsLeft found.care v found.other found.first
+  pub since : Since found.care found.first found.other u v

@@ -1,18 +1,28 @@
 //! The whole program as one call.
 ghost use Rattle.std.specs.Prelude.{◌≡◌, ◌↔◌, ◌⊎◌, ℕ, ◌+◌, ◌<◌, ◌≤◌, List, ◌++◌, [], length, IfOk, IfErr};
+ghost use Rattle.std.specs.Prelude.{IsTrue, IsErrOf};
 ghost use Rattle.std.specs.Io.KnownBytes.{IsAtEnd};
 ghost use Rattle.outside_traits.specs.Counts.{Rose};
-ghost use Rattle.session.specs.State.{State, empty_state};
-ghost use Rattle.nectar_top.specs.Outside.{Outside, shown};
-ghost use Rattle.nectar_top.specs.Run.{longest_script, IsDone, IsCutOff, IsTooLong, IsUnwritten};
-ghost use Rattle.nectar_top.specs.Turns.{Serving, Ends};
+ghost use Rattle.outside_traits.specs.Calls.{Rises};
+ghost use Rattle.outside_traits.specs.Runs.{Narrows};
+ghost use Rattle.script_text.specs.Reader as reader;
+ghost use Rattle.folder.specs.Left.{IsLeft, Since};
+ghost use Rattle.folder.specs.Replay.{StopsReading};
+ghost use Rattle.session.specs.Standing.{Stands};
+ghost use Rattle.nectar_top.specs.Crash.{Found};
+ghost use Rattle.nectar_top.specs.Loading.{HasLoadingCause, WereNotTaken, exit_of};
+ghost use Rattle.nectar_top.specs.Outside.{Outside, shown, faults, NoneFell};
+ghost use Rattle.nectar_top.specs.Run.{longest_script, IsDone, IsCutOff, IsTooLong, IsUnwritten, IsBroken};
+ghost use Rattle.nectar_top.specs.Run.{IsUnloaded};
+ghost use Rattle.nectar_top.specs.Turns.{Serving, Ends, HasCause};
 ghost use Rattle.nectar_top.specs.Words.{AreAccepted};
 
 use crate::exit::Exit;
-use crate::server::Server;
-use crate::words::are_accepted;
+use crate::server::{Room, Server};
+use crate::words::folder_of;
 use outside_traits::{Failed, Sink, Source, Store};
 use rows_core::Memory;
+use session::{LoadRefusal, Session};
 use std::alloc::Global;
 
 /// The most bytes of a script.
@@ -24,8 +34,10 @@ const PIECE_LEN: usize = 65_536;
 /// Runs the program on the words of the command line, without its own name. The script comes from the source,
 /// and each command's answer goes to the sink before the next command is performed.
 ///
-/// The words are one, the folder: not empty, and not beginning with `-`. The state lives in memory and begins
-/// empty; the store isn't called yet.
+/// The words are one, the folder: not empty, and not beginning with `-`. The folder is attached and loaded
+/// first. What a crash leaves is said of a folder that was left by such a run: each crash, at any moment,
+/// leaves the state after a prefix of the commands, and at each exit the folder is left so that every command
+/// whose answer began to be written is kept.
 pub fn nectar<S: Source, K: Sink, D: Store>(
     alloc: Global,
     words: &[&str],
@@ -33,78 +45,170 @@ pub fn nectar<S: Source, K: Sink, D: Store>(
     sink: &mut K,
     store: &mut D,
 ) -> Exit
-    // Other words end the run before anything is touched, and so may want of memory.
+    // Other words end the run before anything is touched.
     ensures usage { (result ≡ Exit.Usage) ↔ (AreAccepted words.now → ⊥) }
-    ensures untouched { (result ≡ Exit.Usage) ⊎ (result ≡ Exit.Memory) → (source.new ≡ source.old)
-        × (sink.new ≡ sink.old) }
-    ensures store { store.new ≡ store.old }
+    ensures usage_store { result ≡ Exit.Usage → store.new ≡ store.old }
+    // Where no command is taken, nothing is read of the script or written.
+    ensures untouched { WereNotTaken result → (source.new ≡ source.old) × (sink.new ≡ sink.old) }
 
-    // The whole script was taken, and its commands are answered.
-    ensures done { result ≡ Exit.Done → IsDone empty_state
-        (shown (S.left source.old) (K.written sink.old) (S.faults source.old) (K.faults sink.old))
-        (shown (S.left source.new) (K.written sink.new) (S.faults source.new) (K.faults sink.new)) }
+    // The whole script was taken, and its commands are answered and kept.
+    ensures done { IsTrue D.tells → (found : Found)
+        → IsLeft found.care (D.view store.old) found.first found.other → result ≡ Exit.Done
+        → IsDone found (D.view store.old) (D.view store.new)
+        (shown (S.left source.old) (K.written sink.old)) (shown (S.left source.new) (K.written sink.new)) }
 
-    // The commands that end in what was taken are answered.
-    ensures source_fault { result ≡ Exit.SourceFault → IsCutOff empty_state
-        (shown (S.left source.old) (K.written sink.old) (S.faults source.old) (K.faults sink.old))
-        (shown (S.left source.new) (K.written sink.new) (S.faults source.new) (K.faults sink.new)) }
+    // The commands that end in what was taken are answered and kept.
+    ensures source_fault { IsTrue D.tells → (found : Found)
+        → IsLeft found.care (D.view store.old) found.first found.other → result ≡ Exit.SourceFault
+        → IsCutOff found (D.view store.old) (D.view store.new)
+        (shown (S.left source.old) (K.written sink.old)) (shown (S.left source.new) (K.written sink.new)) }
     ensures source_cause { result ≡ Exit.SourceFault → Rose (S.faults source.old) (S.faults source.new) }
-    ensures script_limit { result ≡ Exit.ScriptLimit → IsTooLong empty_state
-        (shown (S.left source.old) (K.written sink.old) (S.faults source.old) (K.faults sink.old))
-        (shown (S.left source.new) (K.written sink.new) (S.faults source.new) (K.faults sink.new)) }
+    ensures script_limit { IsTrue D.tells → (found : Found)
+        → IsLeft found.care (D.view store.old) found.first found.other → result ≡ Exit.ScriptLimit
+        → IsTooLong found (D.view store.old) (D.view store.new)
+        (shown (S.left source.old) (K.written sink.old)) (shown (S.left source.new) (K.written sink.new)) }
 
-    // All answers but the last one are written whole.
-    ensures sink_fault { result ≡ Exit.SinkFault → IsUnwritten empty_state
-        (shown (S.left source.old) (K.written sink.old) (S.faults source.old) (K.faults sink.old))
-        (shown (S.left source.new) (K.written sink.new) (S.faults source.new) (K.faults sink.new)) }
+    // All answers but the last one are written whole, and all that were begun are kept.
+    ensures sink_fault { IsTrue D.tells → (found : Found)
+        → IsLeft found.care (D.view store.old) found.first found.other → result ≡ Exit.SinkFault
+        → IsUnwritten found (D.view store.old) (D.view store.new)
+        (shown (S.left source.old) (K.written sink.old)) (shown (S.left source.new) (K.written sink.new)) }
     ensures sink_cause { result ≡ Exit.SinkFault → Rose (K.faults sink.old) (K.faults sink.new) }
+
+    // The store failed in a command, of which no answer is written; or before the first one.
+    ensures store_fault { IsTrue D.tells → (found : Found)
+        → IsLeft found.care (D.view store.old) found.first found.other → result ≡ Exit.StoreFault
+        → IsBroken found (D.view store.old) (D.view store.new)
+        (shown (S.left source.old) (K.written sink.old)) (shown (S.left source.new) (K.written sink.new))
+        ⊎ ((source.new ≡ source.old) × (sink.new ≡ sink.old)
+        × IsUnloaded found (D.view store.old) (D.view store.new)) }
+    ensures store_cause { result ≡ Exit.StoreFault
+        → Rose (D.counts store.old).writes (D.counts store.new).writes
+        ⊎ ((source.new ≡ source.old) × (sink.new ≡ sink.old)
+        × Rose (D.counts store.old).reads (D.counts store.new).reads) }
+
+    // Want of memory comes before the first command alone.
+    ensures memory { IsTrue D.tells → (found : Found)
+        → IsLeft found.care (D.view store.old) found.first found.other → result ≡ Exit.Memory
+        → IsUnloaded found (D.view store.old) (D.view store.new) }
+
+    // Reading the log files stops there, and no file is changed; and where it stops the run ends so, but for
+    // a fault of the store or want of memory.
+    ensures not_a_store { IsTrue D.tells → (file at : ℕ) → result ≡ Exit.NotAStore file at
+        → StopsReading (D.view store.old).files file at × Narrows (D.view store.old) (D.view store.new) }
+    ensures stopped { IsTrue D.tells → (file at : ℕ) → AreAccepted words.now
+        → StopsReading (D.view store.old).files file at
+        → (result ≡ Exit.NotAStore file at) ⊎ ((result ≡ Exit.StoreFault) ⊎ (result ≡ Exit.Memory)) }
 {
-    let _ = store;
-    if !are_accepted(words) {
+    let Some(folder) = folder_of(words) else {
         return Exit::Usage;
+    };
+    match begin(alloc, folder, store) {
+        Ok((server, mut piece)) => serve(server, &mut piece, source, sink, store),
+        Err(exit) => exit,
     }
-    match begin(alloc) {
-        Ok((server, mut piece)) => serve(server, &mut piece, source, sink),
-        Err(Memory) => Exit::Memory,
+}
+
+// All the memory that a run needs but for its rows, and the folder's session.
+fn begin<D: Store>(alloc: Global, folder: &str, store: &mut D) -> Result<(Server, Vec<u8>), Exit>
+    ensures server { IsTrue D.tells → (found : Found)
+        → IsLeft found.care (D.view store.old) found.first found.other → IfOk result (λ begun. (outside : Outside)
+        → Serving found (D.view store.old) (D.view store.new) begun.0.reader begun.0.session [] [] outside
+        outside) }
+    ensures piece { IfOk result (λ begun. 0 < length begun.1.items) }
+    ensures left { IsTrue D.tells → (found : Found)
+        → IsLeft found.care (D.view store.old) found.first found.other
+        → IfErr result (λ exit. IsUnloaded found (D.view store.old) (D.view store.new)) }
+    ensures not_a_store { IsTrue D.tells → (file at : ℕ) → IsErrOf result (Exit.NotAStore file at)
+        → StopsReading (D.view store.old).files file at × Narrows (D.view store.old) (D.view store.new) }
+    ensures stopped { IsTrue D.tells → (file at : ℕ) → StopsReading (D.view store.old).files file at
+        → IsErrOf result (Exit.NotAStore file at) ⊎ (IsErrOf result Exit.StoreFault ⊎ IsErrOf result Exit.Memory) }
+    ensures cause { IfErr result (λ exit. HasLoadingCause exit (D.counts store.old) (D.counts store.new)) }
+    ensures counts { Rises (D.counts store.old) (D.counts store.new) }
+{
+    match room_of_a_run(alloc) {
+        Ok((room, piece)) => match load_folder(alloc, folder, store) {
+            Ok(session) => Ok((Server::new(room, session), piece)),
+            Err(exit) => Err(exit),
+        },
+        Err(Memory) => Err(Exit::Memory),
     }
 }
 
 // All the memory that a run needs but for its rows.
-fn begin(alloc: Global) -> Result<(Server, Vec<u8>), Memory>
-    ensures server { IfOk result
-        (λ begun. (outside : Outside)
-        → Serving empty_state begun.0.reader begun.0.session [] [] outside outside) }
-    ensures piece { IfOk result (λ begun. 0 < length begun.1.items) }
+fn room_of_a_run(alloc: Global) -> Result<(Room, Vec<u8>), Memory>
+    ensures room { IfOk result (λ room. reader.Stands room.0.reader []) }
+    ensures piece { IfOk result (λ room. 0 < length room.1.items) }
 {
-    let server = Server::new(alloc)?;
+    let room = Room::new(alloc)?;
     let piece = vec![in alloc; 0; PIECE_LEN]?;
-    Ok((server, piece))
+    Ok((room, piece))
+}
+
+// Loads the folder's session.
+fn load_folder<D: Store>(alloc: Global, folder: &str, store: &mut D) -> Result<Session, Exit>
+    ensures stands { IsTrue D.tells → (found : Found)
+        → IsLeft found.care (D.view store.old) found.first found.other
+        → IfOk result (λ session. Stands found.care (D.view store.new) session found.first) }
+    ensures since { IsTrue D.tells → (found : Found)
+        → IsLeft found.care (D.view store.old) found.first found.other
+        → Since found.care found.first found.other (D.view store.old) (D.view store.new) }
+    ensures left { IsTrue D.tells → (found : Found)
+        → IsLeft found.care (D.view store.old) found.first found.other
+        → IfErr result (λ exit. IsUnloaded found (D.view store.old) (D.view store.new)) }
+    ensures not_a_store { IsTrue D.tells → (file at : ℕ) → IsErrOf result (Exit.NotAStore file at)
+        → StopsReading (D.view store.old).files file at × Narrows (D.view store.old) (D.view store.new) }
+    ensures stopped { IsTrue D.tells → (file at : ℕ) → StopsReading (D.view store.old).files file at
+        → IsErrOf result (Exit.NotAStore file at) ⊎ (IsErrOf result Exit.StoreFault ⊎ IsErrOf result Exit.Memory) }
+    ensures cause { IfErr result (λ exit. HasLoadingCause exit (D.counts store.old) (D.counts store.new)) }
+    ensures counts { Rises (D.counts store.old) (D.counts store.new) }
+{
+    match store.attach(folder) {
+        Ok(()) => match Session::load(alloc, store) {
+            Ok(session) => Ok(session),
+            Err(refusal) => Err(exit_of(refusal)),
+        },
+        Err(Failed) => Err(Exit::StoreFault),
+    }
+}
+
+// The exit of a run whose folder isn't loaded.
+fn exit_of(refusal: LoadRefusal) -> Exit
+    ensures { result ≡ exit_of refusal }
+{
+    match refusal {
+        LoadRefusal::Fault => Exit::StoreFault,
+        LoadRefusal::NotAStore { file, at } => Exit::NotAStore { file, at },
+        LoadRefusal::Memory => Exit::Memory,
+    }
 }
 
 // Takes the script to its end or its limit.
-fn serve<S: Source, K: Sink>(
+fn serve<S: Source, K: Sink, D: Store>(
     mut server: Server,
     piece: &mut [u8],
     source: &mut S,
     sink: &mut K,
+    store: &mut D,
 ) -> Exit
     requires room { 0 < length piece.old }
-    ensures { (start : State)
-        → Serving start server.reader server.session [] []
-        (shown (S.left source.old) (K.written sink.old) (S.faults source.old) (K.faults sink.old))
-        (shown (S.left source.old) (K.written sink.old) (S.faults source.old) (K.faults sink.old))
-        → Ends start result
-        (shown (S.left source.old) (K.written sink.old) (S.faults source.old) (K.faults sink.old))
-        (shown (S.left source.new) (K.written sink.new) (S.faults source.new) (K.faults sink.new)) }
+    ensures ends { IsTrue D.tells → (found : Found) (origin : D)
+        → Serving found (D.view origin) (D.view store.old) server.reader server.session [] []
+        (shown (S.left source.old) (K.written sink.old)) (shown (S.left source.old) (K.written sink.old))
+        → Ends found (D.view origin) (D.view store.new) result
+        (shown (S.left source.old) (K.written sink.old)) (shown (S.left source.new) (K.written sink.new)) }
+    ensures cause { HasCause result
+        (faults (S.faults source.old) (K.faults sink.old) (D.counts store.old))
+        (faults (S.faults source.new) (K.faults sink.new) (D.counts store.new)) }
 {
     let mut taken = 0;
     for _ in 0..=MAX_SCRIPT_LEN {
         if taken == MAX_SCRIPT_LEN {
-            return serve_limit(server, source, sink);
+            return serve_limit(server, source, sink, store);
         }
         let room = piece.len().min(MAX_SCRIPT_LEN - taken);
-        match serve_piece(server, &mut piece[..room], source, sink) {
-            Ok((next, 0)) => return next.end(sink),
+        match serve_piece(server, &mut piece[..room], source, sink, store) {
+            Ok((next, 0)) => return next.end(sink, store),
             Ok((next, count)) => {
                 server = next;
                 taken += count;
@@ -117,30 +221,38 @@ fn serve<S: Source, K: Sink>(
 
 // Reads the next piece of the script, and answers the commands that end in it. A piece of 0 bytes is the
 // script's end.
-fn serve_piece<S: Source, K: Sink>(
+fn serve_piece<S: Source, K: Sink, D: Store>(
     server: Server,
     piece: &mut [u8],
     source: &mut S,
     sink: &mut K,
+    store: &mut D,
 ) -> Result<(Server, usize), Exit>
     requires { 0 < length piece.old }
     ensures bound { IfOk result (λ next. next.1 ≤ length piece.old) }
     ensures end { IfOk result (λ next. next.1 ≡ 0 → IsAtEnd (S.left source.new)) }
-    ensures ok { IfOk result (λ next. (start : State) (served : List ℕ) (begun : Outside)
-        → Serving start server.reader server.session served [] begun
-        (shown (S.left source.old) (K.written sink.old) (S.faults source.old) (K.faults sink.old))
+    ensures ok { IsTrue D.tells → IfOk result (λ next. (found : Found) (origin : D) (served : List ℕ)
+        (begun : Outside)
+        → Serving found (D.view origin) (D.view store.old) server.reader server.session served [] begun
+        (shown (S.left source.old) (K.written sink.old))
         → (more : List ℕ) × (length more ≡ next.1)
-        × Serving start next.0.reader next.0.session (served ++ more) [] begun
-        (shown (S.left source.new) (K.written sink.new) (S.faults source.new) (K.faults sink.new))) }
-    ensures err { IfErr result (λ exit. (start : State) (served : List ℕ) (begun : Outside)
-        → Serving start server.reader server.session served [] begun
-        (shown (S.left source.old) (K.written sink.old) (S.faults source.old) (K.faults sink.old))
+        × Serving found (D.view origin) (D.view store.new) next.0.reader next.0.session (served ++ more) []
+        begun (shown (S.left source.new) (K.written sink.new))) }
+    ensures err { IsTrue D.tells → IfErr result (λ exit. (found : Found) (origin : D) (served : List ℕ)
+        (begun : Outside)
+        → Serving found (D.view origin) (D.view store.old) server.reader server.session served [] begun
+        (shown (S.left source.old) (K.written sink.old))
         → length served + length piece.old ≤ longest_script
-        → Ends start exit begun
-        (shown (S.left source.new) (K.written sink.new) (S.faults source.new) (K.faults sink.new))) }
+        → Ends found (D.view origin) (D.view store.new) exit begun
+        (shown (S.left source.new) (K.written sink.new))) }
+    ensures cause { IfErr result (λ exit. HasCause exit
+        (faults (S.faults source.old) (K.faults sink.old) (D.counts store.old))
+        (faults (S.faults source.new) (K.faults sink.new) (D.counts store.new))) }
+    ensures counts { NoneFell (faults (S.faults source.old) (K.faults sink.old) (D.counts store.old))
+        (faults (S.faults source.new) (K.faults sink.new) (D.counts store.new)) }
 {
     match source.read(piece) {
-        Ok(count) => match server.take(&piece[..count], sink) {
+        Ok(count) => match server.take(&piece[..count], sink, store) {
             Ok(server) => Ok((server, count)),
             Err(exit) => Err(exit),
         },
@@ -149,17 +261,25 @@ fn serve_piece<S: Source, K: Sink>(
 }
 
 // As many bytes were taken as a script may have: the run ends where there is one more, which isn't served.
-fn serve_limit<S: Source, K: Sink>(server: Server, source: &mut S, sink: &mut K) -> Exit
-    ensures { (start : State) (served : List ℕ) (begun : Outside)
-        → Serving start server.reader server.session served [] begun
-        (shown (S.left source.old) (K.written sink.old) (S.faults source.old) (K.faults sink.old))
+fn serve_limit<S: Source, K: Sink, D: Store>(
+    server: Server,
+    source: &mut S,
+    sink: &mut K,
+    store: &mut D,
+) -> Exit
+    ensures ends { IsTrue D.tells → (found : Found) (origin : D) (served : List ℕ) (begun : Outside)
+        → Serving found (D.view origin) (D.view store.old) server.reader server.session served [] begun
+        (shown (S.left source.old) (K.written sink.old))
         → length served ≡ longest_script
-        → Ends start result begun
-        (shown (S.left source.new) (K.written sink.new) (S.faults source.new) (K.faults sink.new)) }
+        → Ends found (D.view origin) (D.view store.new) result begun
+        (shown (S.left source.new) (K.written sink.new)) }
+    ensures cause { HasCause result
+        (faults (S.faults source.old) (K.faults sink.old) (D.counts store.old))
+        (faults (S.faults source.new) (K.faults sink.new) (D.counts store.new)) }
 {
     let mut byte = [0];
     match source.read(&mut byte) {
-        Ok(0) => server.end(sink),
+        Ok(0) => server.end(sink, store),
         Ok(_) => Exit::ScriptLimit,
         Err(Failed) => Exit::SourceFault,
     }

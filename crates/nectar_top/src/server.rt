@@ -1,19 +1,24 @@
 //! What serves a script: the reader of its commands, the session, and the room for a line of an answer.
 ghost use Rattle.std.specs.Prelude.{◌≡◌, ℕ, ◌<◌, ◌≤◌, List, [], ◌++◌, length, take, drop, IfOk};
-ghost use Rattle.std.specs.Prelude.{IfErr, vec_capacity};
+ghost use Rattle.std.specs.Prelude.{IfErr, OnErr, IsTrue, vec_capacity};
 ghost use Rattle.std.specs.Io.KnownBytes.{IsAtEnd};
+ghost use Rattle.outside_traits.specs.Counts.{Rose};
+ghost use Rattle.outside_traits.specs.Calls.{Rises};
 ghost use Rattle.script_text.specs.Answer.{IsNarrow};
 ghost use Rattle.script_text.specs.Script.{IsWholeItem};
-ghost use Rattle.session.specs.State.{State, empty_state, StandsFor};
-ghost use Rattle.nectar_top.specs.Machine.{Step};
-ghost use Rattle.nectar_top.specs.Outside.{Outside, with_sink};
-ghost use Rattle.nectar_top.specs.Progress.{Sends, Fails};
+ghost use Rattle.folder.specs.Sound.{Care};
+ghost use Rattle.folder.specs.State.{State};
+ghost use Rattle.nectar_top.specs.Crash.{Found};
+ghost use Rattle.nectar_top.specs.Outside.{Outside, with_sink, faults, NoneFell};
+ghost use Rattle.nectar_top.specs.Progress.{Performs, Breaks, Sends, Fails};
 ghost use Rattle.nectar_top.specs.Run.{longest_script};
-ghost use Rattle.nectar_top.specs.Turns.{Serving, Ends};
+ghost use Rattle.nectar_top.specs.Turns.{Serving, Ends, HasCause};
+ghost use Rattle.script_text.specs.Reader as reader;
+ghost use Rattle.session.specs.Standing.{Stands};
 
 use crate::exit::Exit;
 use crate::sending::{LINE_LEN, send};
-use outside_traits::{Failed, Sink};
+use outside_traits::{Failed, Sink, Store};
 use rows_core::Memory;
 use script_text::{Answer, Item, Lines};
 use session::Session;
@@ -30,36 +35,49 @@ pub struct Server {
 }
 
 impl Server {
-    /// The empty state, with all the memory that answers will need.
-    pub fn new(alloc: Global) -> Result<Server, Memory>
-        ensures { IfOk result
-            (λ server. (begun : Outside)
-            → Serving empty_state server.reader server.session [] [] begun begun) }
+    /// What serves a session's commands, in this room.
+    pub fn new(room: Room, session: Session) -> Server
+        ensures reader { result.reader ≡ room.reader }
+        ensures session { result.session ≡ session }
     {
-        Ok(Server {
-            reader: Lines::new(alloc)?,
-            session: Session::new(alloc),
-            room: Vec::with_capacity(alloc, LINE_LEN)?,
-        })
+        let Room { reader, line } = room;
+        Server {
+            reader,
+            session,
+            room: line,
+        }
     }
 
     /// Takes a piece of the script that the source gave, and answers the commands that end in it.
-    pub fn take<K: Sink>(self, piece: &[u8], sink: &mut K) -> Result<Server, Exit>
-        ensures ok { IfOk result (λ server. (start : State) (served : List ℕ) (begun before : Outside)
-            → Serving start self.reader self.session served piece.now begun
-            (with_sink before (K.written sink.old) (K.faults sink.old))
-            → Serving start server.reader server.session (served ++ piece.now) [] begun
-            (with_sink before (K.written sink.new) (K.faults sink.new))) }
-        ensures err { IfErr result (λ exit. (start : State) (served : List ℕ) (begun before : Outside)
-            → Serving start self.reader self.session served piece.now begun
-            (with_sink before (K.written sink.old) (K.faults sink.old))
+    pub fn take<K: Sink, D: Store>(
+        self,
+        piece: &[u8],
+        sink: &mut K,
+        store: &mut D,
+    ) -> Result<Server, Exit>
+        ensures ok { IsTrue D.tells → IfOk result (λ server. (found : Found) (origin : D)
+            (served : List ℕ) (begun before : Outside)
+            → Serving found (D.view origin) (D.view store.old) self.reader self.session served piece.now begun
+            (with_sink before (K.written sink.old))
+            → Serving found (D.view origin) (D.view store.new) server.reader server.session
+            (served ++ piece.now) [] begun (with_sink before (K.written sink.new))) }
+        ensures err { IsTrue D.tells → IfErr result (λ exit. (found : Found) (origin : D)
+            (served : List ℕ) (begun before : Outside)
+            → Serving found (D.view origin) (D.view store.old) self.reader self.session served piece.now begun
+            (with_sink before (K.written sink.old))
             → length (served ++ piece.now) ≤ longest_script
-            → Ends start exit begun (with_sink before (K.written sink.new) (K.faults sink.new))) }
+            → Ends found (D.view origin) (D.view store.new) exit begun
+            (with_sink before (K.written sink.new))) }
+        ensures cause { IfErr result (λ exit. (source : ℕ)
+            → HasCause exit (faults source (K.faults sink.old) (D.counts store.old))
+            (faults source (K.faults sink.new) (D.counts store.new))) }
+        ensures counts { (source : ℕ) → NoneFell (faults source (K.faults sink.old) (D.counts store.old))
+            (faults source (K.faults sink.new) (D.counts store.new)) }
     {
         let mut server = self;
         let mut at = 0;
         while at < piece.len() {
-            match server.take_command(&piece[at..], sink) {
+            match server.take_command(&piece[at..], sink, store) {
                 Ok((next, count)) => {
                     server = next;
                     at += count;
@@ -71,12 +89,16 @@ impl Server {
     }
 
     /// The script ends here: answers the command that it leaves unfinished.
-    pub fn end<K: Sink>(self, sink: &mut K) -> Exit
-        ensures { (start : State) (served : List ℕ) (begun before : Outside)
-            → Serving start self.reader self.session served [] begun
-            (with_sink before (K.written sink.old) (K.faults sink.old))
+    pub fn end<K: Sink, D: Store>(self, sink: &mut K, store: &mut D) -> Exit
+        ensures ends { IsTrue D.tells → (found : Found) (origin : D) (served : List ℕ) (begun before : Outside)
+            → Serving found (D.view origin) (D.view store.old) self.reader self.session served [] begun
+            (with_sink before (K.written sink.old))
             → IsAtEnd before.left → length served ≤ longest_script
-            → Ends start result begun (with_sink before (K.written sink.new) (K.faults sink.new)) }
+            → Ends found (D.view origin) (D.view store.new) result begun
+            (with_sink before (K.written sink.new)) }
+        ensures cause { (source : ℕ)
+            → HasCause result (faults source (K.faults sink.old) (D.counts store.old))
+            (faults source (K.faults sink.new) (D.counts store.new)) }
     {
         let Server {
             reader,
@@ -84,7 +106,7 @@ impl Server {
             mut room,
         } = self;
         match reader.finish() {
-            Some(item) => match answer(session, item, &mut room, sink) {
+            Some(item) => match answer(session, item, &mut room, sink, store) {
                 Ok(_) => Exit::Done,
                 Err(exit) => exit,
             },
@@ -93,19 +115,33 @@ impl Server {
     }
 
     // Takes bytes up to the end of the first command, which it answers, or all of them, and says how many.
-    fn take_command<K: Sink>(self, piece: &[u8], sink: &mut K) -> Result<(Server, usize), Exit>
+    fn take_command<K: Sink, D: Store>(
+        self,
+        piece: &[u8],
+        sink: &mut K,
+        store: &mut D,
+    ) -> Result<(Server, usize), Exit>
         requires { 0 < length piece.now }
         ensures bound { IfOk result (λ next. (0 < next.1) × (next.1 ≤ length piece.now)) }
-        ensures ok { IfOk result (λ next. (start : State) (served : List ℕ) (begun before : Outside)
-            → Serving start self.reader self.session served piece.now begun
-            (with_sink before (K.written sink.old) (K.faults sink.old))
-            → Serving start next.0.reader next.0.session (served ++ take next.1 piece.now)
-            (drop next.1 piece.now) begun (with_sink before (K.written sink.new) (K.faults sink.new))) }
-        ensures err { IfErr result (λ exit. (start : State) (served : List ℕ) (begun before : Outside)
-            → Serving start self.reader self.session served piece.now begun
-            (with_sink before (K.written sink.old) (K.faults sink.old))
+        ensures ok { IsTrue D.tells → IfOk result (λ next. (found : Found) (origin : D)
+            (served : List ℕ) (begun before : Outside)
+            → Serving found (D.view origin) (D.view store.old) self.reader self.session served piece.now begun
+            (with_sink before (K.written sink.old))
+            → Serving found (D.view origin) (D.view store.new) next.0.reader next.0.session
+            (served ++ take next.1 piece.now) (drop next.1 piece.now) begun
+            (with_sink before (K.written sink.new))) }
+        ensures err { IsTrue D.tells → IfErr result (λ exit. (found : Found) (origin : D)
+            (served : List ℕ) (begun before : Outside)
+            → Serving found (D.view origin) (D.view store.old) self.reader self.session served piece.now begun
+            (with_sink before (K.written sink.old))
             → length (served ++ piece.now) ≤ longest_script
-            → Ends start exit begun (with_sink before (K.written sink.new) (K.faults sink.new))) }
+            → Ends found (D.view origin) (D.view store.new) exit begun
+            (with_sink before (K.written sink.new))) }
+        ensures cause { IfErr result (λ exit. (source : ℕ)
+            → HasCause exit (faults source (K.faults sink.old) (D.counts store.old))
+            (faults source (K.faults sink.new) (D.counts store.new))) }
+        ensures counts { (source : ℕ) → NoneFell (faults source (K.faults sink.old) (D.counts store.old))
+            (faults source (K.faults sink.new) (D.counts store.new)) }
     {
         let Server {
             mut reader,
@@ -122,7 +158,7 @@ impl Server {
                 };
                 Ok((server, count))
             }
-            Some(item) => match answer(session, item, &mut room, sink) {
+            Some(item) => match answer(session, item, &mut room, sink, store) {
                 Ok(session) => {
                     let server = Server {
                         reader,
@@ -137,38 +173,77 @@ impl Server {
     }
 }
 
+/// All the memory that answers will need, and the reader of commands.
+#[derive(Drop)]
+pub struct Room {
+    pub reader: Lines,
+    line: Vec<u8>,
+    ghost roomy: { 65536 ≤ vec_capacity line },
+}
+
+impl Room {
+    /// The room of a run that begins.
+    pub fn new(alloc: Global) -> Result<Room, Memory>
+        ensures { IfOk result (λ room. reader.Stands room.reader []) }
+    {
+        Ok(Room {
+            reader: Lines::new(alloc)?,
+            line: Vec::with_capacity(alloc, LINE_LEN)?,
+        })
+    }
+}
+
 // Performs a command and sends its answer.
-fn answer<K: Sink>(
+fn answer<K: Sink, D: Store>(
     session: Session,
     item: Item,
     room: &mut Vec<u8>,
     sink: &mut K,
+    store: &mut D,
 ) -> Result<Session, Exit>
     requires room { 65536 ≤ vec_capacity room.old }
     requires whole { IsWholeItem item }
     ensures room { vec_capacity room.old ≤ vec_capacity room.new }
-    ensures ok { IfOk result (λ next. (old : State) (before : Outside) → StandsFor session old
-        → Sends old item next (with_sink before (K.written sink.old) (K.faults sink.old))
-        (with_sink before (K.written sink.new) (K.faults sink.new))) }
-    ensures err { IfErr result (λ exit. (old : State) (before : Outside) → StandsFor session old
-        → Fails exit old item (with_sink before (K.written sink.old) (K.faults sink.old))
-        (with_sink before (K.written sink.new) (K.faults sink.new))) }
+    ensures ok { IsTrue D.tells → IfOk result (λ next. (care : Care) (old : State) (before : Outside)
+        → Stands care (D.view store.old) session old
+        → Sends care (D.view store.old) (D.view store.new) old item next
+        (with_sink before (K.written sink.old)) (with_sink before (K.written sink.new))) }
+    ensures err { IsTrue D.tells → IfErr result (λ exit. (care : Care) (old : State) (before : Outside)
+        → Stands care (D.view store.old) session old
+        → Fails exit care (D.view store.old) (D.view store.new) old item
+        (with_sink before (K.written sink.old)) (with_sink before (K.written sink.new))) }
+    ensures cause { IfErr result (λ exit. (source : ℕ)
+        → HasCause exit (faults source (K.faults sink.old) (D.counts store.old))
+        (faults source (K.faults sink.new) (D.counts store.new))) }
+    ensures counts { (source : ℕ) → NoneFell (faults source (K.faults sink.old) (D.counts store.old))
+        (faults source (K.faults sink.new) (D.counts store.new)) }
 {
-    let (session, answer) = perform(session, item);
-    match send(&answer, room, sink) {
-        Ok(()) => Ok(session),
-        Err(Failed) => Err(Exit::SinkFault),
+    match perform(session, item, store) {
+        Ok((session, answer)) => match send(&answer, room, sink) {
+            Ok(()) => Ok(session),
+            Err(Failed) => Err(Exit::SinkFault),
+        },
+        Err(Failed) => Err(Exit::StoreFault),
     }
 }
 
-// What a command is answered, and the state after it.
-fn perform(session: Session, item: Item) -> (Session, Answer)
+// What a command is answered, and the session after it.
+fn perform<D: Store>(
+    session: Session,
+    item: Item,
+    store: &mut D,
+) -> Result<(Session, Answer), Failed>
     requires { IsWholeItem item }
-    ensures step { Step session item result.1 result.0 }
-    ensures narrow { IsNarrow result.1 }
+    ensures ok { IsTrue D.tells → (care : Care) (old : State) → Stands care (D.view store.old) session old
+        → IfOk result (λ next. Performs care (D.view store.old) (D.view store.new) old item next.0 next.1) }
+    ensures err { IsTrue D.tells → (care : Care) (old : State) → Stands care (D.view store.old) session old
+        → OnErr result (Breaks care (D.view store.old) (D.view store.new) old item) }
+    ensures narrow { IfOk result (λ next. IsNarrow next.1) }
+    ensures cause { OnErr result (Rose (D.counts store.old).writes (D.counts store.new).writes) }
+    ensures counts { Rises (D.counts store.old) (D.counts store.new) }
 {
     match item {
-        Item::Command(command) => session.step(command),
-        Item::Refused(refusal) => (session, Answer::Refused(refusal)),
+        Item::Command(command) => session.step(store, command),
+        Item::Refused(refusal) => Ok((session, Answer::Refused(refusal))),
     }
 }

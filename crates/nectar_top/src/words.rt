@@ -1,14 +1,14 @@
 //! The words of the command line.
-ghost use Rattle.std.specs.Prelude.{◌≡◌};
+ghost use Rattle.std.specs.Prelude.{◌≡◌, is_some};
 ghost use Rattle.nectar_top.specs.Words.{is_folder, are_accepted};
 
-/// Whether these words, without the program's own name, are a folder alone.
-pub fn are_accepted(words: &[&str]) -> bool
-    ensures { result ≡ are_accepted words.now }
+/// The folder, where these words, without the program's own name, are a folder alone.
+pub fn folder_of<'a>(words: &[&'a str]) -> Option<&'a str>
+    ensures { is_some result ≡ are_accepted words.now }
 {
     match words {
-        [folder] => is_folder(folder),
-        _ => false,
+        [folder] if is_folder(folder) => Some(folder),
+        _ => None,
     }
 }
 

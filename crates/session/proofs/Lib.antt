@@ -1,9 +1,6 @@
-pub mod Examples
 pub mod FewColumns
-pub mod RefusalLemmas
+pub mod FileLemmas
+pub mod LoadLemmas
+pub mod ReadLemmas
 pub mod RowLemmas
-pub mod RunLemmas
-pub mod RunRefusalLemmas
-pub mod OutcomeLemmas
-pub mod ReadingLemmas
-pub mod StreamLemmas
+pub mod StepLemmas

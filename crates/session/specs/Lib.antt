@@ -1,5 +1,4 @@
-pub mod Rows
-pub mod State
-pub mod Running
 pub mod Machine
-pub mod Refusals
+pub mod ReadEvents
+pub mod Standing
+pub mod TypedFor

@@ -1,11 +1,8 @@
-//! The streams that a script makes and fills, and what each of its commands is answered.
+//! The session: a folder that was loaded, and each command of a script performed over it.
 #![tactic(auto)]
 
-pub mod laws;
-mod reading;
 mod running;
 pub mod session;
-mod stream;
 
-pub use laws::one_outcome;
+pub use folder::LoadRefusal;
 pub use session::Session;

@@ -1,188 +1,329 @@
-//! The session: what the commands of a script make and fill, and what they are answered.
-ghost use Rattle.std.specs.Prelude.{◌≡◌, ◌⊎◌, ℕ, ◌<◌, ◌-◌, ◌^◌, min, not, IsTrue, List, length};
-ghost use Rattle.std.specs.Prelude.{slice_index_or, IfSome};
-ghost use Rattle.rows_core.specs.Schema.{kinds_of};
-ghost use Rattle.plan_core.specs.TypedRows.{HaveKinds};
+//! The session: a folder that was loaded, and the commands performed over it.
+ghost use Rattle.std.specs.Prelude.{◌≡◌, ◌⊎◌, ℕ, ◌<◌, ◌^◌, false, List, length, map, IsTrue, IfOk, IfErr, OnOk, OnErr};
+ghost use Rattle.std.specs.Prelude.{IsErrOf};
+ghost use Rattle.outside_traits.specs.Counts.{Rose};
+ghost use Rattle.outside_traits.specs.View.{View, Counts, Now, Only};
+ghost use Rattle.outside_traits.specs.Calls.{Rises, MayRaiseReads, MayRaiseWrites};
+ghost use Rattle.outside_traits.specs.Runs.{Narrows};
+ghost use Rattle.catalog_types.specs.declared.change.Change.{Change};
+ghost use Rattle.catalog_core.specs.Catalogs.{IsReady};
+ghost use Rattle.catalog_core.specs.Table.{Fits};
+ghost use Rattle.folder.specs.Folders.{catalog_of, journal_of, table_in};
+ghost use Rattle.folder.specs.Left.{IsLeft, IsLeftWith, Since};
+ghost use Rattle.folder.specs.Replay.{StopsReading, is_checkpoint};
+ghost use Rattle.folder.specs.Sound.{Care};
+ghost use Rattle.folder.specs.Standing.{IsNext};
+ghost use Rattle.folder.specs.State.{State, table};
+ghost use Rattle.plan_grammar.specs.Counts.{IsWithinLimits};
+ghost use Rattle.planning.specs.Appending.{Append, append_change, file_bytes};
+ghost use Rattle.planning.specs.Recorded.{IsRecordOf};
+ghost use Rattle.planning.specs.Running.{HaveFewValues};
+ghost use Rattle.plan_core.specs.TypedPlan.{IsTypedOver};
+ghost use Rattle.catalog_core.specs.Programs.{kinds_of_streams};
+ghost use Rattle.folder.specs.Next.{with_rows, AreRowsOf};
 ghost use Rattle.script_text.specs.Answer.{IsNarrow};
 ghost use Rattle.script_text.specs.Script.{IsWhole};
 ghost use Rattle.script_text.specs.declared.answer.Refusal.{Refusal};
-ghost use Rattle.session.specs.Rows.{Rows, have_long};
-ghost use Rattle.session.specs.Machine.{IsGiven, Step, place_of, extent_count, added, appended};
-ghost use Rattle.session.specs.State.{Stream, state_of, empty_state, StandsFor};
-ghost use Rattle.session.specs.Refusals.{IsRefusedFor, IsOtherEvent};
+ghost use Rattle.script_text.specs.declared.item.Command.TheVariants as command;
+ghost use Rattle.session.specs.Machine.{Step, lists_of};
+ghost use Rattle.session.specs.ReadEvents.{HasRows, IsRunRefusal};
 
-use crate::reading::read_rows;
-use crate::running::run;
-use crate::stream::StreamRows;
-use plan_text::Stream;
-use rows_core::{Column, Memory, Name, Row, Schema, SchemaRefusal, Seq, Text};
-use script_text::{Answer, Command, LimitKind, Refusal};
+use crate::running::{refusal_of, result_of, rows_on};
+use catalog_core::CatalogRefusal;
+use catalog_types::Change;
+use folder::{Folder, LoadRefusal, left_stores, next_states, read_streams};
+use outside_traits::{Failed, Store};
+use plan_core::Typed;
+use plan_text::NamedPlan;
+use planning::{AppendPlan, Recording, plan_append, plan_run, plan_stream};
+use rows_core::{Column, Memory, Name, Row, Seq, Text};
+use script_text::{Answer, Command, Refusal};
 use std::alloc::Global;
-use std::marker::Model;
 
-/// The most streams.
-const MAX_STREAMS: usize = 1_024;
-
-/// The most extents of one stream.
-const MAX_EXTENTS: usize = 65_535;
-
-/// The most extents of all streams together.
-const MAX_ALL_EXTENTS: usize = 262_144;
-
-/// What the commands of a script have made and filled. It lives in memory. Contracts see it as the machine's
-/// state.
+/// A folder that was loaded. What it holds in memory is the folder's table: the rows of extents stand in their
+/// files alone.
 #[derive(Drop)]
 pub struct Session {
-    streams: Vec<StreamRows>,
+    folder: Folder,
     alloc: Global,
 }
 
-impl Model for Session {
-    ghost use Rattle.session.specs.State.{State, state_of};
-
-    ghost Value = { State };
-
-    ghost view = { λ session. state_of session.streams.items };
-}
-
 impl Session {
-    /// The session without a stream.
-    pub fn new(alloc: Global) -> Session
-        ensures { StandsFor result empty_state }
+    ghost use Rattle.session.specs.Standing.{Stands, Performs, Breaks, Records, Keeps, KeepsNot, folder_of};
+
+    /// Loads a folder, which is made where its making isn't finished. `NotAStore` comes exactly where its log
+    /// files have no reading, with the first byte where reading stops, unless the store fails or memory is
+    /// refused first; `Fault` only where the store failed. No file is read but the logs.
+    pub fn load<D: Store>(alloc: Global, store: &mut D) -> Result<Session, LoadRefusal>
+        ensures stands { IsTrue D.tells → (care : Care) (a b : State) → IsLeft care (D.view store.old) a b
+            → IfOk result (λ session. Stands care (D.view store.new) session a) }
+        ensures since { IsTrue D.tells → (care : Care) (a b : State) → IsLeft care (D.view store.old) a b
+            → Since care a b (D.view store.old) (D.view store.new) }
+        ensures left { IsTrue D.tells → (care : Care) (a b : State) → IsLeft care (D.view store.old) a b
+            → OnErr result (IsLeftWith care (D.view store.new) a b) }
+        ensures not_a_store { IsTrue D.tells → (file at : ℕ) → IsErrOf result (LoadRefusal.NotAStore file at)
+            → StopsReading (D.view store.old).files file at × Narrows (D.view store.old) (D.view store.new) }
+        ensures only { IsTrue D.tells → (file at : ℕ) → StopsReading (D.view store.old).files file at
+            → IsErrOf result (LoadRefusal.NotAStore file at) ⊎ (IsErrOf result LoadRefusal.Fault
+            ⊎ IsErrOf result LoadRefusal.Memory) }
+        ensures cause { IsErrOf result LoadRefusal.Fault
+            → Rose (D.counts store.old).reads (D.counts store.new).reads
+            ⊎ Rose (D.counts store.old).writes (D.counts store.new).writes }
+        ensures counts { Rises (D.counts store.old) (D.counts store.new) }
     {
-        Session {
-            streams: Vec::new(alloc),
-            alloc,
+        left_stores::<D>();
+        match Folder::load(alloc, store) {
+            Ok(folder) => Ok(Session { folder, alloc }),
+            Err(refusal) => Err(refusal),
         }
     }
 
-    /// Performs a command, and answers it. A refused command changes nothing.
-    pub fn step(self, command: Command) -> (Session, Answer)
+    /// Performs a command, and answers it. A refused command changes nothing. All memory is taken before the
+    /// first write; from then on only a failed write or sync ends the command, which is `Failed`: then the
+    /// store is left with the state before the command and the one after it.
+    pub fn step<D: Store>(
+        self,
+        store: &mut D,
+        command: Command,
+    ) -> Result<(Session, Answer), Failed>
         requires { IsWhole command }
-        ensures step { Step self command result.1 result.0 }
-
-        // Each line of the answer has room in the longest line of an answer (`line_is_short`).
-        ensures narrow { IsNarrow result.1 }
-
-        // Each refusal but want of memory comes exactly where its condition holds, unless memory is wanted
-        // first; where a run meets an overflow and its machine time is above the limit, one of the two comes.
-        ensures cause { (why : Refusal) → result.1 ≡ Answer.Refused why
-            → IsRefusedFor self command why ⊎ (why ≡ Refusal.Memory) }
-        ensures exactly { (why : Refusal) → IsRefusedFor self command why
-            → (result.1 ≡ Answer.Refused why) ⊎ ((result.1 ≡ Answer.Refused Refusal.Memory)
-            ⊎ ((other : Refusal) × IsOtherEvent why other × (result.1 ≡ Answer.Refused other))) }
-        ensures unchanged { (why : Refusal) → result.1 ≡ Answer.Refused why → result.0 ≡ self }
+        ensures ok { IsTrue D.tells → (care : Care) (s : State) → Stands care (D.view store.old) self s
+            → IfOk result
+            (λ next. Performs care (D.view store.old) (D.view store.new) next.0 s command next.1) }
+        ensures err { IsTrue D.tells → (care : Care) (s : State) → Stands care (D.view store.old) self s
+            → OnErr result (Breaks care (D.view store.old) (D.view store.new) s command) }
+        ensures narrow { IfOk result (λ next. IsNarrow next.1) }
+        ensures cause { OnErr result (Rose (D.counts store.old).writes (D.counts store.new).writes) }
+        ensures fault { IfOk result (λ next. next.1 ≡ Answer.Refused Refusal.Fault
+            → Rose (D.counts store.old).reads (D.counts store.new).reads) }
+        ensures counts { Rises (D.counts store.old) (D.counts store.new) }
     {
-        let Session { mut streams, alloc } = self;
-        let answer = perform(&mut streams, alloc, command);
-        (Session { streams, alloc }, answer)
+        match command {
+            Command::Stream { name, columns } => self.make(store, name, columns),
+            Command::Append { name, lines } => self.append(store, name, lines),
+            Command::Run { name, plan } => self.run(store, name, &plan),
+        }
+    }
+
+    // Makes a stream.
+    fn make<D: Store>(
+        self,
+        store: &mut D,
+        name: Name,
+        columns: Seq<Column>,
+    ) -> Result<(Session, Answer), Failed>
+        requires { 0 < length columns }
+        ensures ok { IsTrue D.tells → (care : Care) (s : State) → Stands care (D.view store.old) self s
+            → IfOk result (λ next. Performs care (D.view store.old) (D.view store.new) next.0 s
+            (command.Stream name columns) next.1) }
+        ensures err { IsTrue D.tells → (care : Care) (s : State) → Stands care (D.view store.old) self s
+            → OnErr result (Breaks care (D.view store.old) (D.view store.new) s (command.Stream name columns)) }
+        ensures narrow { IfOk result (λ next. IsNarrow next.1) }
+        ensures cause { OnErr result (Rose (D.counts store.old).writes (D.counts store.new).writes) }
+        ensures fault { IfOk result (λ next. next.1 ≡ Answer.Refused Refusal.Fault → ⊥) }
+        ensures counts { Rises (D.counts store.old) (D.counts store.new) }
+    {
+        next_states::<D>();
+        let mut session = self;
+        let recording = match plan_stream(session.alloc, session.folder.catalog(), name, columns) {
+            Ok(recording) => recording,
+            Err(refusal) => return Ok((session, Answer::Refused(refusal))),
+        };
+        match session.prepare(&recording.change) {
+            Ok(()) => session.record(store, recording, Answer::Ok),
+            Err(Memory) => Ok((session, Answer::Refused(Refusal::Memory))),
+        }
+    }
+
+    // Appends the rows that these lines spell: their file is written and made stable, and then recorded.
+    fn append<D: Store>(
+        self,
+        store: &mut D,
+        name: Name,
+        lines: Seq<Text>,
+    ) -> Result<(Session, Answer), Failed>
+        requires { 0 < length lines }
+        ensures ok { IsTrue D.tells → (care : Care) (s : State) → Stands care (D.view store.old) self s
+            → IfOk result (λ next. Performs care (D.view store.old) (D.view store.new) next.0 s
+            (command.Append name lines) next.1) }
+        ensures err { IsTrue D.tells → (care : Care) (s : State) → Stands care (D.view store.old) self s
+            → OnErr result (Breaks care (D.view store.old) (D.view store.new) s (command.Append name lines)) }
+        ensures narrow { IfOk result (λ next. IsNarrow next.1) }
+        ensures cause { OnErr result (Rose (D.counts store.old).writes (D.counts store.new).writes) }
+        ensures fault { IfOk result (λ next. next.1 ≡ Answer.Refused Refusal.Fault → ⊥) }
+        ensures counts { Rises (D.counts store.old) (D.counts store.new) }
+    {
+        let mut session = self;
+        let plan = match plan_append(session.alloc, session.folder.catalog(), name, lines) {
+            Ok(plan) => plan,
+            Err(refusal) => return Ok((session, Answer::Refused(refusal))),
+        };
+        match session.prepare(&plan.recording.change) {
+            Ok(()) => session.record_file(store, plan),
+            Err(Memory) => Ok((session, Answer::Refused(Refusal::Memory))),
+        }
     }
 }
 
-// Performs a command.
-fn perform(streams: &mut Vec<StreamRows>, alloc: Global, command: Command) -> Answer
-    requires { IsWhole command }
-    ensures step { Step (state_of streams.old.items) command result (state_of streams.new.items) }
-    ensures narrow { IsNarrow result }
-{
-    match command {
-        Command::Stream { name, columns } => make(streams, alloc, name, columns),
-        Command::Append { name, lines } => append(streams, alloc, name, lines),
-        Command::Run { name: _, plan } => run(alloc, streams, &plan),
-    }
-}
+impl Session {
+    ghost use Rattle.session.specs.Standing.{Stands, Performs, Breaks, Records, Keeps, KeepsNot, folder_of};
 
-// Makes a stream.
-fn make(streams: &mut Vec<StreamRows>, alloc: Global, name: Name, columns: Seq<Column>) -> Answer
-    requires { 0 < length columns }
-    ensures step { Step (state_of streams.old.items) (Command.Stream name columns) result
-        (state_of streams.new.items) }
-    ensures narrow { IsNarrow result }
-{
-    if place_of(streams, &name).is_some() {
-        return Answer::Refused(Refusal::Exists(name));
+    // Runs a plan on the rows of its streams, and records the program that it is stored as where it has a
+    // result.
+    fn run<D: Store>(
+        self,
+        store: &mut D,
+        name: Name,
+        plan: &NamedPlan,
+    ) -> Result<(Session, Answer), Failed>
+        requires { IsWithinLimits plan.now }
+        ensures ok { IsTrue D.tells → (care : Care) (s : State) → Stands care (D.view store.old) self s
+            → IfOk result (λ next. Performs care (D.view store.old) (D.view store.new) next.0 s
+            (command.Run name plan.now) next.1) }
+        ensures err { IsTrue D.tells → (care : Care) (s : State) → Stands care (D.view store.old) self s
+            → OnErr result (Breaks care (D.view store.old) (D.view store.new) s (command.Run name plan.now)) }
+        ensures narrow { IfOk result (λ next. IsNarrow next.1) }
+        ensures cause { OnErr result (Rose (D.counts store.old).writes (D.counts store.new).writes) }
+        ensures fault { IfOk result (λ next. next.1 ≡ Answer.Refused Refusal.Fault
+            → Rose (D.counts store.old).reads (D.counts store.new).reads) }
+        ensures counts { Rises (D.counts store.old) (D.counts store.new) }
+    {
+        next_states::<D>();
+        left_stores::<D>();
+        let plan = match plan_run(self.alloc, self.folder.catalog(), name, plan) {
+            Ok(plan) => plan,
+            Err(refusal) => return Ok((self, Answer::Refused(refusal))),
+        };
+        match self.rows_of(store, &plan.typed) {
+            Ok(rows) => {
+                let answer = result_of(self.alloc, rows, plan.bytes);
+                self.keep(store, plan.recording, answer)
+            }
+            Err(refusal) => Ok((self, Answer::Refused(refusal))),
+        }
     }
-    match Schema::new(columns.into_vec()) {
-        Ok(schema) => add_stream(streams, alloc, name, schema),
-        Err(SchemaRefusal::Duplicate) => Answer::Refused(Refusal::IllTyped),
-        Err(SchemaRefusal::TooMany) => Answer::Refused(Refusal::Limit(LimitKind::Columns)),
-        Err(SchemaRefusal::Empty) => unreachable!(),
-    }
-}
 
-// Puts a stream behind the others.
-fn add_stream(streams: &mut Vec<StreamRows>, alloc: Global, name: Name, schema: Schema) -> Answer
-    ensures given { IsGiven (state_of streams.old.items) (added (state_of streams.old.items) name schema)
-        result (state_of streams.new.items) }
-    ensures narrow { IsNarrow result }
-{
-    if streams.len() >= MAX_STREAMS {
-        return Answer::Refused(Refusal::Limit(LimitKind::Streams));
+    // Takes the memory that a change wants, and records it.
+    fn keep<D: Store>(
+        self,
+        store: &mut D,
+        recording: Recording,
+        answer: Answer,
+    ) -> Result<(Session, Answer), Failed>
+        requires record { IsRecordOf (table_in (folder_of self)) recording.change recording.body.items }
+        requires no_checkpoint { is_checkpoint recording.change ≡ false }
+        ensures ok { IsTrue D.tells → (care : Care) (s new : State) → Stands care (D.view store.old) self s
+            → IsNext care (D.view store.old) s recording.change new
+            → IfOk result
+            (λ next. Keeps care (D.view store.old) (D.view store.new) next.0 s new answer next.1) }
+        ensures err { IsTrue D.tells → (care : Care) (s new : State) → Stands care (D.view store.old) self s
+            → IsNext care (D.view store.old) s recording.change new
+            → OnErr result (KeepsNot care (D.view store.old) (D.view store.new) s new) }
+        ensures narrow { IsNarrow answer → IfOk result (λ next. IsNarrow next.1) }
+        ensures given { IfOk result (λ next. (next.1 ≡ answer) ⊎ (next.1 ≡ Answer.Refused Refusal.Memory)) }
+        ensures cause { OnErr result (Rose (D.counts store.old).writes (D.counts store.new).writes) }
+        ensures counts { MayRaiseWrites (D.counts store.old) (D.counts store.new) }
+    {
+        let mut session = self;
+        match session.prepare(&recording.change) {
+            Ok(()) => session.record(store, recording, answer),
+            Err(Memory) => Ok((session, Answer::Refused(Refusal::Memory))),
+        }
     }
-    match streams.push(StreamRows::new(alloc, name, schema)) {
-        Ok(()) => Answer::Ok,
-        Err(_) => Answer::Refused(Refusal::Memory),
-    }
-}
 
-// Appends the rows that these lines spell.
-fn append(streams: &mut Vec<StreamRows>, alloc: Global, name: Name, lines: Seq<Text>) -> Answer
-    ensures step { Step (state_of streams.old.items) (Command.Append name lines) result
-        (state_of streams.new.items) }
-    ensures narrow { IsNarrow result }
-{
-    let Some(place) = place_of(streams, &name) else {
-        return Answer::Refused(Refusal::Unknown(name));
-    };
-    match read_rows(alloc, lines.items(), streams[place].schema()) {
-        Ok(rows) => add_rows(streams, alloc, place, rows),
-        Err(refusal) => Answer::Refused(refusal),
+    // Records a change for which the folder is ready.
+    fn record<D: Store>(
+        self,
+        store: &mut D,
+        recording: Recording,
+        answer: Answer,
+    ) -> Result<(Session, Answer), Failed>
+        requires ready { IsReady (catalog_of (folder_of self)) recording.change }
+        requires record { IsRecordOf (table_in (folder_of self)) recording.change recording.body.items }
+        requires no_checkpoint { is_checkpoint recording.change ≡ false }
+        ensures ok { IsTrue D.tells → (care : Care) (s new : State) → Stands care (D.view store.old) self s
+            → IsNext care (D.view store.old) s recording.change new
+            → IfOk result (λ next. Records care (D.view store.old) (D.view store.new) next.0 s new) }
+        ensures err { IsTrue D.tells → (care : Care) (s new : State) → Stands care (D.view store.old) self s
+            → IsNext care (D.view store.old) s recording.change new
+            → OnErr result (KeepsNot care (D.view store.old) (D.view store.new) s new) }
+        ensures answer { IfOk result (λ next. next.1 ≡ answer) }
+        ensures cause { OnErr result (Rose (D.counts store.old).writes (D.counts store.new).writes) }
+        ensures counts { MayRaiseWrites (D.counts store.old) (D.counts store.new) }
+    {
+        left_stores::<D>();
+        let Session { folder, alloc } = self;
+        let Recording { change, body } = recording;
+        match folder.record(store, change, &body) {
+            Ok(folder) => Ok((Session { folder, alloc }, answer)),
+            Err(Failed) => Err(Failed),
+        }
     }
-}
 
-// Appends these rows to the stream at this place.
-fn add_rows(streams: &mut Vec<StreamRows>, alloc: Global, place: usize, rows: Vec<Row>) -> Answer
-    requires place { place < length streams.old.items }
-    requires short { IsTrue (not (have_long rows.items)) }
-    requires typed { (stream : Stream)
-        → HaveKinds (kinds_of (slice_index_or streams.old.items place stream).columns) rows.items }
-    ensures given { (name : List ℕ) (stream : Stream) → place_of streams.old.items name ≡ Some place
-        → let there = slice_index_or streams.old.items place stream in
-        IsGiven (state_of streams.old.items)
-        (appended (state_of streams.old.items) name there (Rows rows.items)) result
-        (state_of streams.new.items) }
-    ensures narrow { IsNarrow result }
-{
-    if streams[place].extent_count() >= MAX_EXTENTS {
-        return Answer::Refused(Refusal::Limit(LimitKind::Extents));
+    // Writes the file of an append, for which the folder is ready, and then records it.
+    fn record_file<D: Store>(
+        self,
+        store: &mut D,
+        plan: AppendPlan,
+    ) -> Result<(Session, Answer), Failed>
+        requires ready { IsReady (catalog_of (folder_of self)) plan.recording.change }
+        requires record { IsRecordOf (table_in (folder_of self)) plan.recording.change
+            plan.recording.body.items }
+        requires append { (a : Append)
+            × (plan.recording.change ≡ append_change (table_in (folder_of self)) a)
+            × (plan.bytes.items ≡ file_bytes a.rows) }
+        ensures ok { IsTrue D.tells → (care : Care) (s : State) (a : Append)
+            → Stands care (D.view store.old) self s → AreRowsOf s a.place a.rows
+            → plan.recording.change ≡ append_change (table s) a → plan.bytes.items ≡ file_bytes a.rows
+            → IfOk result (λ next. Records care (D.view store.old) (D.view store.new) next.0 s
+            (with_rows s a.place a.rows)) }
+        ensures err { IsTrue D.tells → (care : Care) (s : State) (a : Append)
+            → Stands care (D.view store.old) self s → AreRowsOf s a.place a.rows
+            → plan.recording.change ≡ append_change (table s) a → plan.bytes.items ≡ file_bytes a.rows
+            → OnErr result (KeepsNot care (D.view store.old) (D.view store.new) s
+            (with_rows s a.place a.rows) ⊎ KeepsNot care (D.view store.old) (D.view store.new) s s) }
+        ensures answer { IfOk result (λ next. next.1 ≡ Answer.Held plan.held) }
+        ensures cause { OnErr result (Rose (D.counts store.old).writes (D.counts store.new).writes) }
+        ensures counts { MayRaiseWrites (D.counts store.old) (D.counts store.new) }
+    {
+        next_states::<D>();
+        left_stores::<D>();
+        match self.folder.write_extent(store, &plan.bytes) {
+            Ok(()) => self.record(store, plan.recording, Answer::Held(plan.held)),
+            Err(Failed) => Err(Failed),
+        }
     }
-    if all_extents(streams) >= MAX_ALL_EXTENTS {
-        return Answer::Refused(Refusal::Limit(LimitKind::AllExtents));
-    }
-    let stream = &mut streams[place];
-    match stream.grow(alloc, rows) {
-        Ok(held) => Answer::Held(held),
-        Err(Memory) => Answer::Refused(Refusal::Memory),
-    }
-}
 
-// The extents of all streams, up to the greatest usize.
-fn all_extents(streams: &[StreamRows]) -> usize
-    ensures { result ≡ min (extent_count streams.now) (2 ^ 64 - 1) }
-{
-    let mut count: usize = 0;
-    for stream in streams {
-        count = count.saturating_add(stream.extent_count());
+    // The rows that a plan means on the rows of its streams, which are read, or why a run of it is refused.
+    fn rows_of<D: Store>(&self, store: &mut D, typed: &Typed) -> Result<Vec<Row>, Refusal>
+        requires { IsTypedOver (kinds_of_streams (table_in (folder_of self.now)).streams) typed.now }
+        ensures ok { IsTrue D.tells → (care : Care) (s : State) → Stands care (D.view store.old) self.now s
+            → IfOk result (λ rows. HasRows typed.now.plan (lists_of s.streams typed.now.plan) rows.items) }
+        ensures err { IsTrue D.tells → (care : Care) (s : State) → Stands care (D.view store.old) self.now s
+            → IfErr result (IsRunRefusal s typed.now.plan) }
+        ensures narrow { IfOk result (λ rows. HaveFewValues rows.items) }
+        ensures fault { IsErrOf result Refusal.Fault
+            → Rose (D.counts store.old).reads (D.counts store.new).reads }
+        ensures narrows { Narrows (D.view store.old) (D.view store.new) }
+        ensures counts { MayRaiseReads (D.counts store.old) (D.counts store.new) }
+    {
+        match read_streams(self.alloc, store, self.folder.catalog(), typed.leaves()) {
+            Ok(lists) => rows_on(self.alloc, typed, &lists),
+            Err(refusal) => Err(refusal_of(refusal)),
+        }
     }
-    count
-}
 
-// The place of the stream with this name.
-fn place_of(streams: &[StreamRows], name: &Name) -> Option<usize>
-    ensures place { result ≡ place_of streams.now name.now }
-    ensures bound { IfSome result (λ place. place < length streams.now) }
-{
-    streams
-        .iter()
-        .position(|stream| stream.name().bytes() == name.bytes())
+    // Takes all the memory that recording the change wants.
+    fn prepare(&mut self, change: &Change) -> Result<(), Memory>
+        requires { Fits change.now (table_in (folder_of self.old)) }
+        ensures table { table_in (folder_of self.new) ≡ table_in (folder_of self.old) }
+        ensures journal { journal_of (folder_of self.new) ≡ journal_of (folder_of self.old) }
+        ensures ready { OnOk result (IsReady (catalog_of (folder_of self.new)) change.now) }
+    {
+        match self.folder.prepare(change) {
+            Ok(()) => Ok(()),
+            Err(CatalogRefusal::Misfit) => unreachable!(),
+            Err(CatalogRefusal::Memory) => Err(Memory),
+        }
+    }
 }

@@ -1,22 +1,13 @@
-use Rattle.std.proofs.Common.{◌≡◌, Err, sym, subst, inl}
-use Rattle.plan_core.specs.PlainPlan.{plan_of}
-use Rattle.plan_runner.specs.Run.{lists_of, IsAnswer}
-use Rattle.plan_runner.specs.declared.refusal.RunRefusal.{RunRefusal}
-use Rattle.session.proofs.RunLemmas.{IsRunOn-result, IsNarrow-result}
+use Rattle.std.proofs.Common.{◌≡◌, Ok, sym, subst}
+use Rattle.plan_core.specs.PlainPlan.{PlainPlan}
+use Rattle.plan_core.specs.PlanMeaning.{plan_meaning}
+use Rattle.plan_laws.specs.TypedOn.{IsTypedOn}
+use Rattle.plan_runner.specs.Run.{lists_of}
+use Rattle.session.proofs.RowLemmas.{typed_on, few_in_meaning}
 use Rattle.session.proofs.running.run_on.Goals as goal
 
-pub returns-in-Ok-clause-answer : goal.returns-in-Ok-clause-answer
-returns-in-Ok-clause-answer c =
-    inl (IsRunOn-result (plan_of c.args.plan.now) (lists_of c.args.lists.now) c.in-Ok.rows.items c.result_of.result c.result_of.ensures c.in-Ok.ensures.0 c.in-Ok.ensures.1)
+pub run-requires : goal.run-requires
+run-requires c = subst (λ (p : PlainPlan). IsTypedOn p (lists_of c.args.lists.now)) (sym c.plan.ensures.plan) (typed_on c.args.typed.now (lists_of c.args.lists.now) c.requires)
 
 pub returns-in-Ok-clause-narrow : goal.returns-in-Ok-clause-narrow
-returns-in-Ok-clause-narrow c = λ few.
-    IsNarrow-result (plan_of c.args.plan.now) (lists_of c.args.lists.now) c.in-Ok.rows.items c.result_of.result c.result_of.ensures c.in-Ok.ensures.0 few
-
-pub returns-in-Err-Overflow-clause-answer : goal.returns-in-Err-Overflow-clause-answer
-returns-in-Err-Overflow-clause-answer c =
-    inl (subst (λ (r : RunRefusal). IsAnswer (plan_of c.args.plan.now) (lists_of c.args.lists.now) (Err r)) c.in-Err-Overflow.field-0-is c.in-Err-Overflow.ensures)
-
-pub returns-in-Err-Machine-clause-answer : goal.returns-in-Err-Machine-clause-answer
-returns-in-Err-Machine-clause-answer c =
-    inl (subst (λ (r : RunRefusal). IsAnswer (plan_of c.args.plan.now) (lists_of c.args.lists.now) (Err r)) c.in-Err-Machine.field-0-is c.in-Err-Machine.ensures)
+returns-in-Ok-clause-narrow c = few_in_meaning c.args.typed.now (lists_of c.args.lists.now) c.requires c.typed_plans_give_typed_rows.ensures c.in-Ok.rows.items (subst (λ (p : PlainPlan). plan_meaning p (lists_of c.args.lists.now) ≡ Ok c.in-Ok.rows.items) c.plan.ensures.plan c.in-Ok.ensures.0)

@@ -1,17 +1,16 @@
-use Rattle.std.proofs.Common.{subst}
-use Rattle.session.specs.State.{state_of}
-use Rattle.session.specs.Machine.{Step}
-use Rattle.session.proofs.RefusalLemmas.{refused_cause, refused_exactly, refused_same}
+use Rattle.std.proofs.Common.{sym, subst, IfOk}
+use Rattle.script_text.specs.declared.item.Command.{Command}
+use Rattle.session.specs.Standing.{Performs}
 use Rattle.session.proofs.session.Session.step.Goals as goal
 
-pub returns : goal.returns
-returns c =
-    let new = state_of c.perform-answer.new.streams.items in
-    let step : Step c.args.self c.args.command c.perform-answer.result new = subst (λ old. Step old c.args.command c.perform-answer.result new) c.self.view_is c.perform-answer.ensures.step in
-    record {
-      step = step;
-      narrow = c.perform-answer.ensures.narrow;
-      cause = refused_cause c.args.self new c.args.command c.perform-answer.result step;
-      exactly = refused_exactly c.args.self new c.args.command c.perform-answer.result step;
-      unchanged = refused_same c.args.self new c.args.command c.perform-answer.result step;
-    }
+pub returns-in-Stream-clause-ok : goal.returns-in-Stream-clause-ok
+returns-in-Stream-clause-ok g c = λ told care s stands.
+    subst (λ (x : Command). IfOk c.make.result (λ next. Performs care (g.D.Store.view c.args.store.now) (g.D.Store.view c.make.new.store) next.0 s x next.1)) (sym c.in-Stream.is) (c.make.ensures.ok told care s stands)
+
+pub returns-in-Append-clause-ok : goal.returns-in-Append-clause-ok
+returns-in-Append-clause-ok g c = λ told care s stands.
+    subst (λ (x : Command). IfOk c.append.result (λ next. Performs care (g.D.Store.view c.args.store.now) (g.D.Store.view c.append.new.store) next.0 s x next.1)) (sym c.in-Append.is) (c.append.ensures.ok told care s stands)
+
+pub returns-in-Run-clause-ok : goal.returns-in-Run-clause-ok
+returns-in-Run-clause-ok g c = λ told care s stands.
+    subst (λ (x : Command). IfOk c.run.result (λ next. Performs care (g.D.Store.view c.args.store.now) (g.D.Store.view c.run.new.store) next.0 s x next.1)) (sym c.in-Run.is) (c.run.ensures.ok told care s stands)

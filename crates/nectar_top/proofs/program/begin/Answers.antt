@@ -1,0 +1,21 @@
+use Rattle.std.proofs.Common.{[], sym, subst}
+use Rattle.script_text.specs.Reader as reader
+use Rattle.session.specs.Standing.{Stands}
+use Rattle.nectar_top.proofs.LoadingLemmas.{goes_on, again, ends_again}
+use Rattle.nectar_top.proofs.ProgressLemmas.{Progress-new}
+use Rattle.nectar_top.proofs.TurnLemmas.{Serving-new}
+use Rattle.nectar_top.proofs.program.begin.Goals as goal
+
+pub returns-in-Ok-load_folder-clause-server : goal.returns-in-Ok-load_folder-clause-server
+returns-in-Ok-load_folder-clause-server g c = λ told found left outside.
+    Serving-new found _ _ _ _ outside (Progress-new found _ _ _ _ outside (subst (λ r. reader.Stands r []) (sym c.new.ensures.reader) c.in-Ok.ensures.room)
+    (subst (λ s. Stands found.care (g.D.Store.view c.load_folder.new.store) s found.first) (sym c.new.ensures.session) (c.in-Ok-load_folder.ensures.stands told found left)) (c.load_folder.ensures.since told found left))
+
+pub returns-in-Ok-load_folder-clause-stopped : goal.returns-in-Ok-load_folder-clause-stopped
+returns-in-Ok-load_folder-clause-stopped g c = λ told file at stops. absurd (goes_on c.in-Ok-load_folder.session file at (c.in-Ok-load_folder.ensures.stopped told file at stops))
+
+pub returns-in-Err-load_folder-clause-not_a_store : goal.returns-in-Err-load_folder-clause-not_a_store
+returns-in-Err-load_folder-clause-not_a_store g c = λ told file at is. c.in-Err-load_folder.ensures.not_a_store told file at (again c.in-Err-load_folder.exit _ is)
+
+pub returns-in-Err-load_folder-clause-stopped : goal.returns-in-Err-load_folder-clause-stopped
+returns-in-Err-load_folder-clause-stopped g c = λ told file at stops. ends_again c.in-Err-load_folder.exit file at (c.in-Err-load_folder.ensures.stopped told file at stops)

@@ -1,0 +1,8 @@
+use Rattle.nectar_top.proofs.ProgressLemmas.{performs_item, breaks_item}
+use Rattle.nectar_top.proofs.server.perform.Goals as goal
+
+pub returns-in-Command-clause-ok : goal.returns-in-Command-clause-ok
+returns-in-Command-clause-ok g c = λ told care old stands. performs_item care _ _ old _ c.in-Command.command _ c.in-Command.is (c.step.ensures.ok told care old stands)
+
+pub returns-in-Command-clause-err : goal.returns-in-Command-clause-err
+returns-in-Command-clause-err g c = λ told care old stands. breaks_item care _ _ old _ c.in-Command.command _ c.in-Command.is (c.step.ensures.err told care old stands)

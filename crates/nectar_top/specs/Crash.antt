@@ -1,0 +1,37 @@
+-- What a crash leaves in the course of a run.
+use Rattle.std.specs.Prelude.{◌≡◌, ◌⊎◌, ℕ, List, ◌++◌}
+use Rattle.outside_traits.specs.View.{View}
+use Rattle.outside_traits.specs.Runs.{Spans}
+use Rattle.script_text.specs.declared.answer.Answer.{Answer}
+use Rattle.script_text.specs.declared.item.Item.{Item}
+use Rattle.folder.specs.Sound.{Care, IsSound}
+use Rattle.folder.specs.State.{State}
+use Rattle.folder.specs.Left.{Everything}
+use Rattle.nectar_top.specs.Machine.{Run}
+
+-- What the folder was found with: the state that it reads as, and the other one that a crash might have left. How much is
+-- known of its files is known of all that is said.
+pub record Found : Type 0 where
+  pub care : Care
+  pub first : State
+  pub other : State
+
+-- The image is that of a state after a prefix of these commands, which has these answers in front.
+pub record IsOfPrefix (care : Care) (start : State) (commands : List Item) (answers : List Answer) (image : ℕ → List ℕ) : Type 0 where
+  pub before : List Item
+  pub behind : List Item
+  pub parts : commands ≡ before ++ behind
+  pub given : List Answer
+  pub others : List Answer
+  pub answers_are : answers ≡ given ++ others
+  pub state : State
+  pub run : Run start before given state
+  pub sound : IsSound care image state
+
+-- the image is that of the other state that was found, or of one after a prefix
+abbrev pub IsReached : Found → List Item → List Answer → (ℕ → List ℕ) → Type 0
+IsReached found commands answers image = IsSound found.care image found.other ⊎ IsOfPrefix found.care found.first commands answers image
+
+-- each crash since leaves such an image
+abbrev pub Reaches : Found → List Item → List Answer → View → View → Type 0
+Reaches found commands answers u v = Spans Everything (IsReached found commands answers) u v

@@ -1,5 +1,0 @@
-use Rattle.session.proofs.RefusalLemmas.{same_outcome}
-use Rattle.session.proofs.laws.one_outcome.Goals as goal
-
-pub returns : goal.returns
-returns c = same_outcome

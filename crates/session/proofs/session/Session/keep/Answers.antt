@@ -1,0 +1,10 @@
+use Rattle.std.proofs.Common.{refl, inr}
+use Rattle.session.proofs.StepLemmas.{stands_prepared, records_none, keeps_recorded}
+use Rattle.session.proofs.session.Session.keep.Goals as goal
+
+pub returns-in-Ok-clause-ok : goal.returns-in-Ok-clause-ok
+returns-in-Ok-clause-ok g c = λ told care s new stands next.
+    keeps_recorded care _ _ s new _ _ (c.record.ensures.ok told care s new (stands_prepared care _ _ _ s c.prepare.ensures.table c.prepare.ensures.journal stands) next) c.record.ensures.answer
+
+pub returns-in-Err-clause-ok : goal.returns-in-Err-clause-ok
+returns-in-Err-clause-ok g c = λ told care s new stands next. inr (refl, records_none care _ c.args.self c.prepare.new.self s stands c.prepare.ensures.table c.prepare.ensures.journal)

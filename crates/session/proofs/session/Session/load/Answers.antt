@@ -1,0 +1,14 @@
+use Rattle.std.proofs.Common.{Err, ap}
+use Rattle.session.proofs.LoadLemmas.{only_of}
+use Rattle.session.proofs.session.Session.load.Goals as goal
+
+pub returns-in-Ok-clause-stands : goal.returns-in-Ok-clause-stands
+returns-in-Ok-clause-stands g c = λ told care a b left.
+    let means = c.in-Ok.ensures.means told care a b left in
+    record { means = means; left = c.left_stores.ensures.meant care c.load.new.store _ _ a means }
+
+pub returns-in-Ok-clause-only : goal.returns-in-Ok-clause-only
+returns-in-Ok-clause-only g c = λ told file at stops. absurd (c.in-Ok.ensures.exactly told file at stops)
+
+pub returns-in-Err-clause-only : goal.returns-in-Err-clause-only
+returns-in-Err-clause-only g c = λ told file at stops. only_of c.in-Err.refusal file at (λ h b is. c.in-Err.ensures.place told file at h b stops (ap Err is))

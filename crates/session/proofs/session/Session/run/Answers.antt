@@ -1,0 +1,61 @@
+use Rattle.std.proofs.Common.{◌∙◌, Some, ap, sym, subst, refl, inl}
+use Rattle.outside_traits.proofs.RunLemmas.{spans_narrowed}
+use Rattle.catalog_core.specs.Catalogs.{table_of}
+use Rattle.catalog_core.specs.Table.{Fits, Table}
+use Rattle.script_text.specs.declared.answer.Answer.{Answer}
+use Rattle.script_text.specs.declared.answer.Answer.TheVariants as answer
+use Rattle.script_text.specs.declared.item.Command.TheVariants as command
+use Rattle.folder.specs.Left.{Everything, IsSoundForOneOf}
+use Rattle.folder.specs.Next.{with_run}
+use Rattle.folder.specs.Sound.{IsSound}
+use Rattle.folder.specs.Standing.{IsNext}
+use Rattle.folder.specs.State.{State, table}
+use Rattle.session.specs.Machine as machine
+use Rattle.session.specs.Machine.{outcome}
+use Rattle.session.specs.Standing.{Stands}
+use Rattle.session.proofs.StepLemmas.{refuses, ran_ok, ran_err, ran_refused, keeps_performs, kept_breaks, not_behind, event_step}
+use Rattle.session.proofs.session.Session.run.Goals as goal
+
+pub returns-in-Ok-rows_of-clause-ok : goal.returns-in-Ok-rows_of-clause-ok
+returns-in-Ok-rows_of-clause-ok g c = λ told care s stands.
+    let ok = c.in-Ok.ensures.ok in
+    let new = with_run s (Some ok.0.program) in
+    let same = ap table_of c.catalog.ensures ∙ stands.means.table_is in
+    let means = c.left_stores.ensures.means care c.args.store.now c.rows_of.new.store _ _ s c.rows_of.ensures.narrows stands.means in
+    let stands' : Stands care (g.D.Store.view c.rows_of.new.store) c.args.self s = record { means = means; left = c.left_stores.ensures.meant care c.rows_of.new.store _ _ s means } in
+    let fits = subst (λ x. Fits x (table s)) ok.4 (subst (λ (t : Table). Fits c.in-Ok.plan.recording.change t) same ok.5.fits) in
+    let next = subst (λ x. IsNext care (g.D.Store.view c.rows_of.new.store) s x new) (sym ok.4) (c.next_states.ensures.run care c.rows_of.new.store s (Some ok.0.program) means.settled means.valid fits) in
+    let performs = subst (λ (a : Answer). machine.Performs s (command.Run c.args.name c.args.plan.now) (outcome a new)) (sym c.result_of-answer.ensures)
+    (ran_ok _ s same c.args.name c.args.plan.now ok.0 c.in-Ok.plan.typed.plan c.in-Ok.plan.bytes _ ok.1 ok.2 ok.6 (c.in-Ok-rows_of.ensures.ok told care s stands)) in
+    keeps_performs care (g.D.Store.view c.rows_of.new.store) _ s new (command.Run c.args.name c.args.plan.now) _ performs (g.D.Store.view c.args.store.now)
+    (λ (other : State). spans_narrowed Everything (IsSoundForOneOf care s other) _ _ c.rows_of.ensures.narrows (λ image is. inl (stands.means.settled image is))) _ (c.keep.ensures.ok told care s new stands' next)
+
+pub returns-in-Ok-rows_of-clause-err : goal.returns-in-Ok-rows_of-clause-err
+returns-in-Ok-rows_of-clause-err g c = λ told care s stands.
+    let ok = c.in-Ok.ensures.ok in
+    let new = with_run s (Some ok.0.program) in
+    let same = ap table_of c.catalog.ensures ∙ stands.means.table_is in
+    let means = c.left_stores.ensures.means care c.args.store.now c.rows_of.new.store _ _ s c.rows_of.ensures.narrows stands.means in
+    let stands' : Stands care (g.D.Store.view c.rows_of.new.store) c.args.self s = record { means = means; left = c.left_stores.ensures.meant care c.rows_of.new.store _ _ s means } in
+    let fits = subst (λ x. Fits x (table s)) ok.4 (subst (λ (t : Table). Fits c.in-Ok.plan.recording.change t) same ok.5.fits) in
+    let next = subst (λ x. IsNext care (g.D.Store.view c.rows_of.new.store) s x new) (sym ok.4) (c.next_states.ensures.run care c.rows_of.new.store s (Some ok.0.program) means.settled means.valid fits) in
+    let performs = subst (λ (a : Answer). machine.Performs s (command.Run c.args.name c.args.plan.now) (outcome a new)) (sym c.result_of-answer.ensures)
+    (ran_ok _ s same c.args.name c.args.plan.now ok.0 c.in-Ok.plan.typed.plan c.in-Ok.plan.bytes _ ok.1 ok.2 ok.6 (c.in-Ok-rows_of.ensures.ok told care s stands)) in
+    kept_breaks care (g.D.Store.view c.args.store.now) _ s new (command.Run c.args.name c.args.plan.now) _ performs _
+    (not_behind care (g.D.Store.view c.args.store.now) (g.D.Store.view c.rows_of.new.store) _ s new (spans_narrowed Everything (λ image. IsSound care image s) _ _ c.rows_of.ensures.narrows stands.means.settled) _ (c.keep.ensures.err told care s new stands' next))
+
+pub returns-in-Err-rows_of-clause-ok : goal.returns-in-Err-rows_of-clause-ok
+returns-in-Err-rows_of-clause-ok g c = λ told care s stands.
+    let ok = c.in-Ok.ensures.ok in
+    let same = ap table_of c.catalog.ensures ∙ stands.means.table_is in
+    let means = c.left_stores.ensures.means care c.args.store.now c.rows_of.new.store _ _ s c.rows_of.ensures.narrows stands.means in
+    record {
+      new = s;
+      step = event_step s (command.Run c.args.name c.args.plan.now) _ (ran_refused _ s same c.args.name c.args.plan.now ok.0 c.in-Ok.plan.typed.plan _ ok.1 ok.2 (c.in-Err-rows_of.ensures.err told care s stands));
+      stands = record { means = means; left = c.left_stores.ensures.meant care c.rows_of.new.store _ _ s means };
+      since = spans_narrowed Everything (IsSoundForOneOf care s s) _ _ c.rows_of.ensures.narrows (λ image is. inl (stands.means.settled image is));
+    }
+
+pub returns-in-Err-clause-ok : goal.returns-in-Err-clause-ok
+returns-in-Err-clause-ok g c = λ told care s stands.
+    refuses care _ c.args.self c.args.self s stands (command.Run c.args.name c.args.plan.now) c.in-Err.refusal refl refl (ran_err _ s (ap table_of c.catalog.ensures ∙ stands.means.table_is) c.args.name c.args.plan.now c.in-Err.refusal c.in-Err.ensures.err)
