@@ -1,10 +1,10 @@
 //! Cases of the scalar table, expressions, plans and their rows: a case a line on standard input, and on
 //! standard output a line for each, what it gives. A case is the word of its subject and then its arguments;
-//! `reader` says how expressions and plans are written. A line that is empty or begins with `#` is no case.
+//! `postfix_plans` says how expressions and plans are written. A line that is empty or begins with `#` is no
+//! case.
 #![tactic(auto)]
 
 mod given;
-mod reader;
 mod scalars;
 mod shown;
 mod typing;

@@ -1,8 +1,8 @@
 //! The table of the scalar operations, and cells.
 
-use crate::reader::literal_of;
 use crate::shown::{cell_kind_shown, cell_shown};
 use anyhow::{Context, Result};
+use postfix_plans::literal_of;
 use scalar_ops::{CellKind, OPS, Op};
 use std::alloc::Global;
 

@@ -1,10 +1,10 @@
 //! Typing of plans, their leaves and their equality. The parts of a case stand behind ` | `.
 
-use crate::reader::plan_of;
 use crate::shown::{kinds_shown, numbers_shown};
 use anyhow::{Context, Result};
 use plan_core::{Schemas, type_plan};
-use rows_core::{Kind, Seq};
+use postfix_plans::{kinds_of, plan_of};
+use rows_core::Seq;
 use std::alloc::Global;
 
 /// The kinds and the leaves of a plan over streams whose kinds stand behind it, as `int,text`.
@@ -45,13 +45,4 @@ pub fn same(alloc: Global, text: &str) -> Result<String> {
         "others"
     };
     Ok(String::from_str(alloc, answer)?)
-}
-
-/// Kinds, written as `int,text`.
-pub fn kinds_of(alloc: Global, text: &str) -> Result<Vec<Kind>> {
-    let mut kinds = Vec::new(alloc);
-    for word in text.split(',') {
-        kinds.push(Kind::of(word.as_bytes()).context("no kind")?)?;
-    }
-    Ok(kinds)
 }

@@ -1,9 +1,9 @@
 //! Values of expressions at the row 7, "tea".
 
-use crate::reader::expr_of;
 use crate::shown::cell_shown;
 use anyhow::Result;
 use plan_core::{EvRefusal, Expr, ev, expression_kind};
+use postfix_plans::expr_of;
 use rows_core::{Row, Txt, Value};
 use scalar_ops::Cell;
 use std::alloc::Global;

@@ -1,8 +1,12 @@
 //! The rows that a plan gives on streams.
-ghost use Rattle.std.specs.Prelude.{◌≡◌, map, slice_get, IsTrue, IfOk, IfSome};
+ghost use Rattle.std.specs.Prelude.{◌≡◌, ◌↔◌, ◌++◌, map, codes, slice_get, string_bytes, Some};
+ghost use Rattle.std.specs.Prelude.{IsTrue, IfOk, OnOk, IfSome};
+ghost use Rattle.std.specs.List.{flat_map, join_by};
 ghost use Rattle.rows_core.specs.Value.{kind_of};
+ghost use Rattle.row_text.specs.RowSpelling.{row_spelling};
 ghost use Rattle.plan_core.specs.TypedPlan.{IsTypedOver};
 ghost use Rattle.plan_core.specs.TypedRows.{HaveKinds, AreOfStreams};
+ghost use Rattle.postfix_plans.specs.Shown.{ShowsRows};
 
 use crate::streams::Streams;
 use anyhow::{Context, Result};
@@ -15,8 +19,9 @@ use std::alloc::Global;
 /// The lines of the rows of a plan that is typed over the streams, with ` / ` between them, or the refusal.
 pub fn rows_of(alloc: Global, typed: &Typed, streams: &Streams) -> Result<String>
     requires { IsTypedOver streams.now.schemas.kinds typed.now }
+    ensures { IfOk result (λ text. ShowsRows typed.now streams.now.rows (string_bytes text)) }
 {
-    let lists = lists_of(alloc, typed.leaves(), &streams.rows)?;
+    let lists = lists_of(alloc, typed.leaves(), streams.rows.items())?;
     if !are_of_streams(streams.schemas.kinds.items(), typed.leaves(), &lists) {
         return None.context("not rows of the streams");
     }
@@ -32,16 +37,29 @@ pub fn typed(alloc: Global, plan: Plan, schemas: &Schemas) -> Result<Typed, Plan
 }
 
 /// One list for each of the leaves.
-fn lists_of(alloc: Global, leaves: &[u32], streams: &[Vec<Row>]) -> Result<Vec<Seq<Row>>> {
+fn lists_of(alloc: Global, leaves: &[u32], streams: &[Seq<Row>]) -> Result<Vec<Seq<Row>>>
+    ensures { IfOk result (λ lists. map Some lists.items ≡ map (slice_get streams.now) leaves.now) }
+{
     let mut lists = Vec::new(alloc);
     for leaf in leaves {
-        let rows = streams.get(*leaf as usize).context("no stream")?;
-        lists.push(copied(alloc, rows)?)?;
+        lists.push(list_of(alloc, *leaf, streams)?)?;
     }
     Ok(lists)
 }
 
-fn copied(alloc: Global, rows: &[Row]) -> Result<Seq<Row>> {
+/// The rows of the stream with this number.
+fn list_of(alloc: Global, leaf: u32, streams: &[Seq<Row>]) -> Result<Seq<Row>>
+    ensures { IfOk result (λ rows. Some rows ≡ slice_get streams.now leaf) }
+{
+    match streams.get(leaf as usize) {
+        Some(rows) => copied(alloc, rows.items()),
+        None => None.context("no stream"),
+    }
+}
+
+fn copied(alloc: Global, rows: &[Row]) -> Result<Seq<Row>>
+    ensures { IfOk result (λ copies. copies ≡ rows.now) }
+{
     let mut copies = Vec::new(alloc);
     for row in rows {
         copies.push(row.try_copy(alloc)?)?;
@@ -50,7 +68,7 @@ fn copied(alloc: Global, rows: &[Row]) -> Result<Seq<Row>> {
 }
 
 fn has_kinds(values: &[Value], kinds: &[Kind]) -> bool
-    ensures { IsTrue result → map kind_of values.now ≡ kinds.now }
+    ensures { IsTrue result ↔ map kind_of values.now ≡ kinds.now }
 {
     match (values, kinds) {
         ([], []) => true,
@@ -62,7 +80,7 @@ fn has_kinds(values: &[Value], kinds: &[Kind]) -> bool
 }
 
 fn have_kinds(rows: &[Row], kinds: &[Kind]) -> bool
-    ensures { IsTrue result → HaveKinds kinds.now rows.now }
+    ensures { IsTrue result ↔ HaveKinds kinds.now rows.now }
 {
     match rows {
         [] => true,
@@ -91,13 +109,28 @@ fn are_of_streams(schemas: &[Seq<Kind>], leaves: &[u32], lists: &[Seq<Row>]) -> 
     }
 }
 
-fn printed(alloc: Global, rows: &[Row]) -> Result<String> {
+fn printed(alloc: Global, rows: &[Row]) -> Result<String>
+    ensures { IfOk result (λ text. string_bytes text ≡ join_by row_spelling (codes " / ") rows.now) }
+{
     let mut text = Vec::new(alloc);
-    for row in rows {
-        if !text.is_empty() {
-            text.extend_from_slice(b" / ")?;
+    match rows {
+        [] => {}
+        [row, others @ ..] => {
+            print_row(row, &mut text)?;
+            print_others(others, &mut text)?;
         }
-        print_row(row, &mut text)?;
     }
     Ok(String::from_str(alloc, std::str::from_utf8(&text)?)?)
+}
+
+/// Appends the lines of these rows, each behind ` / `.
+fn print_others(rows: &[Row], text: &mut Vec<u8>) -> Result<()>
+    ensures { OnOk result
+        (text.new.items ≡ text.old.items ++ flat_map (λ row. codes " / " ++ row_spelling row) rows.now) }
+{
+    for row in rows {
+        text.extend_from_slice(b" / ")?;
+        print_row(row, text)?;
+    }
+    Ok(())
 }

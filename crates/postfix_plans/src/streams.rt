@@ -12,7 +12,7 @@ const NAMES: &[u8] = b"abcd";
 #[derive(Drop)]
 pub struct Streams {
     pub schemas: Schemas,
-    pub rows: Vec<Vec<Row>>,
+    pub rows: Seq<Seq<Row>>,
 }
 
 /// The streams that are written so; each has at most four columns.
@@ -22,12 +22,14 @@ pub fn streams_of(alloc: Global, text: &str) -> Result<Streams> {
     for stream in text.split(" | ") {
         let (kinds, lines) = stream.split_once(' ').unwrap_or((stream, ""));
         let kinds = kinds_of(alloc, kinds)?;
-        rows.push(rows_of(alloc, lines, &schema_of(alloc, &kinds)?)?)?;
+        let list = rows_of(alloc, lines, &schema_of(alloc, &kinds)?)?;
+        rows.push(Seq::new(list))?;
         schemas.push(Seq::new(kinds))?;
     }
     let schemas = Schemas {
         kinds: Seq::new(schemas),
     };
+    let rows = Seq::new(rows);
     Ok(Streams { schemas, rows })
 }
 

@@ -1,6 +1,0 @@
--- Each step is on a shorter list.
-use Rattle.std.proofs.Common.{length}
-use Rattle.cases_plans.proofs.given.+has_kinds.Given as goal
-
-abbrev pub decreases-has_kinds : goal.decreases-has_kinds
-decreases-has_kinds l = length l.values.now

@@ -1,0 +1,6 @@
+-- The copies so far.
+use Rattle.std.proofs.Common.{◌≡◌, take}
+use Rattle.postfix_plans.proofs.rows.copied.Given as goal
+
+abbrev pub invariant-loop-row : goal.invariant-loop-row
+invariant-loop-row l = l.copies.items ≡ take l.row-index l.rows
