@@ -1,6 +1,5 @@
 -- The format of expressions is exact.
-use Rattle.std.proofs.Common.{◌≡◌, ℕ, zero, suc, ◌+◌, ◌^◌, ◌<◌, ◌≤◌, ◌⊎◌, max, inl, inr, Bool, cond, List, [], ◌∷◌, ◌++◌, length, Option, Some, None, unwrap_or, refl, sym, ap, subst, ◌∙◌, arith}
-use Rattle.std.specs.Int.{w32}
+use Rattle.std.proofs.Common.{◌≡◌, ℕ, zero, suc, ◌<◌, ◌⊎◌, inl, inr, Bool, cond, List, [], ◌∷◌, ◌++◌, length, Option, Some, None, unwrap_or, refl, sym, ap, subst, arith}
 use Rattle.std.specs.List.{flat_map, AllByRecursion}
 use Rattle.std.specs.Option.{option_map}
 use Rattle.std.proofs.lemmas.Bool.{ne_eqb}
@@ -9,18 +8,18 @@ use Rattle.scalar_ops.specs.declared.cell.Cell.TheVariants as cell
 use Rattle.scalar_ops.specs.declared.table.Args.{Args}
 use Rattle.scalar_ops.specs.declared.table.Args.TheVariants.{One, Two}
 use Rattle.scalar_ops.specs.declared.table.OpRow.{OpRow}
-use Rattle.scalar_ops.specs.Meaning.{row_at, kinds_at}
+use Rattle.scalar_ops.specs.Meaning.{row_at}
 use Rattle.scalar_ops.specs.Table.{kinds_of_args}
 use Rattle.plan_core.specs.PlainExpr.{PlainExpr, Column, Literal, Call1, Call2, And, Or, If}
 use Rattle.plan_core.specs.Nesting.{expr_nesting}
-use Rattle.byte_formats.specs.Format.{Format, formed, symbol, beside, u32, i64, text, flag, ◌▷◌, ◌⊗◌, times, made_reading}
+use Rattle.byte_formats.specs.Format.{Format, symbol, beside, ◌⊗◌, times}
 use Rattle.byte_formats.proofs.Exact.{Exact, both_exact}
-use Rattle.byte_formats.proofs.Laws.{symbol_exact, u32_exact, IsMade, made_exact, times_exact, nothing_exact}
+use Rattle.byte_formats.proofs.Laws.{symbol_exact, u32_exact, made_exact, times_exact, nothing_exact}
 use Rattle.byte_formats.proofs.Told.{table_exact, i64_exact, text_exact, flag_fits, flag_exact, pair_exact}
 use Rattle.plan_spelling.specs.declared.tag.ExprTag.{ExprTag}
 use Rattle.plan_spelling.specs.declared.tag.ExprTag.TheVariants as tag
 use Rattle.plan_spelling.specs.Tags.{expr_leaves, expr_tags, expr_tags_above, byte_of_expr}
-use Rattle.plan_spelling.specs.Spelling.{expr_spelling, HasExprSpelling}
+use Rattle.plan_spelling.specs.Spelling.{expr_spelling}
 use Rattle.plan_spelling.specs.Formats.{operation_of, operation, arity, ExprParts, expr_fields, call_of, expr_made, expr_tag_format, expr_node, IsExprTo, expr_reading, expr_format}
 
 -- ---- calls

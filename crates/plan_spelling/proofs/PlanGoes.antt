@@ -1,10 +1,9 @@
 -- Bytes that begin a plan, as far as reading can tell, are the first bytes of a plan's spelling: of one within the nesting.
-use Rattle.std.proofs.Common.{◌≡◌, ℕ, zero, suc, ◌+◌, ◌^◌, ◌<◌, ◌≤◌, List, [], ◌∷◌, length, refl, sym, subst, arith}
+use Rattle.std.proofs.Common.{◌≡◌, ℕ, zero, suc, ◌^◌, ◌<◌, List, length, refl, sym, subst, arith}
 use Rattle.std.specs.Int.{w32, to_be_bytes}
 use Rattle.std.specs.List.{AllByRecursion}
 use Rattle.rows_core.specs.declared.order.Key.{Key}
 use Rattle.scalar_ops.specs.Meaning.{row_at}
-use Rattle.plan_core.specs.declared.agg.Agg.{Agg}
 use Rattle.plan_core.specs.PlainExpr.{PlainExpr}
 use Rattle.plan_core.specs.PlainPlan.{PlainPlan}
 use Rattle.byte_formats.specs.Format.{Format, symbol, beside, byte, flag, u32, ◌▷◌, ◌⊗◌, times, counted, between}

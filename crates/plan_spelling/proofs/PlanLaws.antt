@@ -1,7 +1,7 @@
 -- The format of plans is exact.
-use Rattle.std.proofs.Common.{◌≡◌, ℕ, zero, suc, ◌+◌, ◌^◌, ◌<◌, ◌≤◌, ◌⊎◌, max, Bool, cond, List, [], ◌∷◌, ◌++◌, length, Some, refl, sym, ap, subst, ◌∙◌, arith}
+use Rattle.std.proofs.Common.{◌≡◌, ℕ, zero, suc, ◌^◌, ◌<◌, ◌≤◌, Bool, cond, List, [], ◌∷◌, Some, refl, sym, ap, subst, arith}
 use Rattle.std.specs.Int.{w32, to_be_bytes}
-use Rattle.std.specs.List.{flat_map, AllByRecursion}
+use Rattle.std.specs.List.{AllByRecursion}
 use Rattle.std.proofs.lemmas.Bool.{ne_eqb}
 use Rattle.rows_core.specs.declared.order.Key.{Key}
 use Rattle.plan_core.specs.declared.agg.Agg.{Agg}
@@ -11,14 +11,14 @@ use Rattle.plan_core.specs.PlainPlan.{PlainPlan, Scan, Filter, Project, Distinct
 use Rattle.plan_core.specs.Nesting.{greatest_nesting, nesting}
 use Rattle.byte_formats.specs.Format.{Format, symbol, beside, byte, u32, flag, ◌▷◌, ◌⊗◌, counted}
 use Rattle.byte_formats.proofs.Exact.{Exact, both_exact}
-use Rattle.byte_formats.proofs.Laws.{byte_exact, byte_fits, byte_below, u32_exact, IsMade, made_exact, counted_exact, nothing_exact}
+use Rattle.byte_formats.proofs.Laws.{byte_exact, byte_fits, byte_below, u32_exact, made_exact, counted_exact, nothing_exact}
 use Rattle.byte_formats.proofs.Told.{table_exact, u32_between_exact, flag_fits, flag_exact, pair_exact}
 use Rattle.plan_spelling.specs.declared.tag.AggTag.{AggTag}
 use Rattle.plan_spelling.specs.declared.tag.AggTag.TheVariants as agg_tag
 use Rattle.plan_spelling.specs.declared.tag.PlanTag.{PlanTag}
 use Rattle.plan_spelling.specs.declared.tag.PlanTag.TheVariants as tag
 use Rattle.plan_spelling.specs.Tags.{plan_leaves, plan_tags, plan_tags_above, agg_tags, byte_of_plan, byte_of_agg}
-use Rattle.plan_spelling.specs.Spelling.{agg_spelling, pair_spelling, key_spelling, plan_spelling, AreCounted, HasExprSpelling, HasAggSpelling, HasPlanSpelling}
+use Rattle.plan_spelling.specs.Spelling.{agg_spelling, pair_spelling, key_spelling, plan_spelling, HasExprSpelling, HasAggSpelling}
 use Rattle.plan_spelling.specs.Formats.{agg_fields, agg_made, agg_format, key_of, key_format, IsPair, pair_format, PlanParts, plan_fields, plan_made, plan_tag_format, plan_node, IsExprTo, expr_format, IsPlanTo, plan_reading, plan_format}
 use Rattle.plan_spelling.proofs.ExprLaws.{expr_exact}
 

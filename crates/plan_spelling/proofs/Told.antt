@@ -1,5 +1,5 @@
 -- What is said of an answer, from what reading gives.
-use Rattle.std.proofs.Common.{◌≡◌, ℕ, ◌+◌, ◌-◌, ◌<◌, ◌≤◌, max, List, length, take, Result, Ok, Err, refl, sym, subst, ◌∙◌, arith}
+use Rattle.std.proofs.Common.{◌≡◌, ℕ, ◌+◌, ◌≤◌, max, List, length, take, Result, Ok, Err, refl, sym, subst, ◌∙◌, arith}
 use Rattle.std.specs.Result.{IfOk, IfErr, MatchResult}
 use Rattle.plan_core.specs.declared.plan.Plan as code
 use Rattle.plan_core.specs.PlainPlan.{PlainPlan, plan_of}
@@ -11,8 +11,10 @@ use Rattle.plan_spelling.specs.declared.refusal.SpellRefusal.{SpellRefusal}
 use Rattle.plan_spelling.specs.declared.refusal.SpellRefusal.TheVariants as refusal
 use Rattle.plan_spelling.specs.Spelling.{plan_spelling, HasPlanSpelling}
 use Rattle.plan_spelling.specs.Formats.{plan_format}
+use Rattle.plan_spelling.specs.Parts.{plan_parts}
 use Rattle.plan_spelling.specs.Place.{IsPlace, Reads, GoesOn, IsLast}
 use Rattle.byte_formats.proofs.Readers.{IsBytes-take}
+use Rattle.plan_spelling.proofs.Few.{few_of}
 use Rattle.plan_spelling.proofs.PlanGoes.{plan_goes}
 use Rattle.plan_spelling.proofs.PlanLaws.{plan_exact}
 
@@ -22,6 +24,10 @@ IsFound bytes plan = HasPlanSpelling plan × (nesting plan ≤ 1024) × (bytes �
 pub found : (bytes : List ℕ) (r : Result code.Plan SpellRefusal) → IsBytes bytes → Reads r (all_of (plan_format 1024) bytes) (length bytes) → IfOk r (λ plan. IsFound bytes (plan_of plan))
 found bytes (Ok plan) wide e = let f = whole.is_found (plan_format 1024) (plan_exact 1024) bytes (plan_of plan) wide e in (f.0.0, f.0.1, f.1)
 found bytes (Err e) wide told = tt
+
+pub few : (bytes : List ℕ) (r : Result code.Plan SpellRefusal) → IfOk r (λ plan. IsFound bytes (plan_of plan)) → IfOk r (λ plan. plan_parts (plan_of plan) ≤ length bytes)
+few bytes (Ok plan) is = few_of bytes (plan_of plan) is.2
+few bytes (Err e) is = tt
 
 answer : (r : Result code.Plan SpellRefusal) (read : Result PlainPlan ℕ) (len : ℕ) (plan : PlainPlan) → Reads r read len → read ≡ Ok plan → MatchResult r (λ found. plan_of found ≡ plan) (λ e. e ≡ refusal.Memory)
 answer (Ok found) read len plan told e = let clash : Ok (plan_of found) ≡ Ok plan = sym told ∙ e in cc

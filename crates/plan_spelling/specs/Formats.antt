@@ -1,6 +1,6 @@
 -- The formats of expressions and plans: behind the first byte of each node stands what its row says.
-use Rattle.std.specs.Prelude.{◌≡◌, ℕ, ℤ, zero, suc, ◌^◌, ◌<◌, ◌≤◌, Bool, List, [], ◌∷◌, length, Option}
-use Rattle.std.specs.Int.{w32, to_be_bytes}
+use Rattle.std.specs.Prelude.{ℕ, ℤ, zero, suc, ◌^◌, ◌<◌, ◌≤◌, Bool, List, [], ◌∷◌, length, Option}
+use Rattle.std.specs.Int.{w32}
 use Rattle.std.specs.Option.{option_map}
 use Rattle.rows_core.specs.declared.order.Key.{Key}
 use Rattle.scalar_ops.specs.declared.cell.Cell.TheVariants as cell

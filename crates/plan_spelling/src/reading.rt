@@ -6,6 +6,7 @@ ghost use Rattle.byte_formats.specs.Reading.{Gives};
 ghost use Rattle.byte_formats.specs.Format.{StopsAt, all_of};
 ghost use Rattle.plan_spelling.specs.Spelling.{plan_spelling, HasPlanSpelling};
 ghost use Rattle.plan_spelling.specs.Formats.{plan_format};
+ghost use Rattle.plan_spelling.specs.Parts.{plan_parts};
 ghost use Rattle.plan_spelling.specs.Place.{IsLast, IsPlace, Reads};
 
 use crate::plan::plan_at;
@@ -18,12 +19,15 @@ use std::alloc::Global;
 const MAX_NESTING: usize = 1_024;
 
 /// The plan that the bytes spell: `NotPlan` exactly where there is none of a nesting up to 1,024, with the
-/// place where reading stops.
+/// place where reading stops. Memory is asked for what was read, never for what a count or a length only
+/// announces.
 pub fn unspell(alloc: Global, bytes: &[u8]) -> Result<Plan, SpellRefusal>
     // What is read is spelled so.
     ensures found { IfOk result
         (λ plan. HasPlanSpelling (plan_of plan) × (nesting (plan_of plan) ≤ 1024)
         × (bytes.now ≡ plan_spelling (plan_of plan))) }
+    // It has no more parts than there are bytes: nodes, items of lists and bytes of texts.
+    ensures few { IfOk result (λ plan. plan_parts (plan_of plan) ≤ length bytes.now) }
     // What is spelled so is read, unless memory runs out.
     ensures only { (plan : PlainPlan) → HasPlanSpelling plan → nesting plan ≤ 1024
         → bytes.now ≡ plan_spelling plan

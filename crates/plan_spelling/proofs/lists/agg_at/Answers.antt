@@ -1,7 +1,5 @@
 -- An aggregate is its tag and the column behind it.
-use Rattle.std.proofs.Common.{◌∙◌, sym, subst}
-use Rattle.std.proofs.lemmas.Result.{err_from_is_err_and}
-use Rattle.byte_formats.specs.Reading.{Fails}
+use Rattle.std.proofs.Common.{◌∙◌}
 use Rattle.byte_formats.specs.Format.{symbol, beside}
 use Rattle.byte_formats.proofs.Nodes.{node_reads}
 use Rattle.plan_spelling.specs.Tags.{agg_tags, byte_of_agg}

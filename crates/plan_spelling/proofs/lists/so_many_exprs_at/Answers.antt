@@ -1,9 +1,9 @@
 -- One expression more at each turn.
-use Rattle.std.proofs.Common.{◌≡◌, ◌<◌, ◌≤◌, map, sym, ap, ◌∙◌}
+use Rattle.std.proofs.Common.{map}
 use Rattle.std.proofs.lemmas.Result.{err_from_is_err_and}
 use Rattle.std.proofs.lemmas.List.{map-append}
 use Rattle.plan_core.specs.PlainExpr.{expr_of}
-use Rattle.byte_formats.proofs.Loop.{HasRead, read_start, read_more, read_end, read_fails}
+use Rattle.byte_formats.proofs.Loop.{read_start, read_more, read_end, read_fails}
 use Rattle.plan_spelling.specs.Formats.{expr_format}
 use Rattle.plan_spelling.proofs.lists.so_many_exprs_at.Goals as goal
 

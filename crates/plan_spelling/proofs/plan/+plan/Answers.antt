@@ -1,5 +1,5 @@
 -- A plan is its tag and what stands behind it.
-use Rattle.std.proofs.Common.{◌≡◌, ◌-◌, ◌<◌, ◌∙◌, sym, subst, Ok, arith}
+use Rattle.std.proofs.Common.{◌∙◌, sym, subst, arith}
 use Rattle.std.proofs.lemmas.Result.{err_from_is_err_and}
 use Rattle.plan_core.specs.PlainPlan.{plan_of}
 use Rattle.byte_formats.specs.Reading.{Gives, Fails}
