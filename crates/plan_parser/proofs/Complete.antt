@@ -20,10 +20,11 @@ use Rattle.plan_grammar.specs.Operators.{Rule, ATOM, UN, NOT, E, joined, infix_o
 use Rattle.plan_grammar.specs.Grammar as g
 use Rattle.plan_grammar.specs.Grammar.{Spells}
 use Rattle.plan_grammar.proofs.OperatorLaws.{Fits, infix_fits}
-use Rattle.plan_parser.specs.Draft.{draft_of, with2, with3}
+use Rattle.plan_parser.specs.declared.counts.Counts.{Counts}
+use Rattle.plan_parser.specs.Draft.{draft_of, kept_one, with2, with3}
 use Rattle.plan_parser.specs.declared.parser.Terminal.TheVariants.{Comma, Close}
 use Rattle.plan_parser.specs.Reader.{ReadOf, and_then, terminal_at, up_to}
-use Rattle.plan_parser.specs.Reading.{Readers, Operand, argument, last_argument, operated, call1_at, call2_at, choice_at, word_atom, atom_at, spelled_by, first_step, first_at, operator_step, operator_at, joined_onto, operand_onto, operands_at, below, rule_at, kept_one, inner}
+use Rattle.plan_parser.specs.Reading.{Readers, Operand, argument, operated, call1_at, call2_at, choice_at, word_atom, atom_at, spelled_by, first_step, first_at, operator_step, operator_at, joined_onto, operand_onto, operands_at, below, rule_at, inner}
 use Rattle.plan_parser.proofs.DraftLemmas.{with1-draft, with2-draft, with3-draft}
 use Rattle.plan_parser.proofs.RepeatLemmas.{Repeats, Repeats-first, Repeats-next, Repeats-end}
 use Rattle.plan_parser.proofs.ReadingLemmas.{below_is}
@@ -84,7 +85,7 @@ prefix_stops t p (u ∷ ts) is loose = by (infix_of u) refl
 is_le : (m n : ℕ) → m ≤ n → nat_le m n ≡ true
 is_le m n le = grind (arith, nat_tests, le)
 
-module _ (most : ℕ) where
+module _ (most : Counts) where
   word_call1 : (i : Readers) (w : the_word.Word) (o : Op) (ts : List Token) → call1_op w ≡ Some o → (prefix_of (Word w) ≡ None) × (word_atom most i w (Mark mark.Open ∷ ts) ≡ call1_at most i o ts)
   word_call1 i word.Len o ts e = let same : op.Len ≡ o = cc in (refl, ap (λ o. call1_at most i o ts) same)
   word_call1 i word.Abs o ts e = let same : op.Abs ≡ o = cc in (refl, ap (λ o. call1_at most i o ts) same)
@@ -123,22 +124,22 @@ module _ (most : ℕ) where
   inside n e mid rest c loose none = ended E E n e mid rest (c loose E (omega arith)) none
 
   module _ (n : ℕ) (e : PlainExpr) (mid rest : List Token) where
-    last_is : Complete E n e mid (Mark mark.Close ∷ rest) → last_argument (inner most (suc n)) mid ≡ Some (draft_of most e, rest)
+    last_is : Complete E n e mid (Mark mark.Close ∷ rest) → argument (inner most (suc n)) Close mid ≡ Some (draft_of most e, rest)
     last_is c = ap (up_to (terminal_at Close)) (inside n e mid (Mark mark.Close ∷ rest) c (λ o e. absurd (cc e)) refl)
 
-    argument_is : Complete E n e mid (Mark mark.Comma ∷ rest) → argument (inner most (suc n)) mid ≡ Some (draft_of most e, rest)
+    argument_is : Complete E n e mid (Mark mark.Comma ∷ rest) → argument (inner most (suc n)) Comma mid ≡ Some (draft_of most e, rest)
     argument_is c = ap (up_to (terminal_at Comma)) (inside n e mid (Mark mark.Comma ∷ rest) c (λ o e. absurd (cc e)) refl)
 
-  call2_is : (i : Readers) (o : Op) (mid after rest : List Token) (a b : PlainExpr) → argument i mid ≡ Some (draft_of most a, after) → last_argument i after ≡ Some (draft_of most b, rest) → call2_at most i o mid ≡ Some (draft_of most (Call2 o a b), rest)
+  call2_is : (i : Readers) (o : Op) (mid after rest : List Token) (a b : PlainExpr) → argument i Comma mid ≡ Some (draft_of most a, after) → argument i Close after ≡ Some (draft_of most b, rest) → call2_at most i o mid ≡ Some (draft_of most (Call2 o a b), rest)
   call2_is i o mid after rest a b first last =
-      ap (λ r. and_then r (λ a next. and_then (last_argument i next) (λ b rest. Some (with2 most (Call2 o) a b, rest)))) first
+      ap (λ r. and_then r (λ a next. and_then (argument i Close next) (λ b rest. Some (with2 most (Call2 o) a b, rest)))) first
       ∙ ap (λ r. and_then r (λ b rest. Some (with2 most (Call2 o) (draft_of most a) b, rest))) last
       ∙ ap (λ d. Some (d, rest)) (with2-draft most (Call2 o) a b)
 
-  choice_is : (i : Readers) (mid after third rest : List Token) (c a b : PlainExpr) → argument i mid ≡ Some (draft_of most c, after) → argument i after ≡ Some (draft_of most a, third) → last_argument i third ≡ Some (draft_of most b, rest) → choice_at most i mid ≡ Some (draft_of most (If c a b), rest)
+  choice_is : (i : Readers) (mid after third rest : List Token) (c a b : PlainExpr) → argument i Comma mid ≡ Some (draft_of most c, after) → argument i Comma after ≡ Some (draft_of most a, third) → argument i Close third ≡ Some (draft_of most b, rest) → choice_at most i mid ≡ Some (draft_of most (If c a b), rest)
   choice_is i mid after third rest c a b first second last =
-      ap (λ r. and_then r (λ c next. and_then (argument i next) (λ a last. and_then (last_argument i last) (λ b rest. Some (with3 most If c a b, rest))))) first
-      ∙ ap (λ r. and_then r (λ a last. and_then (last_argument i last) (λ b rest. Some (with3 most If (draft_of most c) a b, rest)))) second
+      ap (λ r. and_then r (λ c next. and_then (argument i Comma next) (λ a last. and_then (argument i Close last) (λ b rest. Some (with3 most If c a b, rest))))) first
+      ∙ ap (λ r. and_then r (λ a last. and_then (argument i Close last) (λ b rest. Some (with3 most If (draft_of most c) a b, rest)))) second
       ∙ ap (λ r. and_then r (λ b rest. Some (with3 most If (draft_of most c) (draft_of most a) b, rest))) last
       ∙ ap (λ d. Some (d, rest)) (with3-draft most If c a b)
 

@@ -8,7 +8,8 @@ use Rattle.rows_core.specs.Name.{is_name, is_reserved}
 use Rattle.plan_grammar.specs.Token.{AreTokens, token_at, word_at, mark_at, word_with}
 use Rattle.plan_grammar.specs.PlainNamed.{Column, Call1, Call2, And, Or, From, Select, Distinct, Group, Join, Order}
 use Rattle.plan_grammar.specs.declared.plan.NamedAgg.TheVariants as agg
-use Rattle.plan_parser.specs.PlanDraft.{limits, plan_draft_of}
+use Rattle.plan_parser.specs.Draft.{limits}
+use Rattle.plan_parser.specs.PlanDraft.{plan_draft_of}
 use Rattle.plan_parser.specs.Reader.{repeated}
 use Rattle.plan_parser.specs.PlanReading.{plan_at, inner_plan}
 use Rattle.plan_grammar.specs.Spelled.{SpellsText}

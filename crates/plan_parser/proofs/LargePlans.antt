@@ -6,7 +6,7 @@ use Rattle.plan_grammar.specs.declared.token.Token.TheVariants.{Name, Word, Mark
 use Rattle.plan_grammar.specs.declared.token.Mark.TheVariants as mark
 use Rattle.plan_grammar.specs.declared.token.Word.TheVariants as word
 use Rattle.plan_grammar.specs.declared.limit.PlanLimit.TheVariants as limit
-use Rattle.plan_parser.specs.PlanDraft.{limits}
+use Rattle.plan_parser.specs.Draft.{limits}
 use Rattle.plan_parser.specs.Reader.{repeated}
 use Rattle.plan_parser.specs.PlanReading.{plan_at}
 use Rattle.plan_parser.specs.Answer.{AsTooLarge, whole_reading}

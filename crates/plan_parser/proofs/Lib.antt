@@ -2,13 +2,13 @@ pub mod RepeatLemmas
 pub mod ReadingLemmas
 pub mod StageLemmas
 pub mod DraftLemmas
-pub mod PlanDraftLemmas
 pub mod ListLemmas
 pub mod Complete
 pub mod Sound
 pub mod OneReading
 pub mod PlanItems
 pub mod PlanComplete
+pub mod Whole
 pub mod WholeTexts
 pub mod PlanSound
 pub mod OnePlan

@@ -8,8 +8,7 @@ use Rattle.plan_grammar.specs.Grammar.{Listed}
 use Rattle.plan_parser.specs.declared.parser.Terminal.TheVariants.{Comma}
 use Rattle.plan_parser.specs.Reader.{ReadOf, and_then, terminal_at, all_repeated}
 use Rattle.plan_parser.specs.PlanReading.{item_onto, list_at, at_end}
-use Rattle.plan_grammar.proofs.TokenLemmas.{both}
-use Rattle.plan_parser.proofs.RepeatLemmas.{then_some, Repeats, Repeats-start, Repeats-next, Repeats-end, repeated_keeps}
+use Rattle.plan_parser.proofs.RepeatLemmas.{then_some, made_some, Repeats, Repeats-start, Repeats-next, Repeats-end, repeated_keeps}
 use Rattle.plan_parser.proofs.ReadingLemmas.{terminal_some}
 
 -- an item that was read is spelled, and of it this is kept
@@ -80,28 +79,22 @@ pub record ListedSo {X S : Type 0} (Item : X → List Token → List Token → T
   pub spells : Listed Item items from rest
 
 module _ {X A S : Type 0} {Item : X → List Token → List Token → Type 0} {Ends : List Token → Type 0} {item : List Token → ReadOf A} {add : S → A → S} {state : List X → S} {value : X → A} (lists : ListsItems Item Ends item add state value) where
-  onto_some : (s : S) (from : List Token) (t : S) (rest : List Token) → item_onto item add s from ≡ Some (t, rest) → (a : A) × (item from ≡ Some (a, rest)) × (add s a ≡ t)
-  onto_some s from t rest q =
-      let read = then_some (item from) (λ x rest. Some (add s x, rest)) (t, rest) q in
-      let p = both (add s read.0) t read.1 rest read.3 in
-      (read.0, read.2 ∙ ap (λ r. Some (read.0, r)) p.1, p.0)
-
   module _ (from : List Token) where
     keeps : (s : S) (ts : List Token) (o : Unit {0}) (behind : List Token) (t : S) (after : List Token) → ListedSo Item state from s ts → terminal_at Comma ts ≡ Some (o, behind) → item_onto item add s behind ≡ Some (t, after) → ListedSo Item state from t after
     keeps s ts o behind t after k found q =
-        let read = onto_some s behind t after q in
+        let read = made_some (item behind) (add s) t after q in
         let one = lists.sound behind after read.0 read.1 in
         record {
           items = k.items ++ one.item ∷ [];
-          is = sym read.2 ∙ (λ i. add (k.is i) (one.is i)) ∙ lists.adds k.items one.item;
+          is = read.2 ∙ (λ i. add (k.is i) (one.is i)) ∙ lists.adds k.items one.item;
           spells = listed-more Item k.items one.item from behind after (subst (λ ts. Listed Item k.items from ts) (terminal_some Comma ts behind found) k.spells) one.spells;
         }
 
     first : (t : S) (rest : List Token) → item_onto item add (state []) from ≡ Some (t, rest) → ListedSo Item state from t rest
     first t rest q =
-        let read = onto_some (state []) from t rest q in
+        let read = made_some (item from) (add (state [])) t rest q in
         let one = lists.sound from rest read.0 read.1 in
-        record { items = one.item ∷ []; is = sym read.2 ∙ ap (add (state [])) one.is ∙ lists.adds [] one.item; spells = one.spells }
+        record { items = one.item ∷ []; is = read.2 ∙ ap (add (state [])) one.is ∙ lists.adds [] one.item; spells = one.spells }
 
     -- a list that was read is spelled
     pub list_sound : (t : S) (rest : List Token) → list_at item add (state []) from ≡ Some (t, rest) → ListedSo Item state from t rest

@@ -8,18 +8,19 @@ use Rattle.plan_grammar.specs.declared.token.Word.TheVariants as word
 use Rattle.plan_grammar.specs.declared.plan.NamedResult.{NamedResult}
 use Rattle.plan_grammar.specs.declared.plan.NamedPair.{NamedPair}
 use Rattle.plan_grammar.specs.declared.plan.NamedKey.{NamedKey}
-use Rattle.plan_parser.specs.declared.plan_draft.Counts.{Counts}
+use Rattle.plan_parser.specs.declared.counts.Counts.{Counts}
 use Rattle.plan_grammar.specs.PlainNamed.{PlainExpr, PlainColumn, PlainTree, From, Where, Select, Distinct, Group, Join, Concat, Order}
 use Rattle.plan_grammar.specs.Grammar as g
 use Rattle.plan_grammar.specs.Operators.{E}
 use Rattle.plan_grammar.specs.Grammar.{Spells, EndsExpr, EndsPlan, Listed, SpellsName, SpellsColumn, SpellsPair, SpellsKey, SpellsResult, SpellsPlan}
 use Rattle.plan_parser.specs.declared.parser.Terminal.TheVariants.{Bar, Close, Comma, On, With}
 use Rattle.plan_parser.specs.Reader.{and_then, terminal_at, up_to}
+use Rattle.plan_parser.specs.Draft.{limits}
 use Rattle.plan_parser.specs.PlanDraft.{PlanDraft, with_column, columns_draft_of, plan_draft_of, where_draft, select_draft, group_draft, join_draft, concat_draft, order_draft}
 use Rattle.plan_parser.specs.PlanReading.{list_at, column_at, columns_at, pairs_at, results_at, inner_plan_at, where_at, select_at, group_at, join_at, concat_at, order_at, stage_at, inner_plan, plan_at}
 use Rattle.plan_parser.proofs.Complete.{shorter}
 use Rattle.plan_parser.proofs.OneReading.{spelled_is_read}
-use Rattle.plan_parser.proofs.PlanDraftLemmas.{no_columns_kept, where_kept, select_kept, distinct_kept, group_kept, join_kept, concat_kept, order_kept}
+use Rattle.plan_parser.proofs.DraftLemmas.{where_kept, select_kept, distinct_kept, group_kept, join_kept, concat_kept, order_kept}
 use Rattle.plan_parser.proofs.PlanItems.{NoDesc, names_listed, pairs_listed, keys_listed, results_listed, columns_listed}
 use Rattle.plan_parser.proofs.RepeatLemmas.{Repeats, Repeats-start, Repeats-next, Repeats-end}
 use Rattle.plan_parser.proofs.ListLemmas.{list_complete, list_shorter}
@@ -50,7 +51,7 @@ plan_no_bar _ e = absurd e
 pub plan_shorter : {n : ℕ} {p : PlainTree} {from rest : List Token} → SpellsPlan n p from rest → length rest < length from
 plan_shorter g.stream = omega arith
 plan_shorter (g.filter s t) = omega (arith, plan_shorter s, shorter t)
-plan_shorter (g.select {n = n} {columns = columns} {mid = mid} {rest = rest} s t) = let less = list_shorter (columns_listed 0 n) columns mid rest t in omega (arith, plan_shorter s, less)
+plan_shorter (g.select {n = n} {columns = columns} {mid = mid} {rest = rest} s t) = let less = list_shorter (columns_listed limits n) columns mid rest t in omega (arith, plan_shorter s, less)
 plan_shorter (g.distinct s) = omega (arith, plan_shorter s)
 plan_shorter (g.group {n = n} {keys = keys} {results = results} {mid = mid} {rest = rest} behind s t u) =
     let first = list_shorter names_listed keys mid (Word word.With ∷ behind) t in
@@ -80,13 +81,6 @@ module _ (most : Counts) where
   inside : (n : ℕ) (q : PlainTree) (mid rest : List Token) → plan_at most n mid ≡ Some (plan_draft_of most q, Mark mark.Close ∷ rest) → inner_plan_at (inner_plan most (suc n)) (Mark mark.Open ∷ mid) ≡ Some (plan_draft_of most q, rest)
   inside n q mid rest e = ap (up_to (terminal_at Close)) (inner_is n mid ∙ e)
 
-  -- the columns of a projection
-  columns_read : (n : ℕ) (columns : List PlainColumn) (mid rest : List Token) → EndsStage rest → Listed (SpellsColumn n) columns mid rest → columns_at most.exprs n mid ≡ Some (columns_draft_of most.exprs columns, rest)
-  columns_read n columns mid rest ends s =
-      let m = most.exprs in
-      sym (ap (λ none. list_at (column_at m n) (with_column m) none mid) (no_columns_kept m))
-      ∙ list_complete (columns_listed m n) columns mid rest s ends.expr ends.no_comma
-
   -- each stage
   module _ (n : ℕ) (p : PlainTree) (mid rest : List Token) (ends : EndsStage rest) where
     abbrev kept : PlanDraft
@@ -94,12 +88,12 @@ module _ (most : Counts) where
 
     where_read : (test : PlainExpr) → Spells E n test mid rest → where_at most n kept mid ≡ Some (plan_draft_of most (Where p test), rest)
     where_read test s =
-        ap (λ r. and_then r (λ test rest. Some (where_draft most kept test, rest))) (spelled_is_read most.exprs n test mid rest ends.expr s)
+        ap (λ r. and_then r (λ test rest. Some (where_draft most kept test, rest))) (spelled_is_read most n test mid rest ends.expr s)
         ∙ ap (λ d. Some (d, rest)) (where_kept most p test)
 
     select_read : (columns : List PlainColumn) → Listed (SpellsColumn n) columns mid rest → select_at most n kept mid ≡ Some (plan_draft_of most (Select p columns), rest)
     select_read columns s =
-        ap (λ r. and_then r (λ columns rest. Some (select_draft most kept columns, rest))) (columns_read n columns mid rest ends s)
+        ap (λ r. and_then r (λ columns rest. Some (select_draft most kept columns, rest))) (list_complete (columns_listed most n) columns mid rest s ends.expr ends.no_comma)
         ∙ ap (λ d. Some (d, rest)) (select_kept most p columns)
 
     group_read : (keys : List (List ℕ)) (results : List NamedResult) (next : List Token) → Listed SpellsName keys mid (Word word.With ∷ next) → Listed (SpellsResult n) results next rest → group_at most n kept mid ≡ Some (plan_draft_of most (Group p keys results), rest)
@@ -130,7 +124,7 @@ module _ (most : Counts) where
   plan_complete (g.filter {n = n} {p = p} {test = test} {from = from} {mid = mid} {rest = rest} s t) ends =
       stage_more n p (Where p test) from (Word word.Where ∷ mid) rest (plan_complete s (bar_ends (Word word.Where ∷ mid))) (where_read n p mid rest ends test t) (omega (arith, shorter t))
   plan_complete (g.select {n = n} {p = p} {columns = columns} {from = from} {mid = mid} {rest = rest} s t) ends =
-      let less = list_shorter (columns_listed most.exprs n) columns mid rest t in
+      let less = list_shorter (columns_listed most n) columns mid rest t in
       stage_more n p (Select p columns) from (Word word.Select ∷ mid) rest (plan_complete s (bar_ends (Word word.Select ∷ mid))) (select_read n p mid rest ends columns t) (omega (arith, less))
   plan_complete (g.distinct {n = n} {p = p} {from = from} {rest = rest} s) ends =
       stage_more n p (Distinct p) from (Word word.Distinct ∷ rest) rest (plan_complete s (bar_ends (Word word.Distinct ∷ rest))) (ap (λ d. Some (d, rest)) (distinct_kept most p)) (omega arith)

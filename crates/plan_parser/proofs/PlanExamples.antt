@@ -5,11 +5,11 @@ use Rattle.plan_grammar.specs.declared.token.Token.TheVariants.{Name, Word, Mark
 use Rattle.plan_grammar.specs.declared.token.Mark.TheVariants as mark
 use Rattle.plan_grammar.specs.declared.token.Word.TheVariants as word
 use Rattle.plan_grammar.specs.declared.plan.NamedAgg.TheVariants as agg
-use Rattle.plan_parser.specs.declared.plan_draft.Counts.{Counts}
 use Rattle.plan_grammar.specs.declared.limit.PlanLimit.TheVariants.{Nodes, Wide, Exprs}
 use Rattle.scalar_ops.specs.declared.table.Op.TheVariants as op
 use Rattle.plan_grammar.specs.PlainNamed.{Column, Call2, From, Where, Select, Group}
-use Rattle.plan_parser.specs.PlanDraft.{TooLarge, limits, first_above, plan_draft_of}
+use Rattle.plan_parser.specs.Draft.{counts, limits, first_above}
+use Rattle.plan_parser.specs.PlanDraft.{plan_draft_of}
 use Rattle.plan_parser.specs.Reading.{below, inner}
 use Rattle.plan_parser.specs.Reader.{repeated}
 use Rattle.plan_parser.specs.PlanReading.{plan_at, inner_plan}
@@ -22,9 +22,6 @@ b = codes "b"
 
 abbrev s : List ℕ
 s = codes "s"
-
-abbrev counts : ℕ → ℕ → ℕ → Counts
-counts n w e = record { nodes = n; wide = w; exprs = e }
 
 -- `from s |`
 abbrev from_s : List Token → List Token
@@ -68,7 +65,7 @@ unfolding repeated inner_plan
 bare_concat = refl
 
 -- of a plan that is too large the counts are kept, each up to one above the most
-too_large_read : plan_at (counts 1 8 512) 0 (from_s (Word word.Distinct ∷ Mark mark.Bar ∷ Word word.Distinct ∷ Mark mark.Bar ∷ Word word.Where ∷ Name a ∷ [])) ≡ Some (TooLarge (counts 2 2 1), [])
+too_large_read : plan_at (counts 1 8 512) 0 (from_s (Word word.Distinct ∷ Mark mark.Bar ∷ Word word.Distinct ∷ Mark mark.Bar ∷ Word word.Where ∷ Name a ∷ [])) ≡ Some (record { part = None; counts = counts 2 2 1 }, [])
 unfolding repeated inner_plan inner below
 too_large_read = refl
 

@@ -14,6 +14,7 @@ use Rattle.plan_grammar.specs.declared.plan.NamedPair.{NamedPair}
 use Rattle.plan_grammar.specs.declared.plan.NamedKey.{NamedKey}
 use Rattle.plan_grammar.specs.PlainNamed.{PlainColumn}
 use Rattle.plan_grammar.specs.Grammar.{EndsExpr, SpellsName, SpellsColumn, SpellsPair, SpellsKey, SpellsResult, agg_word, agg_argument}
+use Rattle.plan_parser.specs.declared.counts.Counts.{Counts}
 use Rattle.plan_parser.specs.Draft.{PlainDraft, draft_of}
 use Rattle.plan_parser.specs.declared.parser.Terminal.TheVariants.{Close, Open}
 use Rattle.plan_parser.specs.Reader.{and_then, terminal_at}
@@ -24,8 +25,8 @@ use Rattle.plan_grammar.proofs.TokenLemmas.{both}
 use Rattle.plan_parser.proofs.Complete.{shorter}
 use Rattle.plan_parser.proofs.Sound.{read_is_spelled}
 use Rattle.plan_parser.proofs.OneReading.{spelled_is_read}
-use Rattle.plan_parser.proofs.PlanDraftLemmas.{one_column_more}
-use Rattle.plan_parser.proofs.RepeatLemmas.{then_some}
+use Rattle.plan_parser.proofs.DraftLemmas.{one_column_more}
+use Rattle.plan_parser.proofs.RepeatLemmas.{then_some, made_some}
 use Rattle.plan_parser.proofs.ReadingLemmas.{terminal_some, up_to_some}
 use Rattle.plan_parser.proofs.ListLemmas.{itself, ListsItems, ItemSo}
 
@@ -72,7 +73,7 @@ result_complete (suc k) name a rest some = ap (λ r. and_then r (λ a rest. Some
 result_shorter : (x : NamedResult) (from rest : List Token) → from ≡ Name x.name ∷ Mark mark.Equal ∷ Name (agg_word x.agg) ∷ Mark mark.Open ∷ (agg_argument x.agg ++ Mark mark.Close ∷ rest) → length rest < length from
 result_shorter x from rest e = let less = agg_shorter x.agg rest in omega (arith, less, ap length e)
 
-module _ (m n : ℕ) where
+module _ (m : Counts) (n : ℕ) where
   -- what is kept of a column
   abbrev pub column_value : PlainColumn → List ℕ × PlainDraft
   column_value column = (column.name, draft_of m column.expr)
@@ -100,13 +101,11 @@ name_sound from rest a q = record { item = a; is = refl; spells = name_some from
 pair_sound : (from rest : List Token) (a : NamedPair) → pair_at from ≡ Some (a, rest) → ItemSo SpellsPair itself a from rest
 pair_sound from rest a q =
     let one = then_some (named_at from) (λ left behind. and_then (name_at behind) (λ right rest. Some (record { left = left; right = right }, rest))) (a, rest) q in
-    let two = then_some (name_at one.1) (λ right rest. Some (record { left = one.0; right = right }, rest)) (a, rest) one.3 in
-    let pair : NamedPair = record { left = one.0; right = two.0 } in
-    let p = both pair a two.1 rest two.3 in
+    let two = made_some (name_at one.1) (λ right. record { left = one.0; right = right }) a rest one.3 in
     record {
-      item = pair;
-      is = sym p.0;
-      spells = named_some from one.1 one.0 one.2 ∙ ap (λ r. Name one.0 ∷ Mark mark.Equal ∷ r) (name_some one.1 two.1 two.0 two.2) ∙ ap (λ r. Name one.0 ∷ Mark mark.Equal ∷ Name two.0 ∷ r) p.1;
+      item = record { left = one.0; right = two.0 };
+      is = two.2;
+      spells = named_some from one.1 one.0 one.2 ∙ ap (λ r. Name one.0 ∷ Mark mark.Equal ∷ r) (name_some one.1 rest two.0 two.1);
     }
 
 desc_some : (name : List ℕ) (ts rest : List Token) (a : NamedKey) → key_of name ts ≡ Some (a, rest) → (down : Bool) × (a ≡ record { column = name; down = down }) × (ts ≡ cond down (Word word.Desc ∷ rest) rest)
@@ -190,26 +189,23 @@ agg_some (suc k) ts rest a q =
 result_sound : (n : ℕ) (from rest : List Token) (a : NamedResult) → result_at n from ≡ Some (a, rest) → ItemSo (SpellsResult n) itself a from rest
 result_sound n from rest a q =
     let one = then_some (named_at from) (λ name behind. and_then (agg_at n behind) (λ a rest. Some (record { name = name; agg = a }, rest))) (a, rest) q in
-    let two = then_some (agg_at n one.1) (λ a rest. Some (record { name = one.0; agg = a }, rest)) (a, rest) one.3 in
-    let it : NamedResult = record { name = one.0; agg = two.0 } in
-    let p = both it a two.1 rest two.3 in
-    let so = agg_some n one.1 two.1 two.0 two.2 in
+    let two = made_some (agg_at n one.1) (λ a. record { name = one.0; agg = a }) a rest one.3 in
+    let so = agg_some n one.1 rest two.0 two.1 in
     record {
-      item = it;
-      is = sym p.0;
-      spells = (so.0, named_some from one.1 one.0 one.2 ∙ ap (λ r. Name one.0 ∷ Mark mark.Equal ∷ r) so.1 ∙ ap (λ r. Name one.0 ∷ Mark mark.Equal ∷ Name (agg_word two.0) ∷ Mark mark.Open ∷ (agg_argument two.0 ++ Mark mark.Close ∷ r)) p.1);
+      item = record { name = one.0; agg = two.0 };
+      is = two.2;
+      spells = (so.0, named_some from one.1 one.0 one.2 ∙ ap (λ r. Name one.0 ∷ Mark mark.Equal ∷ r) so.1);
     }
 
-module _ (m n : ℕ) where
+module _ (m : Counts) (n : ℕ) where
   column_sound : (from rest : List Token) (a : List ℕ × PlainDraft) → column_at m n from ≡ Some (a, rest) → ItemSo (SpellsColumn n) (column_value m n) a from rest
   column_sound from rest a q =
       let one = then_some (named_at from) (λ name behind. and_then (expr_at m (inner m n) behind) (λ e rest. Some ((name, e), rest))) (a, rest) q in
-      let two = then_some (expr_at m (inner m n) one.1) (λ e rest. Some ((one.0, e), rest)) (a, rest) one.3 in
-      let p = both (one.0, two.0) a two.1 rest two.3 in
-      let s = read_is_spelled m n one.1 rest two.0 (two.2 ∙ ap (λ r. Some (two.0, r)) p.1) in
+      let two = made_some (expr_at m (inner m n) one.1) (λ e. (one.0, e)) a rest one.3 in
+      let s = read_is_spelled m n one.1 rest two.0 two.1 in
       record {
         item = record { name = one.0; expr = s.expr };
-        is = sym p.0 ∙ ap (λ e. (one.0, e)) s.is;
+        is = two.2 ∙ ap (λ e. (one.0, e)) s.is;
         spells = (one.1, named_some from one.1 one.0 one.2, s.spells);
       }
 
@@ -219,7 +215,7 @@ module _ (m n : ℕ) where
     complete = column_complete m n;
     sound = column_sound;
     comma = λ rest. tt;
-    adds = λ done x. one_column_more m done x.name x.expr;
+    adds = one_column_more m;
   }
 
 -- the lists of the stages

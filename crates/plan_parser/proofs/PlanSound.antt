@@ -5,7 +5,7 @@ use Rattle.plan_grammar.specs.declared.token.Token.{Token}
 use Rattle.plan_grammar.specs.declared.token.Token.TheVariants.{Name, Word, Mark}
 use Rattle.plan_grammar.specs.declared.token.Mark.TheVariants as mark
 use Rattle.plan_grammar.specs.declared.token.Word.TheVariants as word
-use Rattle.plan_parser.specs.declared.plan_draft.Counts.{Counts}
+use Rattle.plan_parser.specs.declared.counts.Counts.{Counts}
 use Rattle.plan_grammar.specs.PlainNamed.{PlainTree, From, Where, Select, Distinct, Group, Join, Concat, Order}
 use Rattle.plan_grammar.specs.Grammar as g
 use Rattle.plan_grammar.specs.Grammar.{Listed, SpellsName, SpellsColumn, SpellsPair, SpellsKey, SpellsResult, SpellsPlan}
@@ -16,9 +16,9 @@ use Rattle.plan_parser.specs.Reader.{ReadOf, and_then, terminal_at, up_to, all_r
 use Rattle.plan_parser.specs.PlanReading.{PlanReader, list_at, names_at, column_at, columns_at, pairs_at, keys_at, results_at, inner_plan_at, where_at, select_at, group_at, join_at, concat_at, order_at, stage_at, from_at, plan_with, inner_plan, plan_at}
 use Rattle.plan_grammar.proofs.TokenLemmas.{both}
 use Rattle.plan_parser.proofs.Sound.{read_is_spelled}
-use Rattle.plan_parser.proofs.PlanDraftLemmas.{no_columns_kept, where_kept, select_kept, distinct_kept, group_kept, join_kept, concat_kept, order_kept}
+use Rattle.plan_parser.proofs.DraftLemmas.{where_kept, select_kept, distinct_kept, group_kept, join_kept, concat_kept, order_kept}
 use Rattle.plan_parser.proofs.PlanItems.{names_listed, pairs_listed, keys_listed, results_listed, columns_listed}
-use Rattle.plan_parser.proofs.RepeatLemmas.{then_some, repeated_keeps}
+use Rattle.plan_parser.proofs.RepeatLemmas.{then_some, made_some, repeated_keeps}
 use Rattle.plan_parser.proofs.ReadingLemmas.{terminal_some, up_to_some}
 use Rattle.plan_parser.proofs.ListLemmas.{ListedSo, list_sound, plain_list_sound}
 
@@ -27,12 +27,6 @@ pub record PlanSpelled (most : Counts) (n : ℕ) (d : PlanDraft) (from rest : Li
   pub plan : PlainTree
   pub is : d ≡ plan_draft_of most plan
   pub spells : SpellsPlan n plan from rest
-
--- the columns of a projection
-columns_sound : (m n : ℕ) (from : List Token) (columns : ColumnsDraft) (rest : List Token) → columns_at m n from ≡ Some (columns, rest) → ListedSo (SpellsColumn n) (columns_draft_of m) from columns rest
-columns_sound m n from columns rest q =
-    list_sound (columns_listed m n) from columns rest
-    (ap (λ none. list_at (column_at m n) (with_column m) none from) (no_columns_kept m) ∙ q)
 
 module _ (most : Counts) where
   -- the reader within parentheses, where n levels may be open
@@ -55,33 +49,29 @@ module _ (most : Counts) where
 
       where_sound : (ts rest : List Token) (d : PlanDraft) → SpellsPlan n p from (Mark mark.Bar ∷ Word word.Where ∷ ts) → where_at most n kept ts ≡ Some (d, rest) → So d rest
       where_sound ts rest d s q =
-          let read = then_some (expr_at most.exprs (inner most.exprs n) ts) (λ test rest. Some (where_draft most kept test, rest)) (d, rest) q in
-          let e = both (where_draft most kept read.0) d read.1 rest read.3 in
-          let t = read_is_spelled most.exprs n ts rest read.0 (read.2 ∙ ap (λ r. Some (read.0, r)) e.1) in
-          record { plan = Where p t.expr; is = sym e.0 ∙ ap (where_draft most kept) t.is ∙ where_kept most p t.expr; spells = g.filter s t.spells }
+          let read = made_some (expr_at most (inner most n) ts) (where_draft most kept) d rest q in
+          let t = read_is_spelled most n ts rest read.0 read.1 in
+          record { plan = Where p t.expr; is = read.2 ∙ ap (where_draft most kept) t.is ∙ where_kept most p t.expr; spells = g.filter s t.spells }
 
       select_sound : (ts rest : List Token) (d : PlanDraft) → SpellsPlan n p from (Mark mark.Bar ∷ Word word.Select ∷ ts) → select_at most n kept ts ≡ Some (d, rest) → So d rest
       select_sound ts rest d s q =
-          let read = then_some (columns_at most.exprs n ts) (λ columns rest. Some (select_draft most kept columns, rest)) (d, rest) q in
-          let e = both (select_draft most kept read.0) d read.1 rest read.3 in
-          let t = columns_sound most.exprs n ts read.0 rest (read.2 ∙ ap (λ r. Some (read.0, r)) e.1) in
-          record { plan = Select p t.items; is = sym e.0 ∙ ap (select_draft most kept) t.is ∙ select_kept most p t.items; spells = g.select s t.spells }
+          let read = made_some (columns_at most n ts) (select_draft most kept) d rest q in
+          let t = list_sound (columns_listed most n) ts read.0 rest read.1 in
+          record { plan = Select p t.items; is = read.2 ∙ ap (select_draft most kept) t.is ∙ select_kept most p t.items; spells = g.select s t.spells }
 
       group_sound : (ts rest : List Token) (d : PlanDraft) → SpellsPlan n p from (Mark mark.Bar ∷ Word word.Group ∷ ts) → group_at most n kept ts ≡ Some (d, rest) → So d rest
       group_sound ts rest d s q =
           let keys = then_some (up_to (terminal_at With) (names_at ts)) (λ keys next. and_then (results_at n next) (λ results rest. Some (group_draft most kept keys results, rest))) (d, rest) q in
-          let read = then_some (results_at n keys.1) (λ results rest. Some (group_draft most kept keys.0 results, rest)) (d, rest) keys.3 in
-          let e = both (group_draft most kept keys.0 read.0) d read.1 rest read.3 in
+          let read = made_some (results_at n keys.1) (group_draft most kept keys.0) d rest keys.3 in
           let first = plain_list_sound names_listed ts keys.0 (Word word.With ∷ keys.1) (up_to_some With (names_at ts) keys.0 keys.1 keys.2) in
-          let second = plain_list_sound (results_listed n) keys.1 read.0 rest (read.2 ∙ ap (λ r. Some (read.0, r)) e.1) in
-          record { plan = Group p keys.0 read.0; is = sym e.0 ∙ group_kept most p keys.0 read.0; spells = g.group keys.1 s first second }
+          let second = plain_list_sound (results_listed n) keys.1 read.0 rest read.1 in
+          record { plan = Group p keys.0 read.0; is = read.2 ∙ group_kept most p keys.0 read.0; spells = g.group keys.1 s first second }
 
       order_sound : (ts rest : List Token) (d : PlanDraft) → SpellsPlan n p from (Mark mark.Bar ∷ Word word.Order ∷ ts) → order_at most kept ts ≡ Some (d, rest) → So d rest
       order_sound ts rest d s q =
-          let read = then_some (keys_at ts) (λ keys rest. Some (order_draft most kept keys, rest)) (d, rest) q in
-          let e = both (order_draft most kept read.0) d read.1 rest read.3 in
-          let keys = plain_list_sound keys_listed ts read.0 rest (read.2 ∙ ap (λ r. Some (read.0, r)) e.1) in
-          record { plan = Order p read.0; is = sym e.0 ∙ order_kept most p read.0; spells = g.order s keys }
+          let read = made_some (keys_at ts) (order_draft most kept) d rest q in
+          let keys = plain_list_sound keys_listed ts read.0 rest read.1 in
+          record { plan = Order p read.0; is = read.2 ∙ order_kept most p read.0; spells = g.order s keys }
 
       distinct_sound : (ts rest : List Token) (d : PlanDraft) → SpellsPlan n p from (Mark mark.Bar ∷ Word word.Distinct ∷ ts) → ◌≡◌ {A = ReadOf PlanDraft} (Some (distinct_draft most kept, ts)) (Some (d, rest)) → So d rest
       distinct_sound ts rest d s q =
@@ -90,31 +80,29 @@ module _ (most : Counts) where
 
       concat_sound : (ts rest : List Token) (d : PlanDraft) → SpellsPlan n p from (Mark mark.Bar ∷ Word word.Concat ∷ ts) → concat_at most within kept ts ≡ Some (d, rest) → So d rest
       concat_sound ts rest d s q =
-          let read = then_some (inner_plan_at within ts) (λ right rest. Some (concat_draft most kept right, rest)) (d, rest) q in
-          let e = both (concat_draft most kept read.0) d read.1 rest read.3 in
-          let i = inner_some ts rest read.0 (read.2 ∙ ap (λ r. Some (read.0, r)) e.1) in
+          let read = made_some (inner_plan_at within ts) (concat_draft most kept) d rest q in
+          let i = inner_some ts rest read.0 read.1 in
           let t = sound i.0 (Mark mark.Close ∷ rest) read.0 i.2 in
           let left : SpellsPlan (suc t.0) p from (Mark mark.Bar ∷ Word word.Concat ∷ Mark mark.Open ∷ i.0) = subst (λ k. SpellsPlan k p from (Mark mark.Bar ∷ Word word.Concat ∷ Mark mark.Open ∷ i.0)) t.1 (subst (λ r. SpellsPlan n p from (Mark mark.Bar ∷ Word word.Concat ∷ r)) i.1 s) in
           let whole : SpellsPlan (suc t.0) (Concat p t.2.plan) from rest = g.concat left t.2.spells in
           record {
             plan = Concat p t.2.plan;
-            is = sym e.0 ∙ ap (concat_draft most kept) t.2.is ∙ concat_kept most p t.2.plan;
+            is = read.2 ∙ ap (concat_draft most kept) t.2.is ∙ concat_kept most p t.2.plan;
             spells = subst (λ k. SpellsPlan k (Concat p t.2.plan) from rest) (sym t.1) whole;
           }
 
       join_sound : (ts rest : List Token) (d : PlanDraft) → SpellsPlan n p from (Mark mark.Bar ∷ Word word.Join ∷ ts) → join_at most within kept ts ≡ Some (d, rest) → So d rest
       join_sound ts rest d s q =
           let right = then_some (up_to (terminal_at On) (inner_plan_at within ts)) (λ right next. and_then (pairs_at next) (λ on rest. Some (join_draft most kept right on, rest))) (d, rest) q in
-          let read = then_some (pairs_at right.1) (λ on rest. Some (join_draft most kept right.0 on, rest)) (d, rest) right.3 in
-          let e = both (join_draft most kept right.0 read.0) d read.1 rest read.3 in
-          let on = plain_list_sound pairs_listed right.1 read.0 rest (read.2 ∙ ap (λ r. Some (read.0, r)) e.1) in
+          let read = made_some (pairs_at right.1) (join_draft most kept right.0) d rest right.3 in
+          let on = plain_list_sound pairs_listed right.1 read.0 rest read.1 in
           let i = inner_some ts (Word word.On ∷ right.1) right.0 (up_to_some On (inner_plan_at within ts) right.0 right.1 right.2) in
           let t = sound i.0 (Mark mark.Close ∷ Word word.On ∷ right.1) right.0 i.2 in
           let left : SpellsPlan (suc t.0) p from (Mark mark.Bar ∷ Word word.Join ∷ Mark mark.Open ∷ i.0) = subst (λ k. SpellsPlan k p from (Mark mark.Bar ∷ Word word.Join ∷ Mark mark.Open ∷ i.0)) t.1 (subst (λ r. SpellsPlan n p from (Mark mark.Bar ∷ Word word.Join ∷ r)) i.1 s) in
           let whole : SpellsPlan (suc t.0) (Join p t.2.plan read.0) from rest = g.join left t.2.spells on in
           record {
             plan = Join p t.2.plan read.0;
-            is = sym e.0 ∙ ap (λ right. join_draft most kept right read.0) t.2.is ∙ join_kept most p t.2.plan read.0;
+            is = read.2 ∙ ap (λ right. join_draft most kept right read.0) t.2.is ∙ join_kept most p t.2.plan read.0;
             spells = subst (λ k. SpellsPlan k (Join p t.2.plan read.0) from rest) (sym t.1) whole;
           }
 

@@ -7,6 +7,7 @@ use Rattle.plan_grammar.specs.declared.token.Token.TheVariants.{Word, Mark}
 use Rattle.plan_grammar.specs.declared.token.Mark.TheVariants as mark
 use Rattle.plan_grammar.specs.declared.token.Word.TheVariants as word
 use Rattle.plan_grammar.specs.Operators.{Rule}
+use Rattle.plan_parser.specs.declared.counts.Counts.{Counts}
 use Rattle.plan_parser.specs.declared.parser.Terminal.{Terminal}
 use Rattle.plan_parser.specs.declared.parser.Terminal.TheVariants.{Comma, Open, Close, Bar, With, On}
 use Rattle.plan_parser.specs.Reader.{ReadOf, and_then, terminal_at, up_to}
@@ -15,13 +16,13 @@ use Rattle.plan_grammar.proofs.TokenLemmas.{both}
 use Rattle.plan_parser.proofs.RepeatLemmas.{then_some}
 
 -- within a construct one level less may be open, and with none left nothing is read
-pub inner_rule : (most n : ℕ) (rule : Rule) (ts : List Token) → (n ≡ 0 → inner most n rule ts ≡ None) × (0 < n → inner most n rule ts ≡ rule_at most (inner most (n - 1)) rule ts)
+pub inner_rule : (most : Counts) (n : ℕ) (rule : Rule) (ts : List Token) → (n ≡ 0 → inner most n rule ts ≡ None) × (0 < n → inner most n rule ts ≡ rule_at most (inner most (n - 1)) rule ts)
 unfolding inner
 inner_rule most zero rule ts = (λ e. refl, λ some. absurd (omega (arith, some)))
 inner_rule most (suc n) rule ts = (λ e. absurd (omega (arith, e)), λ some. let same : suc n - 1 ≡ n = omega arith in ap (λ k. rule_at most (inner most k) rule ts) (sym same))
 
 -- the reader of a rule below another is its own
-pub below_is : (most : ℕ) (readers : Readers) (k : ℕ) (rule : Rule) (ts : List Token) → rule < k → below most readers k rule ts ≡ rule_at most readers rule ts
+pub below_is : (most : Counts) (readers : Readers) (k : ℕ) (rule : Rule) (ts : List Token) → rule < k → below most readers k rule ts ≡ rule_at most readers rule ts
 unfolding below
 below_is most readers zero rule ts less = absurd (omega (arith, less))
 below_is most readers (suc k) rule ts less = by (nat_eq rule k) refl (below_is most readers k rule ts)

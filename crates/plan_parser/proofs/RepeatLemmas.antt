@@ -12,6 +12,11 @@ pub then_some : {A B : Type 0} (read : ReadOf A) (next : A → ReaderOf B) (y : 
 then_some None next y q = absurd (cc q)
 then_some (Some x) next y q = (x.0, x.1, refl, q)
 
+-- what was made of what was read
+pub made_some : {A B : Type 0} (read : ReadOf A) (make : A → B) (y : B) (rest : List Token) → and_then read (λ x behind. Some (make x, behind)) ≡ Some (y, rest) → (x : A) × (read ≡ Some (x, rest)) × (y ≡ make x)
+made_some None make y rest q = absurd (cc q)
+made_some (Some x) make y rest q = let p = both (make x.0) y x.1 rest q in (x.0, ap (λ r. Some (x.0, r)) p.1, sym p.0)
+
 module _ {O S : Type 0} (separator : ReaderOf O) (step : O → S → ReaderOf S) where
   module _ (turns : ℕ) (s : S) (rest : List Token) where
     -- with no turn left nothing is read

@@ -18,24 +18,25 @@ use Rattle.plan_grammar.specs.PlainNamed.{PlainExpr, Column, Literal, Call1, Cal
 use Rattle.plan_grammar.specs.Operators.{Rule, ATOM, E, joined, infix_of, prefix_of, call1_op, call2_op}
 use Rattle.plan_grammar.specs.Grammar as g
 use Rattle.plan_grammar.specs.Grammar.{Spells}
-use Rattle.plan_parser.specs.Draft.{PlainDraft, draft_of, with1, with2, with3}
+use Rattle.plan_parser.specs.declared.counts.Counts.{Counts}
+use Rattle.plan_parser.specs.Draft.{PlainDraft, draft_of, kept_one, with1, with2, with3}
 use Rattle.plan_parser.specs.declared.parser.Terminal.TheVariants.{Comma, Open, Close}
 use Rattle.plan_parser.specs.Reader.{ReadOf, and_then, terminal_at, all_repeated}
-use Rattle.plan_parser.specs.Reading.{Reader, Readers, Operand, argument, last_argument, operated, call1_at, call2_at, choice_at, function_at, word_atom, mark_atom, number_atom, minus_atom, atom_at, spelled_by, first_step, first_at, operator_step, operator_at, joined_onto, operand_onto, operands_at, read_by, below, rule_at, kept_one, inner}
+use Rattle.plan_parser.specs.Reading.{Reader, Readers, Operand, argument, operated, call1_at, call2_at, choice_at, function_at, word_atom, mark_atom, number_atom, minus_atom, atom_at, spelled_by, first_step, first_at, operator_step, operator_at, joined_onto, operand_onto, operands_at, read_by, below, rule_at, inner}
 use Rattle.plan_parser.proofs.DraftLemmas.{with1-draft, with2-draft, with3-draft}
 use Rattle.plan_grammar.proofs.TokenLemmas.{both}
-use Rattle.plan_parser.proofs.RepeatLemmas.{then_some, repeated_keeps}
+use Rattle.plan_parser.proofs.RepeatLemmas.{then_some, made_some, repeated_keeps}
 use Rattle.plan_parser.proofs.ReadingLemmas.{terminal_some, up_to_some}
 use Rattle.plan_parser.proofs.Complete.{made}
 
 -- the rule spells an expression of which this is kept
-pub record Spelled (most : ℕ) (rule : Rule) (n : ℕ) (d : PlainDraft) (from rest : List Token) : Type 0 where
+pub record Spelled (most : Counts) (rule : Rule) (n : ℕ) (d : PlainDraft) (from rest : List Token) : Type 0 where
   pub expr : PlainExpr
   pub is : d ≡ draft_of most expr
   pub spells : Spells rule n expr from rest
 
 -- a rule spells the operand, one that is no looser than `within`
-record SpelledOperand (most within n : ℕ) (x : Operand) (from rest : List Token) : Type 0 where
+record SpelledOperand (most : Counts) (within n : ℕ) (x : Operand) (from rest : List Token) : Type 0 where
   expr : PlainExpr
   rule : Rule
   is : x ≡ (draft_of most expr, rule)
@@ -43,21 +44,15 @@ record SpelledOperand (most within n : ℕ) (x : Operand) (from rest : List Toke
   spells : Spells rule n expr from rest
 
 -- the readers within a construct, of which n levels may be open
-abbrev SoundWithin : ℕ → ℕ → Readers → Type 0
+abbrev SoundWithin : Counts → ℕ → Readers → Type 0
 SoundWithin most n i = (rule : Rule) (from rest : List Token) (d : PlainDraft) → i rule from ≡ Some (d, rest) → (m : ℕ) × (n ≡ suc m) × Spelled most rule m d from rest
 
-module _ (most : ℕ) where
+module _ (most : Counts) where
   abbrev pub Sound : Rule → ℕ → Reader → Type 0
   Sound rule n reader = (from rest : List Token) (d : PlainDraft) → reader from ≡ Some (d, rest) → Spelled most rule n d from rest
 
   here : (rule : Rule) (n : ℕ) (e : PlainExpr) (from ts rest : List Token) (d : PlainDraft) → Spells rule n e from ts → ◌≡◌ {A = ReadOf PlainDraft} (Some (draft_of most e, ts)) (Some (d, rest)) → Spelled most rule n d from rest
   here rule n e from ts rest d s q = let p = both (draft_of most e) d ts rest q in record { expr = e; is = sym p.0; spells = subst (λ r. Spells rule n e from r) p.1 s }
-
-  operated_some : (o : Op) (read : ReadOf PlainDraft) (rest : List Token) (d : PlainDraft) → operated most o read ≡ Some (d, rest) → (a : PlainDraft) × (read ≡ Some (a, rest)) × (d ≡ with1 most (Call1 o) a)
-  operated_some o read rest d q =
-      let first = then_some read (λ a rest. Some (with1 most (Call1 o) a, rest)) (d, rest) q in
-      let p = both (with1 most (Call1 o) first.0) d first.1 rest first.3 in
-      (first.0, first.2 ∙ ap (λ r. Some (first.0, r)) p.1, sym p.0)
 
   in_i64 : (number : ℕ) → nat_lt number greatest_number ≡ true → FitsSigned w64 (pos number)
   in_i64 number e = let small = (Decides-ltb number greatest_number).0 e in record { sfits = omega (arith, small) }
@@ -84,7 +79,7 @@ module _ (most : ℕ) where
   module _ (i : Readers) (n : ℕ) (within : SoundWithin most n i) where
     call1_sound : (w : the_word.Word) (o : Op) → call1_op w ≡ Some o → (mid rest : List Token) (d : PlainDraft) → call1_at most i o mid ≡ Some (d, rest) → Spelled most ATOM n d (Word w ∷ Mark mark.Open ∷ mid) rest
     call1_sound w o e mid rest d q =
-        let read = operated_some o (last_argument i mid) rest d q in
+        let read = made_some (argument i Close mid) (with1 most (Call1 o)) d rest q in
         let s = within E mid (Mark mark.Close ∷ rest) read.0 (up_to_some Close (i E mid) read.0 rest read.1) in
         let whole : Spells ATOM (suc s.0) (Call1 o s.2.expr) (Word w ∷ Mark mark.Open ∷ mid) rest = g.call1 w e s.2.spells in
         record {
@@ -96,37 +91,35 @@ module _ (most : ℕ) where
     -- arguments, each with the levels that are left
     call2_sound : (w : the_word.Word) (o : Op) → call2_op w ≡ Some o → (mid rest : List Token) (d : PlainDraft) → call2_at most i o mid ≡ Some (d, rest) → Spelled most ATOM n d (Word w ∷ Mark mark.Open ∷ mid) rest
     call2_sound w o e mid rest d q =
-        let first = then_some (argument i mid) (λ a next. and_then (last_argument i next) (λ b rest. Some (with2 most (Call2 o) a b, rest))) (d, rest) q in
-        let last = then_some (last_argument i first.1) (λ b rest. Some (with2 most (Call2 o) first.0 b, rest)) (d, rest) first.3 in
-        let p = both (with2 most (Call2 o) first.0 last.0) d last.1 rest last.3 in
+        let first = then_some (argument i Comma mid) (λ a next. and_then (argument i Close next) (λ b rest. Some (with2 most (Call2 o) a b, rest))) (d, rest) q in
+        let last = made_some (argument i Close first.1) (with2 most (Call2 o) first.0) d rest first.3 in
         let s = within E mid (Mark mark.Comma ∷ first.1) first.0 (up_to_some Comma (i E mid) first.0 first.1 first.2) in
-        let t = within E first.1 (Mark mark.Close ∷ last.1) last.0 (up_to_some Close (i E first.1) last.0 last.1 last.2) in
+        let t = within E first.1 (Mark mark.Close ∷ rest) last.0 (up_to_some Close (i E first.1) last.0 rest last.1) in
         let same : t.0 ≡ s.0 = omega (arith, s.1, t.1) in
-        let second : Spells E s.0 t.2.expr first.1 (Mark mark.Close ∷ rest) = subst (λ k. Spells E k t.2.expr first.1 (Mark mark.Close ∷ rest)) same (subst (λ r. Spells E t.0 t.2.expr first.1 (Mark mark.Close ∷ r)) p.1 t.2.spells) in
+        let second : Spells E s.0 t.2.expr first.1 (Mark mark.Close ∷ rest) = subst (λ k. Spells E k t.2.expr first.1 (Mark mark.Close ∷ rest)) same t.2.spells in
         let whole : Spells ATOM (suc s.0) (Call2 o s.2.expr t.2.expr) (Word w ∷ Mark mark.Open ∷ mid) rest = g.call2 w e s.2.spells second in
         record {
           expr = Call2 o s.2.expr t.2.expr;
-          is = sym p.0 ∙ (λ k. with2 most (Call2 o) (s.2.is k) (t.2.is k)) ∙ with2-draft most (Call2 o) s.2.expr t.2.expr;
+          is = last.2 ∙ (λ k. with2 most (Call2 o) (s.2.is k) (t.2.is k)) ∙ with2-draft most (Call2 o) s.2.expr t.2.expr;
           spells = subst (λ k. Spells ATOM k (Call2 o s.2.expr t.2.expr) (Word w ∷ Mark mark.Open ∷ mid) rest) (sym s.1) whole;
         }
 
     choice_sound : (mid rest : List Token) (d : PlainDraft) → choice_at most i mid ≡ Some (d, rest) → Spelled most ATOM n d (Word word.If ∷ Mark mark.Open ∷ mid) rest
     choice_sound mid rest d q =
-        let first = then_some (argument i mid) (λ c next. and_then (argument i next) (λ a last. and_then (last_argument i last) (λ b rest. Some (with3 most If c a b, rest)))) (d, rest) q in
-        let second = then_some (argument i first.1) (λ a last. and_then (last_argument i last) (λ b rest. Some (with3 most If first.0 a b, rest))) (d, rest) first.3 in
-        let last = then_some (last_argument i second.1) (λ b rest. Some (with3 most If first.0 second.0 b, rest)) (d, rest) second.3 in
-        let p = both (with3 most If first.0 second.0 last.0) d last.1 rest last.3 in
+        let first = then_some (argument i Comma mid) (λ c next. and_then (argument i Comma next) (λ a last. and_then (argument i Close last) (λ b rest. Some (with3 most If c a b, rest)))) (d, rest) q in
+        let second = then_some (argument i Comma first.1) (λ a last. and_then (argument i Close last) (λ b rest. Some (with3 most If first.0 a b, rest))) (d, rest) first.3 in
+        let last = made_some (argument i Close second.1) (with3 most If first.0 second.0) d rest second.3 in
         let s = within E mid (Mark mark.Comma ∷ first.1) first.0 (up_to_some Comma (i E mid) first.0 first.1 first.2) in
         let t = within E first.1 (Mark mark.Comma ∷ second.1) second.0 (up_to_some Comma (i E first.1) second.0 second.1 second.2) in
-        let u = within E second.1 (Mark mark.Close ∷ last.1) last.0 (up_to_some Close (i E second.1) last.0 last.1 last.2) in
+        let u = within E second.1 (Mark mark.Close ∷ rest) last.0 (up_to_some Close (i E second.1) last.0 rest last.1) in
         let same : t.0 ≡ s.0 = omega (arith, s.1, t.1) in
         let again : u.0 ≡ s.0 = omega (arith, s.1, u.1) in
         let two : Spells E s.0 t.2.expr first.1 (Mark mark.Comma ∷ second.1) = subst (λ k. Spells E k t.2.expr first.1 (Mark mark.Comma ∷ second.1)) same t.2.spells in
-        let three : Spells E s.0 u.2.expr second.1 (Mark mark.Close ∷ rest) = subst (λ k. Spells E k u.2.expr second.1 (Mark mark.Close ∷ rest)) again (subst (λ r. Spells E u.0 u.2.expr second.1 (Mark mark.Close ∷ r)) p.1 u.2.spells) in
+        let three : Spells E s.0 u.2.expr second.1 (Mark mark.Close ∷ rest) = subst (λ k. Spells E k u.2.expr second.1 (Mark mark.Close ∷ rest)) again u.2.spells in
         let whole : Spells ATOM (suc s.0) (If s.2.expr t.2.expr u.2.expr) (Word word.If ∷ Mark mark.Open ∷ mid) rest = g.choice s.2.spells two three in
         record {
           expr = If s.2.expr t.2.expr u.2.expr;
-          is = sym p.0 ∙ (λ k. with3 most If (s.2.is k) (t.2.is k) (u.2.is k)) ∙ with3-draft most If s.2.expr t.2.expr u.2.expr;
+          is = last.2 ∙ (λ k. with3 most If (s.2.is k) (t.2.is k) (u.2.is k)) ∙ with3-draft most If s.2.expr t.2.expr u.2.expr;
           spells = subst (λ k. Spells ATOM k (If s.2.expr t.2.expr u.2.expr) (Word word.If ∷ Mark mark.Open ∷ mid) rest) (sym s.1) whole;
         }
 
@@ -166,7 +159,7 @@ module _ (most : ℕ) where
 
     prefixed_sound : (t : Token) (p : Prefix) → prefix_of t ≡ Some p → (ts rest : List Token) (d : PlainDraft) → operated most p.op (i p.rule ts) ≡ Some (d, rest) → Spelled most p.rule n d (t ∷ ts) rest
     prefixed_sound t p e ts rest d q =
-        let read = operated_some p.op (i p.rule ts) rest d q in
+        let read = made_some (i p.rule ts) (with1 most (Call1 p.op)) d rest q in
         let s = within p.rule ts rest read.0 read.1 in
         let whole : Spells p.rule (suc s.0) (Call1 p.op s.2.expr) (t ∷ ts) rest = g.prefixed t e s.2.spells in
         record {
@@ -179,10 +172,9 @@ module _ (most : ℕ) where
     by_rule : (own rule : Rule) (from : List Token) → own ≤ rule → (read : ReadOf PlainDraft) (x : Operand) (rest : List Token) → spelled_by own read ≡ Some (x, rest)
         → ((d : PlainDraft) → read ≡ Some (d, rest) → Spelled most own n d from rest) → SpelledOperand most rule n x from rest
     by_rule own rule from le read x rest q sound =
-        let f = then_some read (λ d rest. Some ((d, own), rest)) (x, rest) q in
-        let p = both (f.0, own) x f.1 rest f.3 in
-        let s = sound f.0 (f.2 ∙ ap (λ r. Some (f.0, r)) p.1) in
-        record { expr = s.expr; rule = own; is = sym p.0 ∙ ap (λ d. (d, own)) s.is; tight = le; spells = s.spells }
+        let f = made_some read (λ d. (d, own)) x rest q in
+        let s = sound f.0 f.1 in
+        record { expr = s.expr; rule = own; is = f.2 ∙ ap (λ d. (d, own)) s.is; tight = le; spells = s.spells }
 
     first_sound : (rule : Rule) (from rest : List Token) (x : Operand) → first_at most i rule from ≡ Some (x, rest) → SpelledOperand most rule n x from rest
     first_sound rule [] rest x q = absurd (cc q)
@@ -223,14 +215,13 @@ module _ (most : ℕ) where
             allowed : (t : Token) → ts ≡ t ∷ mid → infix_of t ≡ Some o → o.rule ≤ rule → (b : Bool) → nat_le k.rule o.left ≡ b
                 → cond {A = ReadOf Operand} b (spelled_by o.rule (joined_onto most operands o (draft_of most k.expr) mid)) None ≡ Some (y, after) → SpelledOperand most rule n y from after
             allowed t at is within true le q = by_rule o.rule rule from within (joined_onto most operands o (draft_of most k.expr) mid) y after q (λ d r.
-                let read = then_some (operands o.right mid) (λ b rest. Some (with2 most (joined o.operator) (draft_of most k.expr) b, rest)) (d, after) r in
-                let p = both (with2 most (joined o.operator) (draft_of most k.expr) read.0) d read.1 after read.3 in
-                let s = sound o.right mid after read.0 (read.2 ∙ ap (λ r. Some (read.0, r)) p.1) in
+                let read = made_some (operands o.right mid) (with2 most (joined o.operator) (draft_of most k.expr)) d after r in
+                let s = sound o.right mid after read.0 read.1 in
                 let tight : k.rule ≤ o.left = grind (arith, nat_tests, le) in
                 let left : Spells o.left n k.expr from (t ∷ mid) = g.looser tight (subst (λ ts. Spells k.rule n k.expr from ts) at k.spells) in
                 record {
                   expr = joined o.operator k.expr s.expr;
-                  is = sym p.0 ∙ ap (with2 most (joined o.operator) (draft_of most k.expr)) s.is ∙ made most o.operator k.expr s.expr;
+                  is = read.2 ∙ ap (with2 most (joined o.operator) (draft_of most k.expr)) s.is ∙ made most o.operator k.expr s.expr;
                   spells = g.operation t is left s.spells;
                 })
             allowed t at is within false le q = absurd (cc q)
@@ -242,10 +233,9 @@ module _ (most : ℕ) where
 
       read_by_sound : Sound rule n (read_by most i operands rule)
       read_by_sound from rest d q =
-          let read = then_some (operands_at most i operands rule from) (λ operand rest. Some (operand.0, rest)) (d, rest) q in
-          let p = both read.0.0 d read.1 rest read.3 in
-          let s = operands_sound from read.1 read.0 read.2 in
-          record { expr = s.expr; is = sym p.0 ∙ ap (λ x. x.0) s.is; spells = subst (λ r. Spells rule n s.expr from r) p.1 (g.looser s.tight s.spells) }
+          let read = made_some (operands_at most i operands rule from) (λ operand. operand.0) d rest q in
+          let s = operands_sound from rest read.0 read.1 in
+          record { expr = s.expr; is = read.2 ∙ ap (λ x. x.0) s.is; spells = g.looser s.tight s.spells }
 
     below_sound : (k : ℕ) (rule : Rule) → Sound rule n (below most i k rule)
     unfolding below

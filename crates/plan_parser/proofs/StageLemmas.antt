@@ -2,7 +2,7 @@
 use Prim.Native.Nat.{zero, suc}
 use Rattle.std.proofs.Common.{◌≡◌, refl, sym, ap, ℕ, ◌<◌, ◌-◌, List, None, arith}
 use Rattle.plan_grammar.specs.declared.token.Token.{Token}
-use Rattle.plan_parser.specs.declared.plan_draft.Counts.{Counts}
+use Rattle.plan_parser.specs.declared.counts.Counts.{Counts}
 use Rattle.plan_parser.specs.declared.parser.Terminal.TheVariants.{Open}
 use Rattle.plan_parser.specs.Reader.{and_then, terminal_at}
 use Rattle.plan_parser.specs.PlanReading.{agg_at, name_at, argument_at, inner_plan, plan_at}

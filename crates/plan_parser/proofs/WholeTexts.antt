@@ -1,82 +1,45 @@
--- What a whole text spells.
-use Rattle.std.proofs.Common.{◌≡◌, refl, sym, ◌∙◌, subst, ℕ, ◌≤◌, ◌<◌, Bool, true, false, cond, nat_le, List, [], Option, Some, Result, Ok, Err, IfOk, arith}
+-- What a text spells as an expression, within the limit or beyond it.
+use Rattle.std.proofs.Common.{◌≡◌, ℕ, ◌≤◌, ◌<◌, List, [], true, false, arith}
 use Rattle.std.proofs.lemmas.Bool.Decides.{nat_tests}
-use Rattle.plan_grammar.specs.declared.token.Token.{Token}
-use Rattle.plan_grammar.specs.declared.expr.NamedExpr as code
-use Rattle.plan_grammar.specs.declared.limit.PlanLimit as the_limit
-use Rattle.plan_grammar.specs.declared.limit.PlanLimit.TheVariants as limit
-use Rattle.plan_parser.specs.declared.refusal.TextRefusal.{TextRefusal}
-use Rattle.plan_parser.specs.declared.refusal.TextRefusal.TheVariants as refusal
-use Rattle.plan_grammar.specs.Token.{AreTokens}
-use Rattle.plan_grammar.specs.PlainNamed.{PlainExpr, expr_of}
+use Rattle.plan_grammar.specs.declared.limit.PlanLimit.{PlanLimit}
+use Rattle.plan_grammar.specs.declared.limit.PlanLimit.TheVariants.{Exprs}
+use Rattle.plan_grammar.specs.PlainNamed.{PlainExpr}
 use Rattle.plan_grammar.specs.Counts.{expr_nodes}
 use Rattle.plan_grammar.specs.Operators.{E}
-use Rattle.plan_grammar.specs.Grammar.{Spells}
-use Rattle.plan_parser.specs.Draft.{PlainDraft, Whole, TooMany, draft_of}
-use Rattle.plan_parser.specs.Reading.{expr_at, inner}
+use Rattle.plan_grammar.specs.Grammar.{Spells, EndsExpr}
 use Rattle.plan_grammar.specs.Spelled.{SpellsExpr}
-use Rattle.plan_parser.specs.Answer.{MeansWhole}
-use Rattle.plan_grammar.proofs.TextTokenLaws.{tokens_in-some}
+use Rattle.plan_parser.specs.declared.counts.Counts.{Counts}
+use Rattle.plan_parser.specs.Draft.{counts}
+use Rattle.plan_parser.specs.Reading.{expr_at, inner}
 use Rattle.plan_parser.proofs.Sound.{read_is_spelled}
 use Rattle.plan_parser.proofs.OneReading.{spelled_is_read}
+use Rattle.plan_parser.proofs.Whole.{ReadsSpelled, ReadsTexts, IsPassed}
 
--- a text has one list of tokens
-pub one_list : (ts us : List Token) (text : List ℕ) → AreTokens ts text → AreTokens us text → ts ≡ us
-one_list ts us text a b = same (sym (tokens_in-some text ts a) ∙ tokens_in-some text us b)
-  where
-    same : ◌≡◌ {A = Option (List Token)} (Some ts) (Some us) → ts ≡ us
-    same e = cc e
+abbrev pub exprs_of : PlainExpr → Counts
+exprs_of e = counts 0 0 (expr_nodes e)
 
-module _ (text : List ℕ) (tokens : List Token) (are : AreTokens tokens text) where
-  -- what was read up to the end is spelled
-  pub whole_spelled : (e : PlainExpr) (nodes : ℕ) → expr_at 512 (inner 512 32) tokens ≡ Some (Whole e nodes, []) → SpellsExpr e text × (expr_nodes e ≤ 512)
-  whole_spelled e nodes q =
-      let s = read_is_spelled 512 32 tokens [] (Whole e nodes) q in
-      by s.expr s.spells s.is
-    where
-      by : (f : PlainExpr) → Spells E 32 f tokens [] → Whole e nodes ≡ draft_of 512 f → SpellsExpr e text × (expr_nodes e ≤ 512)
-      by f s is = test (nat_le (expr_nodes f) 512) refl is
-        where
-          test : (b : Bool) → nat_le (expr_nodes f) 512 ≡ b → Whole e nodes ≡ cond b (Whole f (expr_nodes f)) TooMany → SpellsExpr e text × (expr_nodes e ≤ 512)
-          test true few same =
-              let is_f : f ≡ e = cc same in
-              let small : expr_nodes f ≤ 512 = grind (arith, nat_tests, few) in
-              (record { tokens = tokens; are = are; spells = subst (λ f. Spells E 32 f tokens []) is_f s }, subst (λ f. expr_nodes f ≤ 512) is_f small)
-          test false few same = absurd (cc same)
+-- the reader and the grammar say the same of expressions
+pub exprs_read : (levels : ℕ) → ReadsSpelled exprs_of (Spells E levels) EndsExpr (λ most. expr_at most (inner most levels))
+exprs_read n = record {
+  sound = λ most from rest d q. let s = read_is_spelled most n from rest d q in (s.expr, s.is, s.spells);
+  complete = λ most e from rest ends s. spelled_is_read most n e from rest ends s;
+}
 
-  pub whole_too_many : expr_at 512 (inner 512 32) tokens ≡ Some (TooMany, []) → (e : PlainExpr) × SpellsExpr e text × (512 < expr_nodes e)
-  whole_too_many q =
-      let s = read_is_spelled 512 32 tokens [] TooMany q in
-      (s.expr, record { tokens = tokens; are = are; spells = s.spells }, test s.expr (nat_le (expr_nodes s.expr) 512) refl s.is)
-    where
-      test : (f : PlainExpr) (b : Bool) → nat_le (expr_nodes f) 512 ≡ b → TooMany ≡ cond b (Whole f (expr_nodes f)) TooMany → 512 < expr_nodes f
-      test f true few same = absurd (cc same)
-      test f false many same = grind (arith, nat_tests, many)
+abbrev pub IsTooLong : PlanLimit → PlainExpr → Type 0
+IsTooLong what e = (what ≡ Exprs) × (512 < expr_nodes e)
 
-  pub none_whole : ((d : PlainDraft) → expr_at 512 (inner 512 32) tokens ≡ Some (d, []) → ⊥) → (e : PlainExpr) → SpellsExpr e text → ⊥
-  none_whole none e s =
-      let same = one_list s.tokens tokens text s.are are in
-      none (draft_of 512 e) (spelled_is_read 512 32 e tokens [] tt (subst (λ ts. Spells E 32 e ts []) same s.spells))
+passed : (what : PlanLimit) (e : PlainExpr) → IsPassed what (exprs_of e) → IsTooLong what e
+passed what e s = let many = s.0 in let first = s.1 in (grind (arith, nat_tests, many, first), grind (arith, nat_tests, many))
 
-pub no_tokens : (text : List ℕ) → ((tokens : List Token) → AreTokens tokens text → ⊥) → (e : PlainExpr) → SpellsExpr e text → ⊥
-no_tokens text none e s = none s.tokens s.are
+too_long : (what : PlanLimit) (e : PlainExpr) → IsTooLong what e → IsPassed what (exprs_of e)
+too_long what e s = let is = s.0 in let many = s.1 in (grind (arith, nat_tests, many), grind (arith, nat_tests, is))
 
--- what the answer says of the text
-module _ (text : List ℕ) (tokens : List Token) (are : AreTokens tokens text) where
-  pub answer_found : (r : Result code.NamedExpr TextRefusal) → MeansWhole r (expr_at 512 (inner 512 32) tokens) → IfOk r (λ e. SpellsExpr (expr_of e) text × (expr_nodes (expr_of e) ≤ 512))
-  answer_found (Ok e) m = whole_spelled text tokens are (expr_of e) m.0 m.1
-  answer_found (Err e) m = tt
-
-  pub answer_syntax : (r : Result code.NamedExpr TextRefusal) → MeansWhole r (expr_at 512 (inner 512 32) tokens) → r ≡ Err refusal.Syntax → (e : PlainExpr) → SpellsExpr e text → ⊥
-  answer_syntax (Ok e) m is = absurd (cc is)
-  answer_syntax (Err refusal.Syntax) m is = none_whole text tokens are m
-  answer_syntax (Err (refusal.Limit what)) m is = absurd (cc is)
-  answer_syntax (Err refusal.Memory) m is = absurd (cc is)
-
-  pub answer_limit : (r : Result code.NamedExpr TextRefusal) → MeansWhole r (expr_at 512 (inner 512 32) tokens) → (what : the_limit.PlanLimit) → r ≡ Err (refusal.Limit what) → (what ≡ limit.Exprs) × ((e : PlainExpr) × SpellsExpr e text × (512 < expr_nodes e))
-  answer_limit (Ok e) m what is = absurd (cc is)
-  answer_limit (Err refusal.Syntax) m what is = absurd (cc is)
-  answer_limit (Err (refusal.Limit limit.Nodes)) m what is = absurd m
-  answer_limit (Err (refusal.Limit limit.Wide)) m what is = absurd m
-  answer_limit (Err (refusal.Limit limit.Exprs)) m what is = (cc is, whole_too_many text tokens are m)
-  answer_limit (Err refusal.Memory) m what is = absurd (cc is)
+pub expr_texts : ReadsTexts exprs_of (Spells E 32) EndsExpr (λ most. expr_at most (inner most 32)) SpellsExpr (λ e. expr_nodes e ≤ 512) IsTooLong
+expr_texts = record {
+  reads = exprs_read 32;
+  ends = tt;
+  opened = λ e text s. (s.tokens, s.are, s.spells);
+  closed = λ e text s. record { tokens = s.0; are = s.1; spells = s.2 };
+  within = λ e. (λ w. grind (arith, nat_tests, w), λ le. grind (arith, nat_tests, le));
+  passes = λ what e. (passed what e, too_long what e);
+}

@@ -12,12 +12,12 @@ use Rattle.plan_grammar.specs.declared.plan.NamedAgg.TheVariants as agg
 use Rattle.plan_grammar.specs.declared.plan.NamedResult.{NamedResult}
 use Rattle.plan_grammar.specs.declared.plan.NamedPair.{NamedPair}
 use Rattle.plan_grammar.specs.declared.plan.NamedKey.{NamedKey}
-use Rattle.plan_parser.specs.declared.plan_draft.Counts.{Counts}
+use Rattle.plan_parser.specs.declared.counts.Counts.{Counts}
 use Rattle.plan_parser.specs.Draft.{PlainDraft}
 use Rattle.plan_parser.specs.declared.parser.Terminal.TheVariants.{Bar, Close, Comma, On, Open, With}
 use Rattle.plan_parser.specs.Reader.{ReaderOf, and_then, terminal_at, up_to, all_repeated}
 use Rattle.plan_parser.specs.Reading.{expr_at, inner}
-use Rattle.plan_parser.specs.PlanDraft.{PlanDraft, ColumnsDraft, no_columns, with_column, from_draft, where_draft, select_draft, distinct_draft, group_draft, join_draft, concat_draft, order_draft}
+use Rattle.plan_parser.specs.PlanDraft.{PlanDraft, ColumnsDraft, columns_draft_of, with_column, from_draft, where_draft, select_draft, distinct_draft, group_draft, join_draft, concat_draft, order_draft}
 
 -- an item more, onto the ones before
 abbrev pub item_onto : {A S : Type 0} → (ReaderOf A) → (S → A → S) → S → ReaderOf S
@@ -41,11 +41,11 @@ named_at (Name name ∷ Mark mark.Equal ∷ rest) = Some (name, rest)
 named_at _ = None
 
 -- NAME = E
-abbrev pub column_at : ℕ → ℕ → ReaderOf (List ℕ × PlainDraft)
+abbrev pub column_at : Counts → ℕ → ReaderOf (List ℕ × PlainDraft)
 column_at most levels ts = and_then (named_at ts) (λ name behind. and_then (expr_at most (inner most levels) behind) (λ e rest. Some ((name, e), rest)))
 
-abbrev pub columns_at : ℕ → ℕ → ReaderOf ColumnsDraft
-columns_at most levels = list_at (column_at most levels) (with_column most) no_columns
+abbrev pub columns_at : Counts → ℕ → ReaderOf ColumnsDraft
+columns_at most levels = list_at (column_at most levels) (with_column most) (columns_draft_of most [])
 
 -- NAME = NAME
 abbrev pub pair_at : ReaderOf NamedPair
@@ -110,10 +110,10 @@ abbrev pub inner_plan_at : PlanReader → PlanReader
 inner_plan_at inner ts = and_then (terminal_at Open ts) (λ _ mid. up_to (terminal_at Close) (inner mid))
 
 abbrev pub where_at : Counts → ℕ → PlanDraft → PlanReader
-where_at most levels d ts = and_then (expr_at most.exprs (inner most.exprs levels) ts) (λ test rest. Some (where_draft most d test, rest))
+where_at most levels d ts = and_then (expr_at most (inner most levels) ts) (λ test rest. Some (where_draft most d test, rest))
 
 abbrev pub select_at : Counts → ℕ → PlanDraft → PlanReader
-select_at most levels d ts = and_then (columns_at most.exprs levels ts) (λ columns rest. Some (select_draft most d columns, rest))
+select_at most levels d ts = and_then (columns_at most levels ts) (λ columns rest. Some (select_draft most d columns, rest))
 
 abbrev pub group_at : Counts → ℕ → PlanDraft → PlanReader
 group_at most levels d ts =

@@ -1,72 +1,98 @@
-//! What is kept of an expression while it is read.
+//! What is kept of a part of a plan while it is read, and of an expression.
 ghost use Rattle.std.specs.Prelude.{◌≡◌, IfOk};
-ghost use Rattle.plan_grammar.specs.PlainNamed.{PlainExpr, expr_of, Call1, If};
-ghost use Rattle.plan_parser.specs.Draft.{kept, seen, with1, with2, with3};
 ghost use Rattle.plan_grammar.specs.Operators.{joined};
-ghost use Rattle.plan_parser.specs.Reading.{kept_one};
+ghost use Rattle.plan_grammar.specs.PlainNamed.{expr_of, Call1, If};
+ghost use Rattle.plan_parser.specs.Draft.{limits, kept, counted, paired, seen, kept_one, with1, with2, with3};
 
+use crate::counts::{Counts, EXPR};
 use plan_grammar::{NamedExpr, Operator};
 use rows_core::Memory;
 use scalar_ops::Op;
 use std::alloc::Global;
 
-/// The most nodes of an expression that are kept.
-const MOST_NODES: u32 = 512;
+/// A part of a plan and its counts. Where a count is above its limit, nothing of the part is kept; each count
+/// stands still at one above its limit.
+#[derive(Drop)]
+pub struct Draft<T> {
+    pub part: Option<T>,
+    pub counts: Counts,
+}
 
-/// An expression, or that it has more than 512 nodes: then nothing of it is kept.
-#[derive(Debug, Drop)]
-pub enum Draft {
-    Whole { expr: NamedExpr, nodes: u16 },
-    TooMany,
+/// What is kept of an expression.
+pub type ExprDraft = Draft<NamedExpr>;
+
+impl<T: Drop> Draft<T> {
+    /// The part where its counts are within the limits.
+    fn kept(self) -> Draft<T>
+        ensures { result ≡ kept limits self.part self.counts }
+    {
+        if self.counts.are_within() {
+            self
+        } else {
+            Draft {
+                part: None,
+                counts: self.counts,
+            }
+        }
+    }
+
+    /// The part with more that counts.
+    pub fn counting(self, more: Counts) -> Draft<T>
+        ensures { result ≡ counted limits more self }
+    {
+        let Draft { part, counts } = self;
+        let counts = more.plus(counts);
+        Draft { part, counts }.kept()
+    }
+
+    /// This part and the other one as one.
+    pub fn with<U: Drop>(self, other: Draft<U>) -> Draft<(T, U)>
+        ensures { result ≡ paired limits self other }
+    {
+        let part = self.part.zip(other.part);
+        let counts = self.counts.plus(other.counts);
+        Draft { part, counts }.kept()
+    }
 }
 
 /// An expression of one node.
-pub fn one(expr: NamedExpr) -> Draft
-    ensures { seen result ≡ kept_one 512 (expr_of expr) }
+pub fn one(expr: NamedExpr) -> ExprDraft
+    ensures { seen result ≡ kept_one limits (expr_of expr) }
 {
-    Draft::Whole { expr, nodes: 1 }
-}
-
-fn kept(expr: NamedExpr, nodes: u32) -> Draft
-    ensures { seen result ≡ kept 512 (expr_of expr) nodes }
-{
-    if nodes <= MOST_NODES {
-        Draft::Whole {
-            expr,
-            nodes: nodes as u16,
-        }
-    } else {
-        Draft::TooMany
+    Draft {
+        part: Some(expr),
+        counts: EXPR,
     }
 }
 
 /// The operation on the argument.
-pub fn call1(alloc: Global, op: Op, arg: Draft) -> Result<Draft, Memory>
-    ensures { IfOk result (λ draft. seen draft ≡ with1 512 (Call1 op) (seen arg)) }
+pub fn call1(alloc: Global, op: Op, arg: ExprDraft) -> Result<ExprDraft, Memory>
+    ensures { IfOk result (λ draft. seen draft ≡ with1 limits (Call1 op) (seen arg)) }
 {
-    let Draft::Whole { expr, nodes } = arg else {
-        return Ok(Draft::TooMany);
+    let Draft { part, counts } = arg.counting(EXPR);
+    let Some(arg) = part else {
+        return Ok(Draft { part: None, counts });
     };
-    let arg = Box::new(alloc, expr)?;
-    Ok(kept(NamedExpr::Call1 { op, arg }, 1 + u32::from(nodes)))
+    let arg = Box::new(alloc, arg)?;
+    let part = Some(NamedExpr::Call1 { op, arg });
+    Ok(Draft { part, counts })
 }
 
 /// What the operator makes of the operands.
-pub fn join(alloc: Global, operator: Operator, left: Draft, right: Draft) -> Result<Draft, Memory>
-    ensures { IfOk result (λ draft. seen draft ≡ with2 512 (joined operator) (seen left) (seen right)) }
+pub fn join(
+    alloc: Global,
+    operator: Operator,
+    left: ExprDraft,
+    right: ExprDraft,
+) -> Result<ExprDraft, Memory>
+    ensures { IfOk result (λ draft. seen draft ≡ with2 limits (joined operator) (seen left) (seen right)) }
 {
-    let Draft::Whole { expr, nodes } = left else {
-        return Ok(Draft::TooMany);
+    let Draft { part, counts } = left.with(right).counting(EXPR);
+    let Some((left, right)) = part else {
+        return Ok(Draft { part: None, counts });
     };
-    let Draft::Whole {
-        expr: other,
-        nodes: others,
-    } = right
-    else {
-        return Ok(Draft::TooMany);
-    };
-    let nodes = 1 + (u32::from(nodes) + u32::from(others));
-    Ok(kept(join_exprs(alloc, operator, expr, other)?, nodes))
+    let part = Some(join_exprs(alloc, operator, left, right)?);
+    Ok(Draft { part, counts })
 }
 
 fn join_exprs(
@@ -87,28 +113,20 @@ fn join_exprs(
 }
 
 /// The choice by the test.
-pub fn choice(alloc: Global, test: Draft, then_part: Draft, other: Draft) -> Result<Draft, Memory>
-    ensures { IfOk result (λ draft. seen draft ≡ with3 512 If (seen test) (seen then_part) (seen other)) }
+pub fn choice(
+    alloc: Global,
+    test: ExprDraft,
+    first: ExprDraft,
+    last: ExprDraft,
+) -> Result<ExprDraft, Memory>
+    ensures { IfOk result (λ draft. seen draft ≡ with3 limits If (seen test) (seen first) (seen last)) }
 {
-    let Draft::Whole { expr, nodes } = test else {
-        return Ok(Draft::TooMany);
+    let Draft { part, counts } = test.with(first.with(last)).counting(EXPR);
+    let Some((test, (first, last))) = part else {
+        return Ok(Draft { part: None, counts });
     };
-    let Draft::Whole {
-        expr: first,
-        nodes: firsts,
-    } = then_part
-    else {
-        return Ok(Draft::TooMany);
-    };
-    let Draft::Whole {
-        expr: last,
-        nodes: lasts,
-    } = other
-    else {
-        return Ok(Draft::TooMany);
-    };
-    let nodes = 1 + (u32::from(nodes) + (u32::from(firsts) + u32::from(lasts)));
-    Ok(kept(choose_exprs(alloc, expr, first, last)?, nodes))
+    let part = Some(choose_exprs(alloc, test, first, last)?);
+    Ok(Draft { part, counts })
 }
 
 fn choose_exprs(

@@ -4,16 +4,18 @@ ghost use Rattle.plan_grammar.specs.declared.token.Token.{Token};
 ghost use Rattle.plan_grammar.specs.PlainNamed.{PlainExpr};
 ghost use Rattle.plan_grammar.specs.Operators.{E};
 ghost use Rattle.plan_grammar.specs.Grammar.{Spells, EndsExpr};
+ghost use Rattle.plan_parser.specs.declared.counts.Counts.{Counts};
 ghost use Rattle.plan_parser.specs.Draft.{PlainDraft, draft_of};
 ghost use Rattle.plan_parser.specs.Reading.{expr_at, inner};
 
 /// What is read as an expression with at most so many levels is what the grammar spells, up to a rest that
-/// may stand behind an expression; of more than the most nodes only that is kept that there are too many.
+/// may stand behind an expression; of one with more of anything than the most only its counts are kept, each
+/// up to one above the most.
 pub fn expressions_are_read()
-    ensures found { (most levels : ℕ) (from rest : List Token) (d : PlainDraft)
+    ensures found { (most : Counts) (levels : ℕ) (from rest : List Token) (d : PlainDraft)
         → expr_at most (inner most levels) from ≡ Some (d, rest) →
         ((e : PlainExpr) × (d ≡ draft_of most e) × Spells E levels e from rest) }
-    ensures only { (most levels : ℕ) (e : PlainExpr) (from rest : List Token) → EndsExpr rest
+    ensures only { (most : Counts) (levels : ℕ) (e : PlainExpr) (from rest : List Token) → EndsExpr rest
         → Spells E levels e from rest →
         expr_at most (inner most levels) from ≡ Some (draft_of most e, rest) }
 {}

@@ -1,6 +1,7 @@
 //! The reading of plans: the tokens of a text, and what the grammar spells with them.
 #![tactic(auto)]
 
+mod counts;
 mod draft;
 mod expressions;
 pub mod laws;

@@ -1,5 +1,6 @@
 //! How the lists that stages have are read: a method for each rule of the grammar.
 ghost use Rattle.std.specs.Prelude.{◌≡◌, ◌≤◌, ℕ, List, [], length, Some, IfOk};
+ghost use Rattle.plan_parser.specs.Draft.{limits};
 ghost use Rattle.plan_parser.specs.PlanDraft.{seen_columns, with_column};
 ghost use Rattle.plan_parser.specs.Reader.{ReaderOf, Reads};
 ghost use Rattle.plan_parser.specs.PlanReading.{items_of, item_onto, list_at, at_end, name_at, column_at};
@@ -7,7 +8,7 @@ ghost use Rattle.plan_parser.specs.PlanReading.{columns_at, pair_at, key_of, key
 ghost use Rattle.plan_parser.specs.PlanReading.{closed_at, argument_at, agg_at, result_at};
 
 use crate::parser::{Parser, Terminal};
-use crate::plan_draft::{ColumnsDraft, pushed};
+use crate::plan_draft::{ColumnsDraft, no_columns, pushed, with_column};
 use crate::refusal::TextRefusal;
 use plan_grammar::{NamedAgg, NamedKey, NamedPair, NamedResult, Token, Word};
 use rows_core::Name;
@@ -123,18 +124,19 @@ impl Parser<'_> {
         columns: ColumnsDraft,
     ) -> Result<ColumnsDraft, TextRefusal>
         ensures { Reads seen_columns result self.new.rest.now
-            (item_onto (column_at 512 levels) (with_column 512) (seen_columns columns) self.old.rest.now) }
+            (item_onto (column_at limits levels) (with_column limits) (seen_columns columns)
+            self.old.rest.now) }
     {
         let name = self.named()?;
         let expr = self.expr(levels)?;
-        Ok(columns.with(name, expr)?)
+        Ok(with_column(columns, name, expr)?)
     }
 
     /// The columns of a projection.
     pub(crate) fn columns(&mut self, levels: u32) -> Result<ColumnsDraft, TextRefusal>
-        ensures { Reads seen_columns result self.new.rest.now (columns_at 512 levels self.old.rest.now) }
+        ensures { Reads seen_columns result self.new.rest.now (columns_at limits levels self.old.rest.now) }
     {
-        let mut columns = self.column_onto(levels, ColumnsDraft::new(self.alloc))?;
+        let mut columns = self.column_onto(levels, no_columns(self.alloc))?;
         let turns = self.rest.len() + 1;
         for _ in 0..turns {
             if !self.pass(Terminal::Comma) {

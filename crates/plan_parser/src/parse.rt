@@ -3,15 +3,13 @@ ghost use Rattle.std.specs.Prelude.{◌≡◌, ◌<◌, ◌≤◌, IfOk, IsErrOf
 ghost use Rattle.plan_grammar.specs.declared.limit.PlanLimit.{PlanLimit};
 ghost use Rattle.plan_grammar.specs.PlainNamed.{PlainExpr, PlainTree, expr_of, tree_of};
 ghost use Rattle.plan_grammar.specs.Counts.{expr_nodes, IsFirstPassed, IsWithinLimits};
-ghost use Rattle.plan_parser.specs.Reading.{expr_at, inner};
 ghost use Rattle.plan_grammar.specs.Spelled.{SpellsExpr, SpellsText};
-ghost use Rattle.plan_parser.specs.Answer.{MeansWhole, Means, whole_reading, text_reading};
-ghost use Rattle.plan_parser.specs.PlanDraft.{limits};
+ghost use Rattle.plan_parser.specs.Answer.{Means, whole_reading, text_reading, expr_reading};
+ghost use Rattle.plan_parser.specs.Draft.{limits};
 ghost use Rattle.plan_parser.specs.PlanReading.{plan_at};
+ghost use Rattle.plan_parser.specs.Reading.{expr_at, inner};
 
-use crate::draft::Draft;
 use crate::parser::Parser;
-use crate::plan_draft::PlanDraft;
 use crate::refusal::TextRefusal;
 use crate::tokenizer::tokens_of;
 use plan_grammar::{NamedExpr, NamedPlan, NamedTree, PlanLimit, Token};
@@ -57,32 +55,38 @@ fn tree_of_text(alloc: Global, text: &[u8]) -> Result<NamedTree, TextRefusal>
 /// where it spells none, else `Limit` exactly where it has more than 512 nodes. `Memory` may come in place of
 /// either, where memory was asked for and refused. The grammar and the limit are this project's own.
 pub fn parse_expr(alloc: Global, text: &[u8]) -> Result<NamedExpr, TextRefusal>
+    ensures reading { Means expr_of result (expr_reading text.now) }
     ensures found { IfOk result (λ e. SpellsExpr (expr_of e) text.now × (expr_nodes (expr_of e) ≤ 512)) }
     ensures syntax { IsErrOf result TextRefusal.Syntax → ((e : PlainExpr) → SpellsExpr e text.now → ⊥) }
     ensures limit { (what : PlanLimit) → IsErrOf result (TextRefusal.Limit what) →
         (what ≡ PlanLimit.Exprs) × ((e : PlainExpr) × SpellsExpr e text.now × (512 < expr_nodes e)) }
 {
-    let tokens = match tokens_of(alloc, text) {
-        Ok(Some(tokens)) => tokens,
-        Ok(None) => return Err(TextRefusal::Syntax),
-        Err(_) => return Err(TextRefusal::Memory),
-    };
-    whole_expr(alloc, tokens.as_slice())
+    expr_of_text(alloc, text)
+}
+
+/// The expression that a text is read as.
+fn expr_of_text(alloc: Global, text: &[u8]) -> Result<NamedExpr, TextRefusal>
+    ensures { Means expr_of result (expr_reading text.now) }
+{
+    match tokens_of(alloc, text)? {
+        Some(tokens) => whole_expr(alloc, tokens.as_slice()),
+        None => Err(TextRefusal::Syntax),
+    }
 }
 
 /// The expression that the tokens are.
 fn whole_expr(alloc: Global, tokens: &[Token]) -> Result<NamedExpr, TextRefusal>
-    ensures { MeansWhole result (expr_at 512 (inner 512 32) tokens.now) }
+    ensures { Means expr_of result (whole_reading (expr_at limits (inner limits 32) tokens.now)) }
 {
     let mut parser = Parser::new(alloc, tokens);
     let draft = parser.expr(MAX_LEVELS)?;
     if !parser.is_at_end() {
         return Err(TextRefusal::Syntax);
     }
-    match draft {
-        Draft::Whole { expr, nodes: _ } => Ok(expr),
-        Draft::TooMany => Err(TextRefusal::Limit {
-            what: PlanLimit::Exprs,
+    match draft.part {
+        Some(part) => Ok(part),
+        None => Err(TextRefusal::Limit {
+            what: draft.counts.first_above(),
         }),
     }
 }
@@ -96,10 +100,10 @@ fn whole_plan(alloc: Global, tokens: &[Token]) -> Result<NamedTree, TextRefusal>
     if !parser.is_at_end() {
         return Err(TextRefusal::Syntax);
     }
-    match draft {
-        PlanDraft::Whole { tree, counts: _ } => Ok(tree),
-        PlanDraft::TooMany { counts } => Err(TextRefusal::Limit {
-            what: counts.first_above(),
+    match draft.part {
+        Some(part) => Ok(part),
+        None => Err(TextRefusal::Limit {
+            what: draft.counts.first_above(),
         }),
     }
 }

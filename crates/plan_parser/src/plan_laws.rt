@@ -1,7 +1,7 @@
 //! Laws of the grammar of plans.
 ghost use Rattle.std.specs.Prelude.{◌≡◌, ◌↔◌, ℕ, List, Some};
 ghost use Rattle.plan_grammar.specs.declared.token.Token.{Token};
-ghost use Rattle.plan_parser.specs.declared.plan_draft.Counts.{Counts};
+ghost use Rattle.plan_parser.specs.declared.counts.Counts.{Counts};
 ghost use Rattle.plan_grammar.specs.PlainNamed.{PlainTree};
 ghost use Rattle.plan_grammar.specs.Grammar.{SpellsPlan, EndsPlan};
 ghost use Rattle.plan_grammar.specs.Spelled.{SpellsText};

@@ -2,7 +2,8 @@
 //! less may be open, so no call goes deeper than the levels; stages are read in a loop.
 ghost use Rattle.std.specs.Prelude.{◌≤◌, ◌∷◌, length, IfOk};
 ghost use Rattle.plan_grammar.specs.declared.token.Token.TheVariants as token;
-ghost use Rattle.plan_parser.specs.PlanDraft.{seen_plan, limits};
+ghost use Rattle.plan_parser.specs.Draft.{limits};
+ghost use Rattle.plan_parser.specs.PlanDraft.{seen_plan};
 ghost use Rattle.plan_parser.specs.Reader.{Reads};
 ghost use Rattle.plan_parser.specs.PlanReading.{inner_plan_at, where_at, select_at, group_at, join_at};
 ghost use Rattle.plan_parser.specs.PlanReading.{concat_at, order_at, stage_at, from_at, inner_plan, plan_at};

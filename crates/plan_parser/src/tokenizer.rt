@@ -6,7 +6,7 @@ ghost use Rattle.rows_core.specs.Name.{is_name_byte};
 ghost use Rattle.rows_core.specs.Txt.{IsTxt};
 ghost use Rattle.plan_grammar.specs.declared.token.Token.{Token};
 ghost use Rattle.plan_grammar.specs.Token.{with_digit, number_behind, number_with, name_or_number};
-ghost use Rattle.plan_grammar.specs.Token.{word_token, word_len, ends_word, word_at, before, lent};
+ghost use Rattle.plan_grammar.specs.Token.{word_token, word_len, ends_word, word_at, lent};
 ghost use Rattle.plan_grammar.specs.Token.{begins_with_digit, with_equal, single_mark, mark_at, lent_text};
 ghost use Rattle.plan_grammar.specs.Token.{with_byte, text_end, text_behind, text_at, mark_token, token_at};
 ghost use Rattle.plan_grammar.specs.Token.{IsToken, trimmed, AreTokens};
@@ -124,12 +124,12 @@ fn word_at(alloc: Global, text: &[u8]) -> Result<Option<(Token, &[u8])>, Memory>
     }
 }
 
-fn before(rest: &[u8], token: Option<Token>) -> Option<(Token, &[u8])>
-    ensures token { lent result ≡ before rest.now token }
+fn before<T: Drop>(rest: &[u8], found: Option<T>) -> Option<(T, &[u8])>
+    ensures found { lent result ≡ option_map (λ f. (f, rest.now)) found }
     ensures same { IfSome result (λ f. f.1.now ≡ rest.now) }
 {
-    match token {
-        Some(token) => Some((token, rest)),
+    match found {
+        Some(found) => Some((found, rest)),
         None => None,
     }
 }
@@ -155,7 +155,7 @@ fn mark_at(first: u8, rest: &[u8]) -> Option<(Mark, &[u8])>
         b'>' => with_equal(Some(Mark::GreaterEqual), Some(Mark::Greater), rest),
         b'-' if begins_with_digit(rest) => Some((Mark::Sign, rest)),
         b'-' => Some((Mark::Minus, rest)),
-        _ => mark_before(single_mark(first), rest),
+        _ => before(rest, single_mark(first)),
     }
 }
 
@@ -165,18 +165,8 @@ fn with_equal(two: Option<Mark>, one: Option<Mark>, rest: &[u8]) -> Option<(Mark
     ensures no_longer { IfSome result (λ f. length f.1.now ≤ length rest.now) }
 {
     match rest {
-        [b'=', behind @ ..] => mark_before(two, behind),
-        _ => mark_before(one, rest),
-    }
-}
-
-fn mark_before(mark: Option<Mark>, rest: &[u8]) -> Option<(Mark, &[u8])>
-    ensures mark { lent result ≡ option_map (λ m. (m, rest.now)) mark }
-    ensures no_longer { IfSome result (λ f. length f.1.now ≤ length rest.now) }
-{
-    match mark {
-        Some(mark) => Some((mark, rest)),
-        None => None,
+        [b'=', behind @ ..] => before(behind, two),
+        _ => before(rest, one),
     }
 }
 

@@ -1,5 +1,6 @@
-use Rattle.plan_parser.proofs.OneReading.{one}
+use Rattle.plan_parser.proofs.Whole.{one_spelled}
+use Rattle.plan_parser.proofs.WholeTexts.{exprs_read}
 use Rattle.plan_parser.proofs.laws.one_expression.Goals as goal
 
 pub returns : goal.returns
-returns c = one
+returns c levels = one_spelled (exprs_read levels)

@@ -1,6 +1,7 @@
 -- Each call within a construct has one level less, and a right operand is of a tighter rule; the other calls go down the rules.
 -- What the loop reads in the turns that are left is what it reads in all.
 use Rattle.std.proofs.Common.{◌≡◌, ◌+◌, ◌-◌, ◌*◌}
+use Rattle.plan_parser.specs.Draft.{limits}
 use Rattle.plan_parser.specs.Reading.{seen_operand, inner, below, operator_at, operand_onto, operands_at}
 use Rattle.plan_parser.specs.Reader.{repeated}
 use Rattle.plan_parser.proofs.parser.Parser.+expression.Given as goal
@@ -14,14 +15,8 @@ decreases-operands l = 4096 * l.levels + 8 * l.rule + 16
 abbrev pub decreases-operand_onto : goal.decreases-operand_onto
 decreases-operand_onto l = 4096 * l.levels + 8 * l.rule + 15
 
-abbrev pub decreases-joined : goal.decreases-joined
-decreases-joined l = 4096 * l.levels + 8 * l.rule + 14
-
 abbrev pub decreases-first : goal.decreases-first
 decreases-first l = 4096 * l.levels + 8
-
-abbrev pub decreases-first_prefixed : goal.decreases-first_prefixed
-decreases-first_prefixed l = 4096 * l.levels + 7
 
 abbrev pub decreases-prefixed : goal.decreases-prefixed
 decreases-prefixed l = 4096 * l.levels + 6
@@ -50,15 +45,12 @@ decreases-choice_at l = 4096 * l.levels + 2
 abbrev pub decreases-argument : goal.decreases-argument
 decreases-argument l = 4096 * l.levels + 1
 
-abbrev pub decreases-last_argument : goal.decreases-last_argument
-decreases-last_argument l = 4096 * l.levels + 1
-
 abbrev pub decreases-within : goal.decreases-within
 decreases-within l = 4096 * l.levels
 
 abbrev pub invariant-operands-loop : goal.invariant-operands-loop
 invariant-operands-loop l =
-    let readers = inner 512 l.levels in
-    let operands = below 512 readers l.rule in
-    operands_at 512 readers operands l.rule l.fn.self.rest.now
-    ≡ repeated (operator_at l.rule) (operand_onto 512 operands) (l.turns - l.counter) (seen_operand l.operand) l.self.rest.now
+    let readers = inner limits l.levels in
+    let operands = below limits readers l.rule in
+    operands_at limits readers operands l.rule l.fn.self.rest.now
+    ≡ repeated (operator_at l.rule) (operand_onto limits operands) (l.turns - l.counter) (seen_operand l.operand) l.self.rest.now

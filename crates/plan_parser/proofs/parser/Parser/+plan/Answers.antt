@@ -1,5 +1,6 @@
 use Rattle.std.proofs.Common.{rules, ◌≡◌, ◌∙◌, ◌+◌, length, Some, None, Err, subst, sym, ap}
-use Rattle.plan_parser.specs.PlanDraft.{seen_plan, limits}
+use Rattle.plan_parser.specs.Draft.{limits}
+use Rattle.plan_parser.specs.PlanDraft.{seen_plan}
 use Rattle.plan_parser.specs.declared.parser.Terminal.TheVariants.{Bar}
 use Rattle.plan_parser.specs.Reader.{Reads, terminal_at}
 use Rattle.plan_parser.specs.PlanReading.{stage_at, inner_plan, plan_at}

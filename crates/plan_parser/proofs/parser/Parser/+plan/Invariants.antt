@@ -1,7 +1,8 @@
 -- A plan within parentheses has one level less; the other calls go down the rules. What the loop reads in the
 -- turns that are left is what it reads in all.
 use Rattle.std.proofs.Common.{◌≡◌, ◌+◌, ◌-◌, ◌*◌}
-use Rattle.plan_parser.specs.PlanDraft.{seen_plan, limits}
+use Rattle.plan_parser.specs.Draft.{limits}
+use Rattle.plan_parser.specs.PlanDraft.{seen_plan}
 use Rattle.plan_parser.specs.declared.parser.Terminal.TheVariants.{Bar}
 use Rattle.plan_parser.specs.Reader.{terminal_at, repeated}
 use Rattle.plan_parser.specs.PlanReading.{stage_at, inner_plan, plan_at}

@@ -1,5 +1,6 @@
 -- What is read in the turns that are left is what is read in all.
 use Rattle.std.proofs.Common.{◌≡◌, ◌-◌}
+use Rattle.plan_parser.specs.Draft.{limits}
 use Rattle.plan_parser.specs.PlanDraft.{seen_columns, with_column}
 use Rattle.plan_parser.specs.declared.parser.Terminal.TheVariants.{Comma}
 use Rattle.plan_parser.specs.Reader.{terminal_at, repeated}
@@ -8,5 +9,5 @@ use Rattle.plan_parser.proofs.parser.Parser.columns.Given as goal
 
 abbrev pub invariant-loop : goal.invariant-loop
 invariant-loop l =
-    columns_at 512 l.levels l.fn.self.rest.now
-    ≡ repeated (terminal_at Comma) (λ _. item_onto (column_at 512 l.levels) (with_column 512)) (l.turns - l.counter) (seen_columns l.columns) l.self.rest.now
+    columns_at limits l.levels l.fn.self.rest.now
+    ≡ repeated (terminal_at Comma) (λ _. item_onto (column_at limits l.levels) (with_column limits)) (l.turns - l.counter) (seen_columns l.columns) l.self.rest.now
