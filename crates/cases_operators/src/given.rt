@@ -1,58 +1,61 @@
-//! Lists of rows, read and printed.
+//! The lists of a case, and the arguments of operators, which are read as plans of one operator.
+ghost use Rattle.std.specs.Prelude.{◌≤◌, length, IfOk};
 
-use anyhow::{Context, Result};
-use row_text::{print_row, read_row};
-use rows_core::{Column, Kind, Name, Row, Schema};
+use anyhow::{Result, bail};
+use plan_core::{Agg, Expr, Plan};
+use postfix_plans::{Streams, expr_of, plan_of};
+use rows_core::{Key, Row, Seq};
 use std::alloc::Global;
 
-const NAMES: &[u8] = b"abcd";
+/// Expressions, with `, ` between them.
+pub fn exprs_of(alloc: Global, text: &str) -> Result<Vec<Expr>> {
+    let mut exprs = Vec::new(alloc);
+    for column in text.split(", ") {
+        exprs.push(expr_of(alloc, column)?)?;
+    }
+    Ok(exprs)
+}
 
-/// The kinds of a list's rows, and the rows.
+/// The keys of an order, as `up0 down1`.
+pub fn keys_of(alloc: Global, text: &str) -> Result<Seq<Key>> {
+    let text = format!(in alloc; "s0 {text} order")?;
+    match plan_of(alloc, text.as_str())? {
+        Plan::Order { keys, .. } => Ok(keys),
+        _ => bail!("no order"),
+    }
+}
+
+/// The key columns of a grouping and its aggregates.
 #[derive(Drop)]
-pub struct Rows {
-    pub kinds: Vec<Kind>,
-    pub rows: Vec<Row>,
+pub struct Grouping {
+    pub keys: Seq<u32>,
+    pub aggs: Seq<Agg>,
 }
 
-/// The list that is written as its kinds and then its rows.
-pub fn rows_of(alloc: Global, text: &str) -> Result<Rows> {
-    let (kinds, lines) = text.split_once(' ').unwrap_or((text, ""));
-    let kinds = kinds_of(alloc, kinds)?;
-    let schema = schema_of(alloc, &kinds)?;
-    let mut rows = Vec::new(alloc);
-    for line in lines.split_whitespace() {
-        rows.push(read_row(alloc, line.as_bytes(), &schema)?)?;
+/// The keys and the aggregates of a grouping, as `key0 count sum1`.
+pub fn grouping_of(alloc: Global, text: &str) -> Result<Grouping> {
+    let text = format!(in alloc; "s0 {text} group")?;
+    match plan_of(alloc, text.as_str())? {
+        Plan::Group { keys, aggs, .. } => Ok(Grouping { keys, aggs }),
+        _ => bail!("no grouping"),
     }
-    Ok(Rows { kinds, rows })
 }
 
-fn kinds_of(alloc: Global, text: &str) -> Result<Vec<Kind>> {
-    let mut kinds = Vec::new(alloc);
-    for word in text.split(',') {
-        kinds.push(Kind::of(word.as_bytes()).context("no kind")?)?;
+/// The pairs of columns of a join, as `on0=1`.
+pub fn pairs_of(alloc: Global, text: &str) -> Result<Seq<(u32, u32)>> {
+    let text = format!(in alloc; "s0 s1 {text} join")?;
+    match plan_of(alloc, text.as_str())? {
+        Plan::Join { on, .. } => Ok(on),
+        _ => bail!("no join"),
     }
-    Ok(kinds)
 }
 
-fn schema_of(alloc: Global, kinds: &[Kind]) -> Result<Schema> {
-    let mut columns = Vec::new(alloc);
-    for (kind, letter) in kinds.iter().zip(NAMES) {
-        columns.push(Column {
-            name: Name::new(alloc, &[*letter])?,
-            kind: *kind,
-        })?;
+/// The list at this place, which has at most 4,294,967,295 rows.
+pub fn list_at(lists: &Streams, place: usize) -> Result<&[Row]>
+    ensures { IfOk result (λ rows. length rows.now ≤ 4294967295) }
+{
+    match lists.rows.get(place) {
+        Some(rows) if rows.len() <= 4_294_967_295 => Ok(rows),
+        _ => bail!("no such list"),
     }
-    Ok(Schema::new(columns)?)
-}
-
-/// The lines of the rows, with ` / ` between them.
-pub fn shown(alloc: Global, rows: &[Row]) -> Result<String> {
-    let mut text = Vec::new(alloc);
-    for row in rows {
-        if !text.is_empty() {
-            text.extend_from_slice(b" / ")?;
-        }
-        print_row(row, &mut text)?;
-    }
-    Ok(String::from_str(alloc, std::str::from_utf8(&text)?)?)
 }

@@ -1,14 +1,21 @@
-//! Cases of the operators on lists of rows: a case a line on standard input, and on standard output a line
-//! for each, the rows that the operator gives. A case is the operator's word and its arguments, and behind
-//! ` | ` each list of rows: its kinds, as `int,text`, and then its rows. A line that is empty or begins with
-//! `#` is no case.
+//! Cases of the operators on lists of rows, and of whole plans: a case a line on standard input, and on
+//! standard output a line for each, what the operator or the plan gives. A case is the operator's word and
+//! its arguments, and behind ` | ` each list of rows: its kinds, as `int,text`, and then its rows. A line that
+//! is empty or begins with `#` is no case.
 #![tactic(auto)]
 
-mod expressions;
 mod given;
-mod operators;
+mod groups;
+mod joins;
+mod made;
+mod plans;
+mod rows;
+mod shown;
 mod typing;
 
+use anyhow::{Context, Result};
+use postfix_plans::streams_of;
+use std::alloc::Global;
 use std::io;
 
 fn main(rt: HostRuntime) -> io::Result<()> {
@@ -18,10 +25,28 @@ fn main(rt: HostRuntime) -> io::Result<()> {
         if line.is_empty() || line.starts_with('#') {
             continue;
         }
-        match operators::answer(alloc, line.as_str()) {
+        match answer(alloc, line.as_str()) {
             Ok(answer) => println!(rt; "{answer}")?,
             Err(refusal) => println!(rt; "{refusal}")?,
         }
     }
     Ok(())
+}
+
+/// What the operator gives; a refusal is the error that its type prints.
+fn answer(alloc: Global, case: &str) -> Result<String> {
+    let (subject, lists) = case.split_once(" | ").context("no rows")?;
+    let (word, arguments) = subject.split_once(' ').unwrap_or((subject, ""));
+    let lists = streams_of(alloc, lists)?;
+    match word {
+        "fold" => groups::folded(alloc, arguments, &lists),
+        "group" => groups::finished(alloc, arguments, &lists),
+        "grow" => groups::merged(alloc, arguments, &lists),
+        "join" => joins::joined(alloc, arguments, &lists),
+        "more_rights" => joins::with_more_rights(alloc, arguments, &lists),
+        "more_lefts" => joins::with_more_lefts(alloc, arguments, &lists),
+        "run" => plans::run(alloc, arguments, &lists),
+        "made" => plans::run_on_made(alloc, arguments, lists),
+        _ => rows::answer(alloc, word, arguments, lists),
+    }
 }

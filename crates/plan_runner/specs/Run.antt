@@ -1,7 +1,6 @@
 -- What a run of a plan answers: its meaning, unless its machine time is above the limit. An overflow and a machine time
 -- above the limit are met in the course of the work, and where a plan has both, the first that is met is answered.
 use Rattle.std.specs.Prelude.{◌≡◌, ℕ, ◌<◌, ◌≤◌, List, map, Vec, Result, Ok, Err}
-use Rattle.std.specs.Borrow.{Bor}
 use Rattle.std.specs.List.{flat_map}
 use Rattle.std.specs.declared.alloc.Global.{Global}
 use Rattle.scalar_ops.specs.Meaning.{overflow}
@@ -15,12 +14,12 @@ use Rattle.plan_runner.specs.declared.refusal.RunRefusal.{RunRefusal}
 use Rattle.plan_runner.specs.declared.refusal.RunRefusal.TheVariants as refusal
 
 -- the rows of extents, one extent after another
-abbrev pub rows_of_extents : List Rows → Rows
-rows_of_extents = flat_map (λ rows. rows)
+abbrev pub rows_of_extents : Vec Rows Global → Rows
+rows_of_extents extents = flat_map (λ rows. rows) extents.items
 
--- the rows of each leaf, of which the extents are lent
-abbrev pub lists_of : List (Bor (List Rows)) → List Rows
-lists_of leaves = map (λ leaf. rows_of_extents leaf.now) leaves
+-- the rows of each leaf, of which there are the extents
+abbrev pub lists_of : List (Vec Rows Global) → List Rows
+lists_of leaves = map rows_of_extents leaves
 
 abbrev pub limit : ℕ
 limit = 4294967295

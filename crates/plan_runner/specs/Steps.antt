@@ -6,28 +6,22 @@ use Rattle.plan_core.specs.Columns.{Rows}
 use Rattle.plan_core.specs.PlainPlan.{PlainPlan}
 use Rattle.plan_core.specs.PlanMeaning.{plan_meaning}
 use Rattle.plan_core.specs.MachineTime.{rows_taken_in}
-use Rattle.plan_runner.specs.declared.input.Input.{Input}
-use Rattle.plan_runner.specs.declared.input.Input.TheVariants as input
-use Rattle.plan_runner.specs.declared.input.Step.{Step}
+use Rattle.plan_runner.specs.declared.step.Step.{Step}
 use Rattle.plan_runner.specs.declared.refusal.RunRefusal.{RunRefusal}
 use Rattle.plan_runner.specs.declared.refusal.RunRefusal.TheVariants as refusal
 use Rattle.plan_runner.specs.Run.{limit}
 
-abbrev pub rows_in : Input → Rows
-rows_in (input.Lent rows) = rows.now
-rows_in (input.Made rows) = rows.items
-
 -- a plan was run after this many rows had been taken in
 abbrev pub RunsAfter : ℕ → PlainPlan → List Rows → Result Step RunRefusal → Type 0
 RunsAfter before plan lists (Ok step) =
-    (plan_meaning plan lists ≡ Ok (rows_in step.rows)) × (step.taken ≡ before + rows_taken_in plan lists) × (step.taken < limit)
+    (plan_meaning plan lists ≡ Ok step.rows.items) × (step.taken ≡ before + rows_taken_in plan lists) × (step.taken < limit)
 RunsAfter before plan lists (Err refusal.Overflow) = plan_meaning plan lists ≡ Err overflow
 RunsAfter before plan lists (Err refusal.Machine) = limit ≤ before + rows_taken_in plan lists
 RunsAfter before plan lists (Err refusal.Memory) = Unit {0}
 
 -- an operator took these rows in, after so many had been taken in, and its meaning on them is this
 abbrev pub TakesIn : ℕ → Rows → Result Rows Overflow → Result Step RunRefusal → Type 0
-TakesIn before rows meaning (Ok step) = (meaning ≡ Ok (rows_in step.rows)) × (step.taken ≡ before + length rows) × (step.taken < limit)
+TakesIn before rows meaning (Ok step) = (meaning ≡ Ok step.rows.items) × (step.taken ≡ before + length rows) × (step.taken < limit)
 TakesIn before rows meaning (Err refusal.Overflow) = meaning ≡ Err overflow
 TakesIn before rows meaning (Err refusal.Machine) = limit ≤ before + length rows
 TakesIn before rows meaning (Err refusal.Memory) = Unit {0}

@@ -1,10 +1,10 @@
 //! The operators on two lists of rows.
-ghost use Rattle.std.specs.Prelude.{◌≡◌, ◌++◌, map, Ok, IfOk, OnOk};
+ghost use Rattle.std.specs.Prelude.{◌≡◌, ◌++◌, map, Ok, IfOk};
 ghost use Rattle.plan_core.specs.Join.{join_rows};
-ghost use Rattle.plan_runner.specs.Steps.{rows_in, TakesIn};
+ghost use Rattle.plan_runner.specs.Steps.{TakesIn};
 
-use crate::input::{Input, Step};
 use crate::refusal::RunRefusal;
+use crate::step::{Step, append_rows};
 use join_ops::join_tagged;
 use row_blob::TaggedRow;
 use rows_core::{Memory, Row};
@@ -12,21 +12,18 @@ use std::alloc::Global;
 
 /// Each left row followed by each right row that agrees with it. The left rows are counted as taken in
 /// already.
-pub fn join_step<'a>(
+pub fn join_step(
     alloc: Global,
-    lefts: &Input,
-    rights: Step<'a>,
+    lefts: Vec<Row>,
+    rights: Step,
     on: &[(u32, u32)],
-) -> Result<Step<'a>, RunRefusal>
-    ensures { TakesIn rights.entry.taken (rows_in rights.entry.rows)
-        (Ok (join_rows on.now (rows_in lefts.now) (rows_in rights.entry.rows))) result }
+) -> Result<Step, RunRefusal>
+    ensures { TakesIn rights.taken rights.rows.items
+        (Ok (join_rows on.now lefts.items rights.rows.items)) result }
 {
     let Step { rows, taken } = rights.counted()?;
-    let joined = joined_rows(alloc, lefts.as_slice(), rows.as_slice(), on)?;
-    Ok(Step {
-        rows: Input::Made(joined),
-        taken,
-    })
+    let rows = joined_rows(alloc, &lefts, &rows, on)?;
+    Ok(Step { rows, taken })
 }
 
 fn joined_rows(
@@ -52,27 +49,14 @@ fn rows_of_tagged(alloc: Global, joined: Vec<TaggedRow>) -> Result<Vec<Row>, Mem
 }
 
 /// The left rows, and then the right ones. The left rows are counted as taken in already.
-pub fn concat_step<'a>(
-    alloc: Global,
-    lefts: Input,
-    rights: Step<'a>,
-) -> Result<Step<'a>, RunRefusal>
-    ensures { TakesIn rights.entry.taken (rows_in rights.entry.rows)
-        (Ok (rows_in lefts.entry ++ rows_in rights.entry.rows)) result }
+pub fn concat_step(lefts: Vec<Row>, rights: Step) -> Result<Step, RunRefusal>
+    ensures { TakesIn rights.taken rights.rows.items (Ok (lefts.items ++ rights.rows.items)) result }
 {
-    let Step { rows, taken } = rights.counted()?;
-    let mut all = lefts.into_vec(alloc)?;
-    append_rows(alloc, &mut all, rows)?;
-    Ok(Step {
-        rows: Input::Made(all),
+    let Step {
+        rows: others,
         taken,
-    })
-}
-
-fn append_rows(alloc: Global, rows: &mut Vec<Row>, others: Input) -> Result<(), Memory>
-    ensures { OnOk result (rows.new.items ≡ rows.old.items ++ rows_in others.entry) }
-{
-    let mut more = others.into_vec(alloc)?;
-    rows.append(&mut more)?;
-    Ok(())
+    } = rights.counted()?;
+    let mut rows = lefts;
+    append_rows(&mut rows, others)?;
+    Ok(Step { rows, taken })
 }

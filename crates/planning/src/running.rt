@@ -34,7 +34,8 @@ pub struct RunPlan {
 /// A run of this plan over all extents of the table, which is stored by the name, or why it is refused:
 /// `Unknown` with the first stream from the left that isn't there, else `IllTyped` where a column isn't there
 /// or the plan has no typing, else the first limit that is passed, of columns, the program's text, programs
-/// and commands. Each comes exactly where it holds and none before it does, unless memory is wanted.
+/// and commands. Each comes exactly where it holds and none before it does, unless memory is wanted. Files
+/// with more bytes than a u64 counts would be answered as want of memory too; no folder can hold them.
 pub fn plan_run(
     alloc: Global,
     catalog: &Catalog,

@@ -1,7 +1,6 @@
 //! How a plan is run on rows that were read.
 ghost use Rattle.std.specs.Prelude.{◌≡◌, ◌⊎◌, map, IfOk, IfErr, IsErrOf};
 ghost use Rattle.folder.specs.StreamRows.{joined};
-ghost use Rattle.plan_runner.specs.Run as runner;
 ghost use Rattle.planning.specs.Running.{result_of, HaveFewValues};
 ghost use Rattle.session.specs.ReadEvents.{refusal_of, HasRows, IsRefusedOn};
 ghost use Rattle.session.specs.TypedFor.{IsTypedFor};
@@ -10,34 +9,19 @@ use folder::ReadRefusal;
 use plan_core::Typed;
 use plan_laws::typed_plans_give_typed_rows;
 use plan_runner::RunRefusal;
-use rows_core::{Memory, Row, Seq};
+use rows_core::{Row, Seq};
 use script_text::{Answer, LimitKind, Refusal};
 use std::alloc::Global;
 
-/// The rows that a plan means on these, or why a run of it is refused.
+/// The rows that a plan means on these, which are taken over, or why a run of it is refused.
 pub(crate) fn rows_on(
     alloc: Global,
     typed: &Typed,
-    lists: &[Vec<Seq<Row>>],
+    lists: Vec<Vec<Seq<Row>>>,
 ) -> Result<Vec<Row>, Refusal>
-    requires { IsTypedFor typed.now (map joined lists.now) }
-    ensures ok { IfOk result (λ rows. HasRows typed.now.plan (map joined lists.now) rows.items) }
-    ensures err { IfErr result (λ why. IsRefusedOn typed.now.plan (map joined lists.now) why
-        ⊎ (why ≡ Refusal.Memory)) }
-    ensures narrow { IfOk result (λ rows. HaveFewValues rows.items) }
-    ensures no_fault { IsErrOf result Refusal.Fault → ⊥ }
-{
-    match lent(alloc, lists) {
-        Ok(lists) => run_on(alloc, typed, &lists),
-        Err(Memory) => Err(Refusal::Memory),
-    }
-}
-
-// The rows that a plan means on these, which are lent.
-fn run_on(alloc: Global, typed: &Typed, lists: &[&[Seq<Row>]]) -> Result<Vec<Row>, Refusal>
-    requires { IsTypedFor typed.now (runner.lists_of lists.now) }
-    ensures ok { IfOk result (λ rows. HasRows typed.now.plan (runner.lists_of lists.now) rows.items) }
-    ensures err { IfErr result (λ why. IsRefusedOn typed.now.plan (runner.lists_of lists.now) why
+    requires { IsTypedFor typed.now (map joined lists.items) }
+    ensures ok { IfOk result (λ rows. HasRows typed.now.plan (map joined lists.items) rows.items) }
+    ensures err { IfErr result (λ why. IsRefusedOn typed.now.plan (map joined lists.items) why
         ⊎ (why ≡ Refusal.Memory)) }
     ensures narrow { IfOk result (λ rows. HaveFewValues rows.items) }
     ensures no_fault { IsErrOf result Refusal.Fault → ⊥ }
@@ -49,17 +33,6 @@ fn run_on(alloc: Global, typed: &Typed, lists: &[&[Seq<Row>]]) -> Result<Vec<Row
         Err(RunRefusal::Machine) => Err(Refusal::Limit(LimitKind::Machine)),
         Err(RunRefusal::Memory) => Err(Refusal::Memory),
     }
-}
-
-// The lists, lent.
-fn lent<'a>(alloc: Global, lists: &'a [Vec<Seq<Row>>]) -> Result<Vec<&'a [Seq<Row>]>, Memory>
-    ensures { IfOk result (λ lent. runner.lists_of lent.items ≡ map joined lists.now) }
-{
-    let mut lent = Vec::with_capacity(alloc, lists.len())?;
-    for list in lists {
-        lent.push(list.as_slice())?;
-    }
-    Ok(lent)
 }
 
 /// Why a run is refused whose files aren't read.

@@ -308,7 +308,7 @@ impl Session {
         ensures counts { MayRaiseReads (D.counts store.old) (D.counts store.new) }
     {
         match read_streams(self.alloc, store, self.folder.catalog(), typed.leaves()) {
-            Ok(lists) => rows_on(self.alloc, typed, &lists),
+            Ok(lists) => rows_on(self.alloc, typed, lists),
             Err(refusal) => Err(refusal_of(refusal)),
         }
     }
