@@ -181,7 +181,7 @@ group_parts : (kinds : Kinds) (keys : List ℕ) (aggs : List Agg) (out : Kinds) 
 group_parts kinds keys aggs out is =
     let appended = λ (ks : Kinds) (js : Kinds). Some (ks ++ js) in
     let both = both_some appended (all_there (map (slice_get kinds) keys)) (all_there (map (agg_kind kinds) aggs)) out
-        (otherwise (is_empty keys || is_empty aggs) (of_both appended (all_there (map (slice_get kinds) keys)) (all_there (map (agg_kind kinds) aggs))) out is) in
+    (otherwise (is_empty keys || is_empty aggs) (of_both appended (all_there (map (slice_get kinds) keys)) (all_there (map (agg_kind kinds) aggs))) out is) in
     (both.0, both.1, both.2, both.3, (let same : Some (both.0 ++ both.1) ≡ Some out = both.4 in cc))
 
 joined : (left right : Kinds) (on : List (ℕ × ℕ)) (out : Kinds) → join_kinds on left right ≡ Some out → (list_all (pair_agrees left right) on ≡ true) × (left ++ right ≡ out)
@@ -263,15 +263,13 @@ module _ (schemas : List Kinds) where
   plan_spelled (Scan stream) kinds fits numbers cells = numbers.0
   plan_spelled (Filter child test) kinds fits numbers cells =
       let below = and_then (filter_kinds test) (plan_kinds schemas child) kinds fits.0 in
-      let truth = truth_is (expression_kind below.0 test) (tested (is_truth (expression_kind below.0 test)) below.0 kinds below.2).0 in
-      (
+      let truth = truth_is (expression_kind below.0 test) (tested (is_truth (expression_kind below.0 test)) below.0 kinds below.2).0 in (
         plan_spelled child below.0 (below.1, fits.1) numbers cells.0,
         expr_spelled below.0 (few_columns child below.0 (below.1, fits.1)) test cell_kind.Bool truth cells.1,
       )
   plan_spelled (Project child columns) kinds fits numbers cells =
       let below = and_then (project_kinds columns) (plan_kinds schemas child) kinds fits.0 in
-      let few = neither (is_above_limit (length columns)) (has_too_many schemas child) fits.1 in
-      (
+      let few = neither (is_above_limit (length columns)) (has_too_many schemas child) fits.1 in (
         plan_spelled child below.0 (below.1, few.1) numbers cells.0,
         (
           omega (arith, within_limit (length columns) few.0),
@@ -283,8 +281,7 @@ module _ (schemas : List Kinds) where
       let below = and_then (group_kinds keys aggs) (plan_kinds schemas child) kinds fits.0 in
       let few = neither (is_above_limit (length keys + length aggs)) (has_too_many schemas child) fits.1 in
       let parts = group_parts below.0 keys aggs kinds below.2 in
-      let narrow = few_columns child below.0 (below.1, few.1) in
-      (
+      let narrow = few_columns child below.0 (below.1, few.1) in (
         plan_spelled child below.0 (below.1, few.1) numbers cells,
         (
           omega (arith, within_limit (length keys + length aggs) few.0),
@@ -298,8 +295,7 @@ module _ (schemas : List Kinds) where
   plan_spelled (Join left right on) kinds fits numbers cells =
       let below = both_some (join_kinds on) (plan_kinds schemas left) (plan_kinds schemas right) kinds fits.0 in
       let few = join_parts left right on fits.1 in
-      let streams = of_both_lists IsColumn (leaves left) (leaves right) numbers in
-      (
+      let streams = of_both_lists IsColumn (leaves left) (leaves right) numbers in (
         plan_spelled left below.0 (below.2, few.2) streams.0 cells.0,
         plan_spelled right below.1 (below.3, few.3) streams.1 cells.1,
         (
@@ -317,8 +313,7 @@ module _ (schemas : List Kinds) where
   plan_spelled (Order child keys) kinds fits numbers cells =
       let below = and_then (order_kinds keys) (plan_kinds schemas child) kinds fits.0 in
       let few = neither (is_above_limit (length keys)) (has_too_many schemas child) fits.1 in
-      let narrow = few_columns child below.0 (below.1, few.1) in
-      (
+      let narrow = few_columns child below.0 (below.1, few.1) in (
         plan_spelled child below.0 (below.1, few.1) numbers cells,
         (
           omega (arith, within_limit (length keys) few.0),
