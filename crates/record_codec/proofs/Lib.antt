@@ -9,3 +9,4 @@ pub mod InnerPlan
 pub mod Joined
 pub mod Optional
 pub mod Lengths
+pub mod Few

@@ -9,8 +9,10 @@ use Rattle.record_codec.specs.declared.refusal.ChangeRefusal.{ChangeRefusal}
 use Rattle.record_codec.specs.declared.refusal.ChangeRefusal.TheVariants as refusal
 use Rattle.record_codec.specs.Spelling.{change_spelling, HasChangeSpelling, keyless}
 use Rattle.record_codec.specs.Formats.{change_format}
+use Rattle.record_codec.specs.Parts.{change_parts}
 use Rattle.record_codec.specs.Place.{IsPlace, Reads, Spells}
 use Rattle.record_codec.proofs.ChangeLaws.{change_exact}
+use Rattle.record_codec.proofs.Few.{few_of}
 use Rattle.record_codec.proofs.Keyless.{keyless_spelled, keyless_is}
 
 abbrev IsFound : List ℕ → Change → Type 0
@@ -19,6 +21,10 @@ IsFound bytes c = HasChangeSpelling c × (keyless c ≡ c) × (bytes ≡ change_
 pub found : (bytes : List ℕ) (r : Result Change ChangeRefusal) → IsBytes bytes → Reads r (all_of change_format bytes) (length bytes) → IfOk r (λ c. IsFound bytes c)
 found bytes (Ok c) wide e = let f = whole.is_found change_format change_exact bytes c wide e in (f.0.0, f.0.1, f.1)
 found bytes (Err e) wide told = tt
+
+pub few : (bytes : List ℕ) (r : Result Change ChangeRefusal) → IfOk r (λ c. IsFound bytes c) → IfOk r (λ c. change_parts c ≤ length bytes)
+few bytes (Ok c) is = few_of bytes c is.2
+few bytes (Err e) is = tt
 
 answer : (r : Result Change ChangeRefusal) (read : Result Change ℕ) (len : ℕ) (c : Change) → Reads r read len → read ≡ Ok c → MatchResult r (λ found. found ≡ c) (λ e. e ≡ refusal.Memory)
 answer (Ok found) read len c told e = let same : Ok found ≡ Ok c = sym told ∙ e in cc

@@ -5,3 +5,4 @@ pub mod Formats
 pub mod Reading
 pub mod Place
 pub mod Limits
+pub mod Parts

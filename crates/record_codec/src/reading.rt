@@ -1,11 +1,12 @@
 //! What bytes are read as.
-ghost use Rattle.std.specs.Prelude.{◌≡◌, length, IfOk, IfErr, MatchResult};
+ghost use Rattle.std.specs.Prelude.{◌≡◌, ◌≤◌, length, IfOk, IfErr, MatchResult};
 ghost use Rattle.byte_formats.specs.Reading.{Gives};
 ghost use Rattle.byte_formats.specs.Format.{all_of};
 ghost use Rattle.catalog_types.specs.declared.change.Change.{Change};
 ghost use Rattle.record_codec.specs.Spelling.{change_spelling, HasChangeSpelling, keyless};
 ghost use Rattle.record_codec.specs.Formats.{change_tag, change_format};
 ghost use Rattle.record_codec.specs.Reading.{change_behind};
+ghost use Rattle.record_codec.specs.Parts.{change_parts};
 ghost use Rattle.record_codec.specs.Place.{IsPlace, Reads};
 
 use crate::entries::new_entries_at;
@@ -20,12 +21,15 @@ use std::alloc::Global;
 
 /// The change that the bytes spell: `NotChange` exactly where there is none, with the place where reading
 /// stops. Within a plan's bytes it is where reading of the plan stops. The keys of a checkpoint's entries
-/// aren't spelled, and 32 zero bytes stand in their place.
+/// aren't spelled, and 32 zero bytes stand in their place. Memory is asked for what was read, never for what a
+/// count or a length only announces.
 pub fn read_change(alloc: Global, bytes: &[u8]) -> Result<Change, ChangeRefusal>
     // What is read is spelled so.
     ensures found { IfOk result
         (λ change. HasChangeSpelling change × (keyless change ≡ change)
         × (bytes.now ≡ change_spelling change)) }
+    // It has no more parts than there are bytes: items of lists, bytes of names and texts, and parts of plans.
+    ensures few { IfOk result (λ change. change_parts change ≤ length bytes.now) }
     // What is spelled so is read, but for the keys, unless memory runs out.
     ensures only { (change : Change) → HasChangeSpelling change → bytes.now ≡ change_spelling change
         → MatchResult result (λ found. found ≡ keyless change) (λ e. e ≡ ChangeRefusal.Memory) }
