@@ -1,6 +1,6 @@
 -- A plan that the grammar spells is read.
 use Prim.Native.Nat.{suc}
-use Rattle.std.proofs.Common.{◌≡◌, refl, sym, ap, ◌∙◌, ℕ, ◌<◌, List, [], ◌∷◌, length, Some, None, arith}
+use Rattle.std.proofs.Common.{◌≡◌, refl, ap, ◌∙◌, ℕ, ◌<◌, List, [], ◌∷◌, length, Some, None, arith}
 use Rattle.plan_grammar.specs.declared.token.Token.{Token}
 use Rattle.plan_grammar.specs.declared.token.Token.TheVariants.{Name, Word, Mark}
 use Rattle.plan_grammar.specs.declared.token.Mark.TheVariants as mark
@@ -16,8 +16,8 @@ use Rattle.plan_grammar.specs.Grammar.{Spells, EndsExpr, EndsPlan, Listed, Spell
 use Rattle.plan_parser.specs.declared.parser.Terminal.TheVariants.{Bar, Close, Comma, On, With}
 use Rattle.plan_parser.specs.Reader.{and_then, terminal_at, up_to}
 use Rattle.plan_parser.specs.Draft.{limits}
-use Rattle.plan_parser.specs.PlanDraft.{PlanDraft, with_column, columns_draft_of, plan_draft_of, where_draft, select_draft, group_draft, join_draft, concat_draft, order_draft}
-use Rattle.plan_parser.specs.PlanReading.{list_at, column_at, columns_at, pairs_at, results_at, inner_plan_at, where_at, select_at, group_at, join_at, concat_at, order_at, stage_at, inner_plan, plan_at}
+use Rattle.plan_parser.specs.PlanDraft.{PlanDraft, plan_draft_of, where_draft, select_draft, group_draft, join_draft, concat_draft, order_draft}
+use Rattle.plan_parser.specs.PlanReading.{pairs_at, results_at, inner_plan_at, where_at, select_at, group_at, join_at, concat_at, order_at, stage_at, inner_plan, plan_at}
 use Rattle.plan_parser.proofs.Complete.{shorter}
 use Rattle.plan_parser.proofs.OneReading.{spelled_is_read}
 use Rattle.plan_parser.proofs.DraftLemmas.{where_kept, select_kept, distinct_kept, group_kept, join_kept, concat_kept, order_kept}

@@ -10,17 +10,17 @@ use Rattle.plan_grammar.specs.PlainNamed.{PlainTree, From, Where, Select, Distin
 use Rattle.plan_grammar.specs.Grammar as g
 use Rattle.plan_grammar.specs.Grammar.{Listed, SpellsName, SpellsColumn, SpellsPair, SpellsKey, SpellsResult, SpellsPlan}
 use Rattle.plan_parser.specs.Reading.{expr_at, inner}
-use Rattle.plan_parser.specs.PlanDraft.{PlanDraft, ColumnsDraft, with_column, columns_draft_of, plan_draft_of, from_draft, where_draft, select_draft, distinct_draft, group_draft, join_draft, concat_draft, order_draft}
+use Rattle.plan_parser.specs.PlanDraft.{PlanDraft, plan_draft_of, from_draft, where_draft, select_draft, distinct_draft, group_draft, join_draft, concat_draft, order_draft}
 use Rattle.plan_parser.specs.declared.parser.Terminal.TheVariants.{Bar, Close, On, Open, With}
 use Rattle.plan_parser.specs.Reader.{ReadOf, and_then, terminal_at, up_to, all_repeated}
-use Rattle.plan_parser.specs.PlanReading.{PlanReader, list_at, names_at, column_at, columns_at, pairs_at, keys_at, results_at, inner_plan_at, where_at, select_at, group_at, join_at, concat_at, order_at, stage_at, from_at, plan_with, inner_plan, plan_at}
+use Rattle.plan_parser.specs.PlanReading.{PlanReader, names_at, columns_at, pairs_at, keys_at, results_at, inner_plan_at, where_at, select_at, group_at, join_at, concat_at, order_at, stage_at, from_at, plan_with, inner_plan, plan_at}
 use Rattle.plan_grammar.proofs.TokenLemmas.{both}
 use Rattle.plan_parser.proofs.Sound.{read_is_spelled}
 use Rattle.plan_parser.proofs.DraftLemmas.{where_kept, select_kept, distinct_kept, group_kept, join_kept, concat_kept, order_kept}
 use Rattle.plan_parser.proofs.PlanItems.{names_listed, pairs_listed, keys_listed, results_listed, columns_listed}
 use Rattle.plan_parser.proofs.RepeatLemmas.{then_some, made_some, repeated_keeps}
 use Rattle.plan_parser.proofs.ReadingLemmas.{terminal_some, up_to_some}
-use Rattle.plan_parser.proofs.ListLemmas.{ListedSo, list_sound, plain_list_sound}
+use Rattle.plan_parser.proofs.ListLemmas.{list_sound, plain_list_sound}
 
 -- the grammar spells a plan of which this is kept
 pub record PlanSpelled (most : Counts) (n : ℕ) (d : PlanDraft) (from rest : List Token) : Type 0 where

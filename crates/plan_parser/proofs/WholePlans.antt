@@ -1,5 +1,5 @@
 -- What a text spells as a plan, within the limits or beyond them.
-use Rattle.std.proofs.Common.{◌≡◌, ℕ, ◌≤◌, ◌<◌, List, [], true, false, arith}
+use Rattle.std.proofs.Common.{◌≡◌, ℕ, List, true, arith}
 use Rattle.std.proofs.lemmas.Bool.Decides.{nat_tests}
 use Rattle.plan_grammar.specs.declared.limit.PlanLimit.{PlanLimit}
 use Rattle.plan_grammar.specs.declared.limit.PlanLimit.TheVariants.{Nodes, Wide, Exprs}

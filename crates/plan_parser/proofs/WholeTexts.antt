@@ -1,5 +1,5 @@
 -- What a text spells as an expression, within the limit or beyond it.
-use Rattle.std.proofs.Common.{◌≡◌, ℕ, ◌≤◌, ◌<◌, List, [], true, false, arith}
+use Rattle.std.proofs.Common.{◌≡◌, ℕ, ◌≤◌, ◌<◌, arith}
 use Rattle.std.proofs.lemmas.Bool.Decides.{nat_tests}
 use Rattle.plan_grammar.specs.declared.limit.PlanLimit.{PlanLimit}
 use Rattle.plan_grammar.specs.declared.limit.PlanLimit.TheVariants.{Exprs}

@@ -14,7 +14,7 @@ use Rattle.plan_grammar.specs.declared.token.Word.TheVariants as word
 use Rattle.plan_grammar.specs.declared.operator.Infix.{Infix}
 use Rattle.plan_grammar.specs.declared.operator.Prefix.{Prefix}
 use Rattle.plan_grammar.specs.Token.{greatest_number}
-use Rattle.plan_grammar.specs.PlainNamed.{PlainExpr, Column, Literal, Call1, Call2, If}
+use Rattle.plan_grammar.specs.PlainNamed.{Column, Literal, Call1, Call2, If}
 use Rattle.plan_grammar.specs.Operators.{Rule, E, ATOM, joined, infix_of, prefix_of}
 use Rattle.plan_grammar.specs.declared.expr.NamedExpr as code
 use Rattle.plan_parser.specs.declared.counts.Counts.{Counts}

@@ -254,7 +254,10 @@ impl Parser<'_> {
             return Err(TextRefusal::Syntax);
         }
         let right = self.rule(operator.right, levels)?;
-        Ok((join(self.alloc, operator.operator, left.0, right)?, operator.rule))
+        Ok((
+            join(self.alloc, operator.operator, left.0, right)?,
+            operator.rule,
+        ))
     }
 
     /// An expression.

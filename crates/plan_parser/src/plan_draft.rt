@@ -152,7 +152,11 @@ pub fn no_columns(alloc: Global) -> ColumnsDraft
 }
 
 /// One column more.
-pub fn with_column(columns: ColumnsDraft, name: Name, expr: ExprDraft) -> Result<ColumnsDraft, Memory>
+pub fn with_column(
+    columns: ColumnsDraft,
+    name: Name,
+    expr: ExprDraft,
+) -> Result<ColumnsDraft, Memory>
     ensures { IfOk result
         (λ draft. seen_columns draft ≡ with_column limits (seen_columns columns) (name, seen expr)) }
 {
