@@ -1,7 +1,7 @@
 //! Cases of the operators on lists of rows, and of whole plans: a case a line on standard input, and on
 //! standard output a line for each, what the operator or the plan gives. A case is the operator's word and
-//! its arguments, and behind ` | ` each list of rows: its kinds, as `int,text`, and then its rows. A line that
-//! is empty or begins with `#` is no case.
+//! its arguments, and behind ` | ` each list of rows: its kinds, as `int,text`, and then its rows. A line
+//! that is empty or begins with `#` is no case.
 #![tactic(auto)]
 
 mod given;

@@ -1,6 +1,6 @@
-//! The rows of a whole plan, by the operators over lists in memory: row_ops, group_fold and join_ops. The rows
-//! of the streams are taken over, and an operator moves them where it keeps them. The machine time is counted
-//! before each operator takes its rows in.
+//! The rows of a whole plan, by the operators over lists in memory: row_ops, group_fold and join_ops. The
+//! rows of the streams are taken over, and an operator moves them where it keeps them. The machine time is
+//! counted before each operator takes its rows in.
 #![tactic(auto)]
 
 mod one_input;
