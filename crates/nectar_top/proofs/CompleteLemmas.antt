@@ -1,11 +1,10 @@
 -- Runs in which no call fails, over a folder whose files hold their bytes.
-use Rattle.std.proofs.Common.{◌≡◌, ◌⊎◌, ◌×◌, ◌≤◌, ℕ, zero, suc, List, [], ◌∷◌, ◌++◌, length, length-append, Option, None, Some, Err, refl, sym, ap, subst, inl, inr, arith}
+use Rattle.std.proofs.Common.{◌≡◌, ◌⊎◌, ◌≤◌, ℕ, zero, suc, List, [], ◌∷◌, ◌++◌, length, length-append, Option, None, Some, refl, ap, subst, inl, inr, arith}
 use Rattle.std.specs.List.{AllByRecursion}
-use Rattle.std.specs.Prelude.{Result, IsErrOf}
 use Rattle.std.specs.Io.KnownBytes.{Consumes}
 use Rattle.std.proofs.lemmas.List.Sums.{sum_by-cons}
 use Rattle.outside_traits.specs.Counts.{Rose}
-use Rattle.outside_traits.specs.View.{View, Counts}
+use Rattle.outside_traits.specs.View.{View}
 use Rattle.script_text.specs.Script.{all_items}
 use Rattle.script_text.specs.declared.answer.Answer.{Answer}
 use Rattle.script_text.specs.declared.answer.Answer.TheVariants as answer
@@ -21,12 +20,12 @@ use Rattle.folder.proofs.Loading.{reads_or_stops}
 use Rattle.session.specs.Machine as session
 use Rattle.session.specs.Causes.{SparesStore}
 use Rattle.session.proofs.RefusalLemmas.{step_spares}
-use Rattle.nectar_top.specs.Crash.{Found, intact}
+use Rattle.nectar_top.specs.Crash.{intact}
 use Rattle.nectar_top.specs.Loading.{HasLoadingCause}
 use Rattle.nectar_top.specs.Machine.{Step, Run}
 use Rattle.nectar_top.specs.Outside.{Outside, Faults, NoneFell, NoneFailed, faults}
 use Rattle.nectar_top.specs.Refusals.{IsSparing, IsSparingItem, fault_in, faults_in, RoseBy}
-use Rattle.nectar_top.specs.Run.{longest_script, IsDone, IsComplete, IsTooLong}
+use Rattle.nectar_top.specs.Run.{longest_script, IsDone, IsComplete}
 use Rattle.nectar_top.specs.Turns.{Ends, HasCause}
 use Rattle.nectar_top.specs.declared.exit.Exit.{Exit}
 use Rattle.nectar_top.specs.declared.exit.Exit.TheVariants as exit

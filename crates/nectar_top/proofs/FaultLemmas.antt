@@ -1,5 +1,5 @@
 -- How often a failed read is told, and what the reader of scripts refuses.
-use Rattle.std.proofs.Common.{◌≡◌, ◌⊎◌, ◌×◌, ◌+◌, ◌≤◌, ℕ, true, false, cond, ◌||◌, List, [], ◌∷◌, ◌++◌, codes, Option, Some, None, Ok, Err, Result, IfOk, option_to_list, refl, sym, subst, inl, inr, arith}
+use Rattle.std.proofs.Common.{◌≡◌, ◌+◌, ◌≤◌, ℕ, true, false, cond, ◌||◌, List, [], ◌∷◌, ◌++◌, codes, Option, Some, None, Ok, Err, Result, IfOk, option_to_list, refl, sym, subst, inl, inr, arith}
 use Rattle.std.specs.List.{slice_split, AllByRecursion}
 use Rattle.std.specs.Prelude.{⊤}
 use Rattle.std.proofs.lemmas.List.Sums.{sum_by_push}
@@ -19,7 +19,7 @@ use Rattle.script_text.specs.declared.answer.LimitKind.{LimitKind}
 use Rattle.script_text.specs.declared.answer.Answer.TheVariants as answer
 use Rattle.script_text.specs.declared.answer.Refusal.{Refusal}
 use Rattle.script_text.specs.declared.answer.Refusal.TheVariants as refusal
-use Rattle.script_text.specs.declared.answer.Refusal.TheVariants.{Syntax, Memory}
+use Rattle.script_text.specs.declared.answer.Refusal.TheVariants.{Syntax}
 use Rattle.script_text.specs.declared.item.Command.{Command}
 use Rattle.script_text.specs.declared.item.Item.{Item}
 use Rattle.script_text.specs.declared.item.Item.TheVariants as item
@@ -40,7 +40,7 @@ rose_by_on m n a b c x y = omega (arith, x, y)
 
 -- one answer more
 pub faults-push : (answers : List Answer) (answer : Answer) (a b c : ℕ) → RoseBy (faults_in answers) a b → RoseBy (fault_in answer) b c → RoseBy (faults_in (answers ++ answer ∷ [])) a c
-faults-push answers answer a b c x y = subst (λ n. RoseBy n a c) (sum_by_push fault_in answers answer) (rose_by_on (faults_in answers) (fault_in answer) a b c x y)
+faults-push answers answer a b c x y = subst (λ n. RoseBy n a c) (sym (sum_by_push fault_in answers answer)) (rose_by_on (faults_in answers) (fault_in answer) a b c x y)
 
 -- ---- what a script spells is refused for its bytes alone
 
@@ -140,16 +140,16 @@ sparing_given spelled given (inr none) is = subst IsSparingItem (sym none) tt
 
 pub fault_rose : (result : Result (Session × Answer) Failed) (old new : Counts) → IfOk result (λ next. next.1 ≡ answer.Refused refusal.Fault → Rose old.reads new.reads) → Rises old new
     → IfOk result (λ next. RoseBy (fault_in next.1) old.reads new.reads)
-fault_rose (Ok next) old new fault rises = of next.1 fault
+fault_rose (Ok next) old new fault rises = by next.1 fault
   where
-    of : (a : Answer) → (a ≡ answer.Refused refusal.Fault → Rose old.reads new.reads) → RoseBy (fault_in a) old.reads new.reads
-    of (answer.Refused refusal.Fault) rose = rose refl
-    of _ rose = rose_by_none old.reads new.reads rises.reads
+    by : (a : Answer) → (a ≡ answer.Refused refusal.Fault → Rose old.reads new.reads) → RoseBy (fault_in a) old.reads new.reads
+    by (answer.Refused refusal.Fault) rose = rose refl
+    by _ rose = rose_by_none old.reads new.reads rises.reads
 fault_rose (Err failed) old new fault rises = tt
 
 pub fault_of_item : (i : Item) (why : Refusal) (n : ℕ) → i ≡ item.Refused why → IsSparingItem i → RoseBy (fault_in (answer.Refused why)) n n
-fault_of_item i why n is sparing = of why (subst IsSparingItem is sparing)
+fault_of_item i why n is sparing = by why (subst IsSparingItem is sparing)
   where
-    of : (why : Refusal) → SparesStore why → RoseBy (fault_in (answer.Refused why)) n n
-    of refusal.Fault spares = absurd spares
-    of _ spares = rose_by_none n n (omega arith)
+    by : (why : Refusal) → SparesStore why → RoseBy (fault_in (answer.Refused why)) n n
+    by refusal.Fault spares = absurd spares
+    by _ spares = rose_by_none n n (omega arith)

@@ -1,6 +1,6 @@
 -- Which refusals are laid to the store.
-use Rattle.std.proofs.Common.{◌≡◌, ◌⊎◌, ◌×◌, ℕ, Bool, true, false, cond, List, Option, None, Some, Ok, Err, Result, IfOk, IfErr, refl, sym, ap, ◌∙◌, subst, inl, inr}
-use Rattle.std.specs.Prelude.{⊤, Vec}
+use Rattle.std.proofs.Common.{◌≡◌, ◌⊎◌, ℕ, Bool, true, false, cond, List, Option, None, Some, Ok, Err, Result, IfOk, IfErr, refl, sym, ap, ◌∙◌, subst, inl, inr}
+use Rattle.std.specs.Prelude.{Vec}
 use Rattle.std.specs.declared.alloc.Global.{Global}
 use Rattle.rows_core.specs.declared.file_ref.Digest.{Digest}
 use Rattle.rows_core.specs.declared.schema.Column.{Column}
@@ -25,7 +25,6 @@ use Rattle.planning.specs.Rows as rows
 use Rattle.planning.specs.Running.{Run, result_of, bound_plan, typing_of, unbound, untyped, storing, run_of, running_typed, running_bound, running, IsRunOn}
 use Rattle.script_text.specs.declared.answer.Answer.{Answer}
 use Rattle.script_text.specs.declared.answer.Answer.TheVariants as answer
-use Rattle.script_text.specs.declared.answer.LimitKind.TheVariants as limit
 use Rattle.script_text.specs.declared.answer.Refusal.{Refusal}
 use Rattle.script_text.specs.declared.answer.Refusal.TheVariants as refusal
 use Rattle.script_text.specs.declared.item.Command.{Command}
@@ -42,15 +41,24 @@ use Rattle.session.specs.Causes.{SparesStore, TellsOfNoFile, IsOfFiles, IsOfRun,
 
 -- ---- what planning refuses is laid to the command
 
-spares_if : {C : Type 0} (b : Bool) (x y : Result C Refusal) → IfErr x SparesStore → IfErr y SparesStore → IfErr (cond b x y) SparesStore
+record Spares {C : Type 0} (planned : Result C Refusal) : Type 0 where
+  holds : IfErr planned SparesStore
+
+spares_if : {C : Type 0} (b : Bool) (x y : Result C Refusal) → Spares x → Spares y → Spares (cond b x y)
 spares_if true x y first second = first
 spares_if false x y first second = second
 
+making_spares-all : (t : Table) (name : List ℕ) (columns : List Column) → Spares (making t name columns)
+making_spares-all t name columns = spares_if _ _ _ (record { holds = tt }) (spares_if _ _ _ (record { holds = tt }) (spares_if _ _ _ (record { holds = tt }) (spares_if _ _ _ (record { holds = tt }) (spares_if _ _ _ (record { holds = tt }) (record { holds = tt })))))
+
 making_spares : (t : Table) (name : List ℕ) (columns : List Column) → IfErr (making t name columns) SparesStore
-making_spares t name columns = spares_if _ _ _ tt (spares_if _ _ _ tt (spares_if _ _ _ tt (spares_if _ _ _ tt (spares_if _ _ _ tt tt))))
+making_spares t name columns = (making_spares-all t name columns).holds
+
+appending_spares-all : (t : Table) (place : ℕ) (read : List (List Value)) → Spares (appending t place read)
+appending_spares-all t place read = spares_if _ _ _ (record { holds = tt }) (spares_if _ _ _ (record { holds = tt }) (spares_if _ _ _ (record { holds = tt }) (spares_if _ _ _ (record { holds = tt }) (spares_if _ _ _ (record { holds = tt }) (spares_if _ _ _ (record { holds = tt }) (record { holds = tt }))))))
 
 appending_spares : (t : Table) (place : ℕ) (read : List (List Value)) → IfErr (appending t place read) SparesStore
-appending_spares t place read = spares_if _ _ _ tt (spares_if _ _ _ tt (spares_if _ _ _ tt (spares_if _ _ _ tt (spares_if _ _ _ tt (spares_if _ _ _ tt tt)))))
+appending_spares t place read = (appending_spares-all t place read).holds
 
 appending_read_spares : (t : Table) (place : ℕ) (read : Reading) → IfErr (appending_read t place read) SparesStore
 appending_read_spares t place (BadLine number) = tt
@@ -60,8 +68,11 @@ appending_at_spares : (t : Table) (place : Option ℕ) (name : List ℕ) (lines 
 appending_at_spares t None name lines given is = subst (λ (g : Result Append Refusal). IfErr g SparesStore) (sym is) tt
 appending_at_spares t (Some place) name lines given is = subst (λ (g : Result Append Refusal). IfErr g SparesStore) (sym is.2) (appending_read_spares t place is.0)
 
+storing_spares-all : (t : Table) (run : Run) → Spares (storing t run)
+storing_spares-all t run = spares_if _ _ _ (record { holds = tt }) (spares_if _ _ _ (record { holds = tt }) (spares_if _ _ _ (record { holds = tt }) (record { holds = tt })))
+
 storing_spares : (t : Table) (run : Run) → IfErr (storing t run) SparesStore
-storing_spares t run = spares_if _ _ _ tt (spares_if _ _ _ tt (spares_if _ _ _ tt tt))
+storing_spares t run = (storing_spares-all t run).holds
 
 untyped_spares : (why : PlanRefusal) → SparesStore (untyped why)
 untyped_spares (typing.Unknown number) = tt
@@ -86,7 +97,7 @@ abbrev IsMemory : Refusal → Type 0
 IsMemory why = why ≡ refusal.Memory
 
 planned_spares : {C : Type 0} (planned : Result C Refusal) (why : Refusal) → IfErr planned SparesStore → planned ≡ Err why ⊎ IsMemory why → SparesStore why
-planned_spares planned why spares (inl is) = subst (λ (r : Result _ Refusal). IfErr r SparesStore) is spares
+planned_spares {C = C} planned why spares (inl is) = subst (λ (r : Result C Refusal). IfErr r SparesStore) is spares
 planned_spares planned why spares (inr none) = subst SparesStore (sym none) tt
 
 pub making_refuses : (t : Table) (name : List ℕ) (columns : List Column) (why : Refusal) → making t name columns ≡ Err why ⊎ IsMemory why → SparesStore why
@@ -137,7 +148,7 @@ module _ (t : Table) (files : ℕ → List ℕ) where
     run_refused why either = of_spared (running t name tree) why (running_refuses t name tree why either)
 
     pub run_unread : (run : Run) (plan : PlainPlan) (why : Refusal) → running t name tree ≡ Ok run → plan ≡ run.plan → IsOfFiles t.streams (leaves plan) files why → HasByteCause t (command.Run name tree) files (answer.Refused why)
-    run_unread run plan why is plan_is of = subst (λ (r : Result Run Refusal). IsOfRun t r files why) (sym is) (subst (λ p. IsOfFiles t.streams (leaves p) files why) plan_is of)
+    run_unread run plan why is plan_is found = subst (λ (r : Result Run Refusal). IsOfRun t r files why) (sym is) (subst (λ p. IsOfFiles t.streams (leaves p) files why) plan_is found)
 
     -- a result, or want of memory where it was to be recorded
     pub run_kept : (rows : Rows) (bytes : ℕ) (given : Answer) → given ≡ result_of rows bytes → (result : Result (Session × Answer) Failed)
@@ -150,10 +161,10 @@ module _ (t : Table) (files : ℕ → List ℕ) where
 
 -- why files aren't read, as a refusal of the run
 pub of_reading : (streams : List StreamState) (numbers : List ℕ) (files : ℕ → List ℕ) (why : ReadRefusal) → IsOfStreams streams numbers files why → IsOfFiles streams numbers files (refusal_of why)
-of_reading streams numbers files reading.Fault of = tt
-of_reading streams numbers files (reading.Damaged file kept found) of = of
-of_reading streams numbers files (reading.Unreadable file at) of = of
-of_reading streams numbers files reading.Memory of = tt
+of_reading streams numbers files reading.Fault found = tt
+of_reading streams numbers files (reading.Damaged file kept digest) found = found
+of_reading streams numbers files (reading.Unreadable file at) found = found
+of_reading streams numbers files reading.Memory found = tt
 
 -- a run on rows that were read is refused for its plan
 pub of_rows : (streams : List StreamState) (numbers : List ℕ) (files : ℕ → List ℕ) (plan : PlainPlan) (lists : List Rows) (result : Result (Vec (List Value) Global) Refusal) → IfErr result (λ why. IsRefusedOn plan lists why ⊎ (why ≡ refusal.Memory))

@@ -1,5 +1,5 @@
 -- The bytes that a command takes.
-use Rattle.std.proofs.Common.{◌≡◌, ◌⊎◌, ◌×◌, ◌≤◌, ℕ, List, [], ◌∷◌, map, Option, None, Some, Ok, Err, Result, IfOk, OnOk, refl, sym, ap, ◌∙◌, subst, sum_by, slice_get, unwrap_or, inl, inr, arith}
+use Rattle.std.proofs.Common.{◌≡◌, ◌⊎◌, ℕ, List, [], ◌∷◌, map, Option, None, Some, Ok, Err, Result, IfOk, OnOk, refl, sym, ap, ◌∙◌, subst, sum_by, slice_get, unwrap_or, inl, inr, arith}
 use Rattle.std.specs.Option.{option_map}
 use Rattle.std.proofs.lemmas.Option.{slice_get-map}
 use Rattle.std.proofs.lemmas.List.Sums.{sum_by-cons}
@@ -7,6 +7,7 @@ use Rattle.outside_traits.specs.View.{Counts}
 use Rattle.outside_traits.specs.Calls.{MayRaiseWrites}
 use Rattle.outside_traits.specs.declared.failed.Failed.{Failed}
 use Rattle.catalog_types.specs.declared.extent.Extent as of_table
+use Rattle.catalog_types.specs.declared.snapshot.StreamState.{StreamState}
 use Rattle.catalog_core.specs.Table.{Table}
 use Rattle.plan_core.specs.PlainPlan.{PlainPlan, leaves}
 use Rattle.plan_grammar.specs.PlainNamed.{PlainTree}
@@ -36,9 +37,9 @@ found_bytes None = refl
 found_bytes (Some x) = extents_bytes x.extents
 
 bytes_at_table : (s : State) (n : ℕ) → bytes_at s.streams n ≡ planning.bytes_at (table s).streams n
-bytes_at_table s n = found_bytes (slice_get s.streams n) ∙ ap (λ o. sum_by (λ (e : of_table.Extent). e.file.len) (unwrap_or o [])) (sym (there (slice_get s.streams n)) ∙ ap (option_map (λ stream. stream.extents)) (sym (slice_get-map stream_of s.streams n)))
+bytes_at_table s n = found_bytes (slice_get s.streams n) ∙ ap (λ o. sum_by (λ (e : of_table.Extent). e.file.len) (unwrap_or o [])) (sym (there (slice_get s.streams n)) ∙ ap (option_map (λ (k : StreamState). k.extents)) (sym (slice_get-map stream_of s.streams n)))
   where
-    there : (found : Option Stream) → option_map (λ stream. stream.extents) (option_map stream_of found) ≡ option_map (λ (x : Stream). map extent_of x.extents) found
+    there : (found : Option Stream) → option_map (λ (k : StreamState). k.extents) (option_map stream_of found) ≡ option_map (λ (x : Stream). map extent_of x.extents) found
     there None = refl
     there (Some x) = refl
 

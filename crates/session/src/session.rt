@@ -8,9 +8,9 @@ ghost use Rattle.outside_traits.specs.Runs.{Narrows};
 ghost use Rattle.catalog_types.specs.declared.change.Change.{Change};
 ghost use Rattle.catalog_core.specs.Catalogs.{IsReady};
 ghost use Rattle.catalog_core.specs.Table.{Fits};
-ghost use Rattle.folder.specs.Folders.{catalog_of, journal_of, table_in};
+ghost use Rattle.folder.specs.Folders.{catalog_of, journal_of, table_in, FolderStands};
 ghost use Rattle.folder.specs.Left.{IsLeft, IsLeftWith, Since};
-ghost use Rattle.folder.specs.Replay.{StopsReading, is_checkpoint};
+ghost use Rattle.folder.specs.Replay.{ReadsAs, StopsReading, is_checkpoint};
 ghost use Rattle.folder.specs.Sound.{Care};
 ghost use Rattle.folder.specs.Standing.{IsNext};
 ghost use Rattle.folder.specs.State.{State, table};
@@ -64,6 +64,12 @@ impl Session {
     pub fn load<D: Store>(alloc: Global, store: &mut D) -> Result<Session, LoadRefusal>
         ensures stands { IsTrue D.tells → (care : Care) (a b : State) → IsLeft care (D.view store.old) a b
             → IfOk result (λ session. Stands care (D.view store.new) session a) }
+        // On every store that tells its files the table is what they read as, and what they read as after each
+        // crash now.
+        ensures reading { IsTrue D.tells
+            → IfOk result (λ session. ReadsAs (D.view store.old).files (table_in (folder_of session))) }
+        ensures crash { IsTrue D.tells
+            → IfOk result (λ session. FolderStands (D.view store.new) (folder_of session)) }
         ensures since { IsTrue D.tells → (care : Care) (a b : State) → IsLeft care (D.view store.old) a b
             → Since care a b (D.view store.old) (D.view store.new) }
         ensures left { IsTrue D.tells → (care : Care) (a b : State) → IsLeft care (D.view store.old) a b

@@ -1,3 +1,4 @@
+use Rattle.std.proofs.Common.{refl}
 use Rattle.nectar_top.proofs.server.answer.Goals as goal
 
 pub returns-in-Ok-send-clause-ok : goal.returns-in-Ok-send-clause-ok
@@ -7,3 +8,6 @@ returns-in-Ok-send-clause-ok g c = λ told care old before stands.
 pub returns-in-Err-send-clause-err : goal.returns-in-Err-send-clause-err
 returns-in-Err-send-clause-err g c = λ told care old before stands.
     record { session = c.in-Ok.session; answer = c.in-Ok.answer; performs = c.in-Ok.ensures.ok told care old stands; faults = c.in-Ok.ensures.faults; sent = c.in-Err-send.ensures.err }
+
+pub returns-in-Err-clause-err : goal.returns-in-Err-clause-err
+returns-in-Err-clause-err g c = λ told care old before stands. record { breaks = c.in-Err.ensures.err told care old stands; counts = c.perform.ensures.counts.reads; wrote = refl }
