@@ -1,15 +1,18 @@
 -- Which refusals are laid to the store.
 use Rattle.std.proofs.Common.{◌≡◌, ◌⊎◌, ℕ, Bool, true, false, cond, List, Option, None, Some, Ok, Err, Result, IfOk, IfErr, refl, sym, ap, ◌∙◌, subst, inl, inr}
-use Rattle.std.specs.Prelude.{Vec}
+use Rattle.std.specs.Prelude.{Vec, nat_le, nat_lt, is_some, length}
 use Rattle.std.specs.declared.alloc.Global.{Global}
 use Rattle.rows_core.specs.declared.file_ref.Digest.{Digest}
 use Rattle.rows_core.specs.declared.schema.Column.{Column}
 use Rattle.rows_core.specs.declared.value.Value.{Value}
+use Rattle.rows_core.specs.Schema.{has_repeat}
 use Rattle.catalog_types.specs.declared.change.Change.{Change}
+use Rattle.catalog_types.specs.declared.change.Change.TheVariants as change
 use Rattle.catalog_types.specs.declared.snapshot.StreamState.{StreamState}
 use Rattle.outside_traits.specs.Counts.{Rose}
 use Rattle.outside_traits.specs.declared.failed.Failed.{Failed}
-use Rattle.catalog_core.specs.Table.{Table, place_of}
+use Rattle.catalog_core.specs.Programs.{extents_at, most_text_bytes, with_program}
+use Rattle.catalog_core.specs.Table.{Table, place_of, most_ticks, most_streams, most_programs, file_end, most_extents, most_extents_in_all, most_extent_bytes, extent_count}
 use Rattle.plan_binder.specs.declared.refusal.BindRefusal.{BindRefusal}
 use Rattle.plan_binder.specs.declared.refusal.BindRefusal.TheVariants as binding
 use Rattle.plan_core.specs.declared.refusal.PlanRefusal.{PlanRefusal}
@@ -18,13 +21,14 @@ use Rattle.plan_core.specs.Columns.{Rows}
 use Rattle.plan_core.specs.PlainPlan.{PlainPlan, leaves}
 use Rattle.plan_core.specs.PlanTyping.{Kinds}
 use Rattle.plan_grammar.specs.PlainNamed.{PlainTree}
-use Rattle.planning.specs.Appending.{Append, held, appending, appending_read, IsAppending, IsAppendingAt}
-use Rattle.planning.specs.Making.{making}
-use Rattle.planning.specs.Rows.{Reading, BadLine}
+use Rattle.planning.specs.Appending.{Append, held, append_to, file_bytes, appending, appending_read, IsAppending, IsAppendingAt}
+use Rattle.planning.specs.Making.{making, most_columns}
+use Rattle.planning.specs.Rows.{Reading, BadLine, have_long}
 use Rattle.planning.specs.Rows as rows
 use Rattle.planning.specs.Running.{Run, result_of, bound_plan, typing_of, unbound, untyped, storing, run_of, running_typed, running_bound, running, IsRunOn}
 use Rattle.script_text.specs.declared.answer.Answer.{Answer}
 use Rattle.script_text.specs.declared.answer.Answer.TheVariants as answer
+use Rattle.script_text.specs.declared.answer.LimitKind.TheVariants as limit
 use Rattle.script_text.specs.declared.answer.Refusal.{Refusal}
 use Rattle.script_text.specs.declared.answer.Refusal.TheVariants as refusal
 use Rattle.script_text.specs.declared.item.Command.{Command}
@@ -41,24 +45,35 @@ use Rattle.session.specs.Causes.{SparesStore, TellsOfNoFile, IsOfFiles, IsOfRun,
 
 -- ---- what planning refuses is laid to the command
 
-record Spares {C : Type 0} (planned : Result C Refusal) : Type 0 where
-  holds : IfErr planned SparesStore
-
-spares_if : {C : Type 0} (b : Bool) (x y : Result C Refusal) → Spares x → Spares y → Spares (cond b x y)
+spares_if : {C : Type 0} (b : Bool) (x y : Result C Refusal) → IfErr x SparesStore → IfErr y SparesStore → IfErr (cond b x y) SparesStore
 spares_if true x y first second = first
 spares_if false x y first second = second
 
-making_spares-all : (t : Table) (name : List ℕ) (columns : List Column) → Spares (making t name columns)
-making_spares-all t name columns = spares_if _ _ _ (record { holds = tt }) (spares_if _ _ _ (record { holds = tt }) (spares_if _ _ _ (record { holds = tt }) (spares_if _ _ _ (record { holds = tt }) (spares_if _ _ _ (record { holds = tt }) (record { holds = tt })))))
-
 making_spares : (t : Table) (name : List ℕ) (columns : List Column) → IfErr (making t name columns) SparesStore
-making_spares t name columns = (making_spares-all t name columns).holds
-
-appending_spares-all : (t : Table) (place : ℕ) (read : List (List Value)) → Spares (appending t place read)
-appending_spares-all t place read = spares_if _ _ _ (record { holds = tt }) (spares_if _ _ _ (record { holds = tt }) (spares_if _ _ _ (record { holds = tt }) (spares_if _ _ _ (record { holds = tt }) (spares_if _ _ _ (record { holds = tt }) (spares_if _ _ _ (record { holds = tt }) (record { holds = tt }))))))
+making_spares t name columns =
+    let by_ticks : Result Change Refusal = cond (nat_le most_ticks t.tick) (Err (refusal.Limit limit.Commands)) (Ok (change.Stream name columns)) in
+    let by_streams : Result Change Refusal = cond (nat_le most_streams (length t.streams)) (Err (refusal.Limit limit.Streams)) by_ticks in
+    let by_columns : Result Change Refusal = cond (nat_lt most_columns (length columns)) (Err (refusal.Limit limit.Columns)) by_streams in
+    let by_names : Result Change Refusal = cond (has_repeat columns) (Err refusal.IllTyped) by_columns in
+    spares_if {C = Change} (is_some (place_of t.streams name)) (Err (refusal.Exists name)) by_names tt
+    (spares_if {C = Change} (has_repeat columns) (Err refusal.IllTyped) by_columns tt
+    (spares_if {C = Change} (nat_lt most_columns (length columns)) (Err (refusal.Limit limit.Columns)) by_streams tt
+    (spares_if {C = Change} (nat_le most_streams (length t.streams)) (Err (refusal.Limit limit.Streams)) by_ticks tt
+    (spares_if {C = Change} (nat_le most_ticks t.tick) (Err (refusal.Limit limit.Commands)) (Ok (change.Stream name columns)) tt tt))))
 
 appending_spares : (t : Table) (place : ℕ) (read : List (List Value)) → IfErr (appending t place read) SparesStore
-appending_spares t place read = (appending_spares-all t place read).holds
+appending_spares t place read =
+    let by_ticks : Result Append Refusal = cond (nat_le most_ticks t.tick) (Err (refusal.Limit limit.Commands)) (Ok (append_to place read)) in
+    let by_files : Result Append Refusal = cond (nat_le file_end t.next_file) (Err (refusal.Limit limit.Files)) by_ticks in
+    let by_all : Result Append Refusal = cond (nat_le most_extents_in_all (extent_count t.streams)) (Err (refusal.Limit limit.AllExtents)) by_files in
+    let by_extents : Result Append Refusal = cond (nat_le most_extents (length (extents_at t.streams place))) (Err (refusal.Limit limit.Extents)) by_all in
+    let by_bytes : Result Append Refusal = cond (nat_lt most_extent_bytes (length (file_bytes read))) (Err (refusal.Limit limit.Extent)) by_extents in
+    spares_if {C = Append} (have_long read) (Err (refusal.Limit limit.Text)) by_bytes tt
+    (spares_if {C = Append} (nat_lt most_extent_bytes (length (file_bytes read))) (Err (refusal.Limit limit.Extent)) by_extents tt
+    (spares_if {C = Append} (nat_le most_extents (length (extents_at t.streams place))) (Err (refusal.Limit limit.Extents)) by_all tt
+    (spares_if {C = Append} (nat_le most_extents_in_all (extent_count t.streams)) (Err (refusal.Limit limit.AllExtents)) by_files tt
+    (spares_if {C = Append} (nat_le file_end t.next_file) (Err (refusal.Limit limit.Files)) by_ticks tt
+    (spares_if {C = Append} (nat_le most_ticks t.tick) (Err (refusal.Limit limit.Commands)) (Ok (append_to place read)) tt tt)))))
 
 appending_read_spares : (t : Table) (place : ℕ) (read : Reading) → IfErr (appending_read t place read) SparesStore
 appending_read_spares t place (BadLine number) = tt
@@ -68,11 +83,13 @@ appending_at_spares : (t : Table) (place : Option ℕ) (name : List ℕ) (lines 
 appending_at_spares t None name lines given is = subst (λ (g : Result Append Refusal). IfErr g SparesStore) (sym is) tt
 appending_at_spares t (Some place) name lines given is = subst (λ (g : Result Append Refusal). IfErr g SparesStore) (sym is.2) (appending_read_spares t place is.0)
 
-storing_spares-all : (t : Table) (run : Run) → Spares (storing t run)
-storing_spares-all t run = spares_if _ _ _ (record { holds = tt }) (spares_if _ _ _ (record { holds = tt }) (spares_if _ _ _ (record { holds = tt }) (record { holds = tt })))
-
 storing_spares : (t : Table) (run : Run) → IfErr (storing t run) SparesStore
-storing_spares t run = (storing_spares-all t run).holds
+storing_spares t run =
+    let by_ticks : Result Run Refusal = cond (nat_le most_ticks t.tick) (Err (refusal.Limit limit.Commands)) (Ok run) in
+    let by_programs : Result Run Refusal = cond (nat_lt most_programs (length (with_program run.program t.programs))) (Err (refusal.Limit limit.Programs)) by_ticks in
+    spares_if {C = Run} (nat_lt most_text_bytes (length run.program.text)) (Err (refusal.Limit limit.PlanText)) by_programs tt
+    (spares_if {C = Run} (nat_lt most_programs (length (with_program run.program t.programs))) (Err (refusal.Limit limit.Programs)) by_ticks tt
+    (spares_if {C = Run} (nat_le most_ticks t.tick) (Err (refusal.Limit limit.Commands)) (Ok run) tt tt))
 
 untyped_spares : (why : PlanRefusal) → SparesStore (untyped why)
 untyped_spares (typing.Unknown number) = tt

@@ -42,4 +42,4 @@ pub returns-in-Ok-prepare-clause-of_no_file : goal.returns-in-Ok-prepare-clause-
 returns-in-Ok-prepare-clause-of_no_file g c = of_no_file (answer.Held c.in-Ok.plan.held) tt _ c.record_file.ensures.answer
 
 pub returns-in-Err-clause-of_no_file : goal.returns-in-Err-clause-of_no_file
-returns-in-Err-clause-of_no_file g c = appending_refuses _ c.args.name c.args.lines c.in-Err.refusal c.in-Err.ensures.err
+returns-in-Err-clause-of_no_file g c = appending_refuses (table_of c.catalog.result.now) c.args.name c.args.lines c.in-Err.refusal c.in-Err.ensures.err

@@ -44,4 +44,4 @@ pub returns-in-Ok-prepare-clause-of_no_file : goal.returns-in-Ok-prepare-clause-
 returns-in-Ok-prepare-clause-of_no_file g c = of_no_file answer.Ok tt _ c.record.ensures.answer
 
 pub returns-in-Err-clause-of_no_file : goal.returns-in-Err-clause-of_no_file
-returns-in-Err-clause-of_no_file g c = making_refuses _ c.args.name c.args.columns c.in-Err.refusal c.in-Err.ensures.err
+returns-in-Err-clause-of_no_file g c = making_refuses (table_of c.catalog.result.now) c.args.name c.args.columns c.in-Err.refusal c.in-Err.ensures.err

@@ -63,10 +63,10 @@ returns-in-Err-clause-most g c = λ told care s stands.
     (c.read_streams.ensures.most told care s stands.left (ap table_of c.catalog.ensures ∙ stands.means.table_is))
 
 pub returns-in-Ok-clause-found : goal.returns-in-Ok-clause-found
-returns-in-Ok-clause-found g c = λ told. of_rows _ _ _ c.args.typed.now.plan _ _ c.rows_on.ensures.err
+returns-in-Ok-clause-found g c = λ told. of_rows (table_in (folder_of c.args.self.now)).streams (leaves c.args.typed.now.plan) (g.D.Store.view c.args.store.now).files c.args.typed.now.plan _ _ c.rows_on.ensures.err
 
 pub returns-in-Err-clause-found : goal.returns-in-Err-clause-found
 returns-in-Err-clause-found g c = λ told.
     subst (λ w. IsOfFiles (table_in (folder_of c.args.self.now)).streams (leaves c.args.typed.now.plan) (g.D.Store.view c.args.store.now).files w) (sym c.refusal_of.ensures)
-    (of_reading _ _ _ c.in-Err.refusal (subst (λ (t : Table). IsOfStreams t.streams (leaves c.args.typed.now.plan) (g.D.Store.view c.args.store.now).files c.in-Err.refusal) (ap table_of c.catalog.ensures)
+    (of_reading (table_in (folder_of c.args.self.now)).streams (leaves c.args.typed.now.plan) (g.D.Store.view c.args.store.now).files c.in-Err.refusal (subst (λ (t : Table). IsOfStreams t.streams (leaves c.args.typed.now.plan) (g.D.Store.view c.args.store.now).files c.in-Err.refusal) (ap table_of c.catalog.ensures)
     (subst (λ (ns : List ℕ). IsOfStreams (table_of c.catalog.result.now).streams ns (g.D.Store.view c.args.store.now).files c.in-Err.refusal) (c.leaves.ensures.leaves ∙ c.leaves.ensures.typed.1) (c.in-Err.ensures.found told))))

@@ -6,13 +6,14 @@ use Rattle.script_text.specs.declared.answer.Answer.{Answer}
 use Rattle.script_text.specs.declared.answer.Answer.TheVariants as answer
 use Rattle.script_text.specs.declared.item.Command.TheVariants as command
 use Rattle.folder.specs.Left.{Everything, IsSoundForOneOf}
+use Rattle.folder.specs.Folders.{table_in}
 use Rattle.folder.specs.Next.{with_run}
 use Rattle.folder.specs.Sound.{IsSound}
 use Rattle.folder.specs.Standing.{IsNext}
 use Rattle.folder.specs.State.{State, table}
 use Rattle.session.specs.Machine as machine
 use Rattle.session.specs.Machine.{outcome}
-use Rattle.session.specs.Standing.{Stands}
+use Rattle.session.specs.Standing.{Stands, folder_of}
 use Rattle.session.proofs.StepLemmas.{refuses, ran_ok, ran_err, ran_refused, keeps_performs, kept_breaks, not_behind, event_step}
 use Rattle.folder.proofs.StreamReading.{at_most_none}
 use Rattle.planning.specs.Running.{running}
@@ -70,29 +71,35 @@ returns-in-Ok-rows_of-clause-taken g c = λ told care s stands.
     let ok = c.in-Ok.ensures.ok in
     let same = ap table_of c.catalog.ensures ∙ stands.means.table_is in
     told_of_kept _ c.in-Ok.plan.bytes _ _ _ c.result_of-answer.ensures
-    (read_then _ _ _ (g.D.Store.counts c.rows_of.new.store) _ (read_bytes s _ ok.0 c.in-Ok.plan.typed.plan c.in-Ok.plan.bytes same ok.2 ok.6) (c.in-Ok-rows_of.ensures.taken told care s stands) c.keep.ensures.counts) _ c.keep.ensures.given
+    (read_then _ _ (g.D.Store.counts c.args.store.now) (g.D.Store.counts c.rows_of.new.store) (g.D.Store.counts c.keep.new.store) (read_bytes s _ ok.0 c.in-Ok.plan.typed.plan c.in-Ok.plan.bytes same ok.2 ok.6) (c.in-Ok-rows_of.ensures.taken told care s stands) c.keep.ensures.counts) _
+    c.keep.ensures.given
 
 pub returns-in-Ok-rows_of-clause-most : goal.returns-in-Ok-rows_of-clause-most
 returns-in-Ok-rows_of-clause-most g c = λ told care s stands.
     let ok = c.in-Ok.ensures.ok in
-    most_then _ _ _ (g.D.Store.counts c.rows_of.new.store) _ (run_bytes s _ c.args.name c.args.plan.now ok.0 c.in-Ok.plan.typed.plan (ap table_of c.catalog.ensures ∙ stands.means.table_is) ok.1 ok.2) (c.rows_of.ensures.most told care s stands) c.keep.ensures.counts
+    most_then _ _ (g.D.Store.counts c.args.store.now) (g.D.Store.counts c.rows_of.new.store) (g.D.Store.counts c.keep.new.store)
+    (run_bytes s _ c.args.name c.args.plan.now ok.0 c.in-Ok.plan.typed.plan (ap table_of c.catalog.ensures ∙ stands.means.table_is) ok.1 ok.2) (c.rows_of.ensures.most told care s stands) c.keep.ensures.counts
 
 pub returns-in-Err-rows_of-clause-most : goal.returns-in-Err-rows_of-clause-most
 returns-in-Err-rows_of-clause-most g c = λ told care s stands.
     let ok = c.in-Ok.ensures.ok in
-    most_same _ _ _ _ (run_bytes s _ c.args.name c.args.plan.now ok.0 c.in-Ok.plan.typed.plan (ap table_of c.catalog.ensures ∙ stands.means.table_is) ok.1 ok.2) (c.rows_of.ensures.most told care s stands)
+    most_same _ _ (g.D.Store.counts c.args.store.now) (g.D.Store.counts c.rows_of.new.store)
+    (run_bytes s _ c.args.name c.args.plan.now ok.0 c.in-Ok.plan.typed.plan (ap table_of c.catalog.ensures ∙ stands.means.table_is) ok.1 ok.2) (c.rows_of.ensures.most told care s stands)
 
 pub returns-in-Err-clause-most : goal.returns-in-Err-clause-most
-returns-in-Err-clause-most g c = λ told care s stands. at_most_none _ _
+returns-in-Err-clause-most g c = λ told care s stands. at_most_none _ (g.D.Store.counts c.args.store.now)
 
 pub returns-in-Ok-rows_of-clause-found : goal.returns-in-Ok-rows_of-clause-found
-returns-in-Ok-rows_of-clause-found g c = λ told. run_kept _ _ c.args.name c.args.plan.now _ c.in-Ok.plan.bytes _ c.result_of-answer.ensures _ c.keep.ensures.given
+returns-in-Ok-rows_of-clause-found g c = λ told.
+    run_kept (table_in (folder_of c.args.self)) (g.D.Store.view c.args.store.now).files c.args.name c.args.plan.now c.in-Ok-rows_of.rows.items c.in-Ok.plan.bytes _ c.result_of-answer.ensures _ c.keep.ensures.given
 
 pub returns-in-Err-rows_of-clause-found : goal.returns-in-Err-rows_of-clause-found
 returns-in-Err-rows_of-clause-found g c = λ told.
     let ok = c.in-Ok.ensures.ok in
-    run_unread _ _ c.args.name c.args.plan.now ok.0 c.in-Ok.plan.typed.plan _ (subst (λ t. running t c.args.name c.args.plan.now ≡ Ok ok.0) (ap table_of c.catalog.ensures) ok.1) ok.2 (c.in-Err-rows_of.ensures.found told)
+    run_unread (table_in (folder_of c.args.self)) (g.D.Store.view c.args.store.now).files c.args.name c.args.plan.now ok.0 c.in-Ok.plan.typed.plan c.in-Err-rows_of.refusal
+    (subst (λ (t : Table). running t c.args.name c.args.plan.now ≡ Ok ok.0) (ap table_of c.catalog.ensures) ok.1) ok.2 (c.in-Err-rows_of.ensures.found told)
 
 pub returns-in-Err-clause-found : goal.returns-in-Err-clause-found
 returns-in-Err-clause-found g c = λ told.
-    run_refused _ _ c.args.name c.args.plan.now c.in-Err.refusal (subst (λ t. (running t c.args.name c.args.plan.now ≡ Err c.in-Err.refusal) ⊎ (c.in-Err.refusal ≡ refusal.Memory)) (ap table_of c.catalog.ensures) c.in-Err.ensures.err)
+    run_refused (table_in (folder_of c.args.self)) (g.D.Store.view c.args.store.now).files c.args.name c.args.plan.now c.in-Err.refusal
+    (subst (λ (t : Table). (running t c.args.name c.args.plan.now ≡ Err c.in-Err.refusal) ⊎ (c.in-Err.refusal ≡ refusal.Memory)) (ap table_of c.catalog.ensures) c.in-Err.ensures.err)
