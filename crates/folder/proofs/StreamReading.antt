@@ -1,11 +1,12 @@
 -- Reading one extent after another, and one stream after another.
-use Rattle.std.proofs.Common.{◌≡◌, inl, inr, ℕ, suc, zero, ◌+◌, ◌<◌, ◌≤◌, List, [], ◌∷◌, ◌++◌, length, map, take, get_or, slice_get, unwrap_or, sum_by, Option, Some, None, Bool, Err, IsErrOf, IfSome, IsTrue, refl, sym, ap, ◌∙◌, subst, arith}
+use Rattle.std.proofs.Common.{◌≡◌, inl, inr, ℕ, suc, zero, ◌+◌, ◌<◌, ◌≤◌, List, [], ◌∷◌, ◌++◌, length, map, take, get_or, slice_get, unwrap_or, sum_by, length-take, Option, Some, None, Bool, Result, Ok, Err, IfErr, IsErrOf, IfSome, IsTrue, refl, sym, ap, ◌∙◌, subst, arith}
 use Rattle.std.specs.List.{Contains, flat_map, AllByRecursion}
 use Rattle.std.specs.Option.{option_map}
 use Rattle.std.proofs.lemmas.Option.{slice_get-map, slice_get-get_or, slice_get_within, slice_get_past, get_or_from_slice_get}
 use Rattle.std.proofs.lemmas.List.{map_push, flat_map_more, length-map}
 use Rattle.std.proofs.lemmas.List.Elements.{All-append, All-nil, All-from_recursion}
-use Rattle.std.proofs.lemmas.List.Sums.{sum_by_push}
+use Rattle.std.proofs.lemmas.List.Sums.{sum_by_push, sum_by_more_le, sum_by-take-le}
+use Rattle.rows_core.specs.declared.file_ref.Digest.{Digest}
 use Rattle.rows_core.specs.declared.file_ref.FileRef.{FileRef}
 use Rattle.rows_core.specs.declared.schema.Column.{Column}
 use Rattle.rows_core.specs.declared.kind.Kind.{Kind}
@@ -30,10 +31,11 @@ use Rattle.catalog_core.specs.Streams.{state_of, states_of}
 use Rattle.catalog_core.specs.Table.{Table}
 use Rattle.catalog_core.specs.declared.stream.CatalogStream.{CatalogStream}
 use Rattle.folder.specs.State.{State, Stream, Extent, HasExtent, extent_of, stream_of, table, file_bytes}
-use Rattle.folder.specs.Sound.{Care}
+use Rattle.folder.specs.Sound.{Care, Shown, Whole}
 use Rattle.folder.specs.Left.{IsLeft}
-use Rattle.folder.specs.Reads.{HaveRows, HasCause}
-use Rattle.folder.specs.StreamRows.{HasStream, IsReadEvent, HasReadCause, CountsRead, rows_of, rows_at, bytes_of, bytes_at}
+use Rattle.folder.specs.Reads.{HaveRows, HasCause, FoundIn, StopRows}
+use Rattle.folder.specs.Causes.{IsOfStream, IsOfStreams}
+use Rattle.folder.specs.StreamRows.{HasStream, IsReadEvent, HasReadCause, CountsRead, TakesAtMost, rows_of, rows_at, bytes_of, bytes_at}
 use Rattle.folder.specs.declared.refusal.ReadRefusal.{ReadRefusal}
 use Rattle.folder.specs.declared.refusal.ReadRefusal.TheVariants.{Fault, Damaged, Unreadable, Memory}
 use Rattle.folder.proofs.Narrowing.{left_narrowed}
@@ -91,6 +93,27 @@ read_on m n a b c (inl x) (inl y) = inl (omega (arith, x, y))
 read_on m n a b c (inl x) (inr y) = inl (omega (arith, x, y.0, y.1))
 read_on m n a b c (inr x) (inl y) = inl (omega (arith, x.0, x.1, y))
 read_on m n a b c (inr x) (inr y) = inr (omega (arith, x.0, y.0), y.1 ∙ x.1)
+
+-- at most so many
+pub at_most_none : (n : ℕ) (c : Counts) → TakesAtMost n c c
+at_most_none n c = omega arith
+
+pub at_most_read : (n : ℕ) (a b : Counts) → CountsRead n a b → TakesAtMost n a b
+at_most_read n a b (inl x) = omega (arith, x)
+at_most_read n a b (inr x) = omega (arith, x.0, x.1)
+
+-- behind a part of the reads, one more that may have failed
+pub at_most_on : {X : Type 0} (f : X → ℕ) (xs : List X) (i : ℕ) (x : X) (a b c : Counts) → slice_get xs i ≡ Some x → CountsRead (sum_by f (take i xs)) a b → TakesAtMost (f x) b c
+    → TakesAtMost (sum_by f xs) a c
+at_most_on f xs i x a b c is so_far last =
+    let low = slice_get_within xs i x is in
+    let more = sum_by_more_le f xs i x low in
+    let same = ap f (get_or_from_slice_get xs i x x is) in
+    omega (arith, at_most_read (sum_by f (take i xs)) a b so_far, last, more, same)
+
+-- a part of the reads
+pub at_most_part : {X : Type 0} (f : X → ℕ) (xs : List X) (i : ℕ) (a b : Counts) → CountsRead (sum_by f (take i xs)) a b → TakesAtMost (sum_by f xs) a b
+at_most_part f xs i a b so_far = omega (arith, at_most_read (sum_by f (take i xs)) a b so_far, sum_by-take-le f xs i)
 
 pub raise_none : (c : Counts) → MayRaiseReads c c
 raise_none c = record { reads = omega arith; writes = refl; removes = refl; taken = omega arith }
@@ -157,11 +180,20 @@ extent_taken care u v s x e rows old new narrow left has same taken =
     let len = ap (λ (r : FileRef). r.len) (valid.refs e.file (file_bytes e.rows) (record { stream = x; extent = e; has = has; at_is = refl; bytes_are = refl })) in
     inl (subst (λ n. CountsTaken n old new) (ap (λ l. length (file_bytes l)) same ∙ sym len) taken)
 
+-- what is whole shows no damage
+shown_of : (care : Care) → (care ≡ Whole → ⊥) → care ≡ Shown
+shown_of Shown none = refl
+shown_of Whole none = absurd (none refl)
+
+pub whole_rows : (care : Care) (files : ℕ → List ℕ) (columns : List Column) (at : of_table.Extent) (rows : List (List Value)) → care ≡ Whole → HaveRows care files columns at rows → HaveRows Whole files columns at rows
+whole_rows care files columns at rows is have = subst (λ (c : Care). HaveRows c files columns at rows) is have
+
 -- what ends the reading of one
-pub extent_event : (s : State) (x : Stream) (e : Extent) (at : of_table.Extent) (old new : Counts) (why : ReadRefusal) → HasExtent s x e → at ≡ extent_of e
-    → HasCause at.file old new why → ((file place : ℕ) → why ≡ Unreadable file place → ⊥) → IsReadEvent s why
-extent_event s x e at old new Fault has is cause other = tt
-extent_event s x e at old new (Damaged file kept found) has is cause other = record {
+pub extent_event : (care : Care) (s : State) (x : Stream) (e : Extent) (at : of_table.Extent) (old new : Counts) (why : ReadRefusal) → HasExtent s x e → at ≡ extent_of e
+    → HasCause at.file old new why → ((file place : ℕ) → why ≡ Unreadable file place → ⊥) → (care ≡ Whole → (file : ℕ) (kept found : Digest) → why ≡ Damaged file kept found → ⊥) → IsReadEvent care s why
+extent_event care s x e at old new Fault has is cause readable undamaged = tt
+extent_event care s x e at old new (Damaged file kept found) has is cause readable undamaged = record {
+  may = shown_of care (λ whole. undamaged whole file kept found refl);
   stream = x;
   extent = e;
   has = has;
@@ -169,8 +201,66 @@ extent_event s x e at old new (Damaged file kept found) has is cause other = rec
   kept_is = cause.1 ∙ ap (λ (a : of_table.Extent). a.file.digest) is;
   differs = λ same. cause.2 (same ∙ cause.1);
 }
-extent_event s x e at old new (Unreadable file place) has is cause other = other file place refl
-extent_event s x e at old new Memory has is cause other = tt
+extent_event care s x e at old new (Unreadable file place) has is cause readable undamaged = readable file place refl
+extent_event care s x e at old new Memory has is cause readable undamaged = tt
+
+-- what it takes at most
+taken_of_front : (n : ℕ) (bytes : List ℕ) (old new : Counts) → CountsTaken (length (take n bytes)) old new → TakesAtMost n old new
+taken_of_front n bytes old new taken = omega (arith, taken, length-take n bytes)
+
+taken_of_refused : (columns : List Column) (at : FileRef) (bytes : List ℕ) (old new : Counts) (why : ReadRefusal) → HasCause at old new why → FoundIn columns at (take at.len bytes) old new why → TakesAtMost at.len old new
+taken_of_refused columns at bytes old new Fault cause found = omega (arith, cause.1)
+taken_of_refused columns at bytes old new (Damaged file kept digest) cause found = taken_of_front at.len bytes old new found.1
+taken_of_refused columns at bytes old new (Unreadable file place) cause found = taken_of_front at.len bytes old new found.2
+taken_of_refused columns at bytes old new Memory cause found = elim found [
+  | inl same ↦ omega (arith, same)
+  | inr taken ↦ taken_of_front at.len bytes old new taken
+]
+
+pub extent_most : (columns : List Column) (e : Extent) (at : of_table.Extent) (bytes : List ℕ) (old new : Counts) (why : ReadRefusal) → at ≡ extent_of e → HasCause at.file old new why
+    → FoundIn columns at.file (take at.file.len bytes) old new why → TakesAtMost e.file.len old new
+extent_most columns e at bytes old new why is cause found =
+    let same = ap (λ (a : of_table.Extent). a.file.len) is in
+    omega (arith, taken_of_refused columns at.file bytes old new why cause found, same)
+
+-- ---- damage and unreadable bytes
+
+-- the extent that is read is one of the stream's
+pub contains_at : (kept : StreamState) (extents : List of_table.Extent) (i : ℕ) (d : of_table.Extent) → extents ≡ kept.extents → i < length extents → Contains kept.extents (get_or extents i d)
+contains_at kept extents i d same low = subst (λ (l : List of_table.Extent). Contains l (get_or extents i d)) same (slice_has extents i (get_or extents i d) (slice_get-get_or extents i d low))
+
+pub of_stream : (stream : StreamState) (at : of_table.Extent) (columns : List Column) (u v : View) (old new : Counts) (why : ReadRefusal) → Contains stream.extents at → columns ≡ stream.columns → Narrows u v
+    → HasCause at.file old new why → FoundIn columns at.file (take at.file.len (v.files at.file.file)) old new why → IsOfStream stream u.files why
+of_stream stream at columns u v old new why has same narrow cause found =
+    by why cause (subst (λ b. FoundIn columns at.file (take at.file.len b) old new why) (narrow.same at.file.file) found)
+  where
+    by : (why : ReadRefusal) → HasCause at.file old new why → FoundIn columns at.file (take at.file.len (u.files at.file.file)) old new why → IsOfStream stream u.files why
+    by Fault cause found = tt
+    by (Damaged file kept digest) cause found = (at, has, record { file_is = cause.0; kept_is = cause.1; found_is = found.0; differs = λ is. cause.2 (is ∙ cause.1) })
+    by (Unreadable file place) cause found =
+        (at, has, record { file_is = cause.0; digest_is = found.0; stops = subst (λ (cs : List Column). StopRows cs (take at.file.len (u.files at.file.file)) place) same found.1 })
+    by Memory cause found = tt
+
+-- the stream with this number is one of those
+pub of_number : (streams : List StreamState) (number : ℕ) (stream : StreamState) (files : ℕ → List ℕ) → slice_get streams number ≡ Some stream → (why : ReadRefusal) → IsOfStream stream files why
+    → (numbers : List ℕ) → Contains numbers number → IsOfStreams streams numbers files why
+of_number streams number stream files there Fault is numbers one = tt
+of_number streams number stream files there (Damaged file kept digest) is numbers one = (stream, (number, one, there), is)
+of_number streams number stream files there (Unreadable file place) is numbers one = (stream, (number, one, there), is)
+of_number streams number stream files there Memory is numbers one = tt
+
+pub of_number_if : {T : Type 0} (streams : List StreamState) (number : ℕ) (stream : StreamState) (files : ℕ → List ℕ) → slice_get streams number ≡ Some stream → (result : Result T ReadRefusal) → IfErr result (IsOfStream stream files)
+    → IfErr result (λ why. (numbers : List ℕ) → Contains numbers number → IsOfStreams streams numbers files why)
+of_number_if streams number stream files there (Ok x) is = tt
+of_number_if streams number stream files there (Err why) is = of_number streams number stream files there why is
+
+-- the files are those of the start
+pub of_start : (u v : View) → Narrows u v → (ss ts : List StreamState) → ss ≡ ts → (numbers : List ℕ) (why : ReadRefusal) → IsOfStreams ss numbers v.files why → IsOfStreams ts numbers u.files why
+of_start u v narrow ss ts same numbers why is =
+    subst (λ (f : ℕ → List ℕ). IsOfStreams ts numbers f why) (λ i g. narrow.same g i) (subst (λ (l : List StreamState). IsOfStreams l numbers v.files why) same is)
+
+pub contains_number : (numbers : List ℕ) (i : ℕ) → i < length numbers → Contains numbers (get_or numbers i 0)
+contains_number numbers i low = slice_has numbers i (get_or numbers i 0) (slice_get-get_or numbers i 0 low)
 
 -- ---- kinds
 

@@ -8,3 +8,4 @@ pub mod Reads
 pub mod Refusals
 pub mod Folders
 pub mod StreamRows
+pub mod Causes

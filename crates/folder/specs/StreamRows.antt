@@ -1,5 +1,5 @@
 -- The rows of streams, and why they aren't all read.
-use Rattle.std.specs.Prelude.{◌≡◌, ◌≢◌, ◌⊎◌, ℕ, List, [], slice_get, unwrap_or, sum_by, Vec, ⊤}
+use Rattle.std.specs.Prelude.{◌≡◌, ◌≢◌, ◌⊎◌, ℕ, ◌+◌, ◌≤◌, List, [], slice_get, unwrap_or, sum_by, Vec, ⊤}
 use Rattle.std.specs.List.{Contains, flat_map}
 use Rattle.std.specs.Option.{option_map}
 use Rattle.std.specs.declared.alloc.Global.{Global}
@@ -10,6 +10,7 @@ use Rattle.outside_traits.specs.View.{Counts}
 use Rattle.outside_traits.specs.Calls.{CountsTaken}
 use Rattle.catalog_types.specs.declared.snapshot.StreamState.{StreamState}
 use Rattle.folder.specs.State.{State, Stream, Extent, HasExtent, stream_of}
+use Rattle.folder.specs.Sound.{Care, Shown}
 use Rattle.folder.specs.declared.refusal.ReadRefusal.{ReadRefusal}
 use Rattle.folder.specs.declared.refusal.ReadRefusal.TheVariants.{Fault, Damaged, Unreadable, Memory}
 
@@ -37,8 +38,9 @@ HasStream s kept stream = Contains s.streams stream × (kept ≡ stream_of strea
 abbrev pub joined : Vec (List (List Value)) Global → List (List Value)
 joined lists = flat_map (λ rows. rows) lists.items
 
--- a file of the state shows damage: its bytes have another digest than the kept one
-pub record ShowsDamage (s : State) (file : ℕ) (kept found : Digest) : Type 0 where
+-- a file of the state shows damage: its bytes have another digest than the kept one; files that hold their bytes show none
+pub record ShowsDamage (care : Care) (s : State) (file : ℕ) (kept found : Digest) : Type 0 where
+  pub may : care ≡ Shown
   pub stream : Stream
   pub extent : Extent
   pub has : HasExtent s stream extent
@@ -46,12 +48,12 @@ pub record ShowsDamage (s : State) (file : ℕ) (kept found : Digest) : Type 0 w
   pub kept_is : kept ≡ extent.file.digest
   pub differs : found ≢ kept
 
--- what may end the reading of files of this state: never unreadable bytes
-abbrev pub IsReadEvent : State → ReadRefusal → Type 0
-IsReadEvent s Fault = ⊤
-IsReadEvent s (Damaged file kept found) = ShowsDamage s file kept found
-IsReadEvent s (Unreadable file at) = ⊥
-IsReadEvent s Memory = ⊤
+-- what may end the reading of files of this state: never unreadable bytes, and damage only where files may show it
+abbrev pub IsReadEvent : Care → State → ReadRefusal → Type 0
+IsReadEvent care s Fault = ⊤
+IsReadEvent care s (Damaged file kept found) = ShowsDamage care s file kept found
+IsReadEvent care s (Unreadable file at) = ⊥
+IsReadEvent care s Memory = ⊤
 
 -- On every store: a fault comes only where the count of failed looks rose, and nothing else raises it; damage comes only
 -- where the digests differ.
@@ -64,3 +66,7 @@ HasReadCause Memory old new = new.reads ≡ old.reads
 -- these bytes were taken; a call that reads no file counts nothing
 abbrev pub CountsRead : ℕ → Counts → Counts → Type 0
 CountsRead bytes old new = CountsTaken bytes old new ⊎ ((bytes ≡ 0) × (new.taken ≡ old.taken))
+
+-- at most so many bytes were taken
+abbrev pub TakesAtMost : ℕ → Counts → Counts → Type 0
+TakesAtMost bytes old new = new.taken ≤ old.taken + bytes

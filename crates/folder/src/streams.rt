@@ -1,19 +1,20 @@
 //! The rows of streams, read from their files.
-ghost use Rattle.std.specs.Prelude.{◌≡◌, ℕ, map, slice_get, sum_by, IsTrue, IfSome, IfOk, IfErr, IsErrOf};
+ghost use Rattle.std.specs.Prelude.{◌≡◌, ℕ, List, map, slice_get, sum_by, IsTrue, IfSome, IfOk, IfErr};
 ghost use Rattle.std.specs.Prelude.{OnOk};
+ghost use Rattle.std.specs.List.{Contains};
 ghost use Rattle.rows_core.specs.Schema.{kinds_of};
 ghost use Rattle.plan_core.specs.TypedRows.{HaveKinds, AreOfStreams};
 ghost use Rattle.catalog_core.specs.Programs.{kinds_of_streams};
-ghost use Rattle.rows_core.specs.declared.file_ref.Digest.{Digest};
 ghost use Rattle.outside_traits.specs.Calls.{MayRaiseReads};
 ghost use Rattle.outside_traits.specs.Runs.{Narrows};
 ghost use Rattle.catalog_core.specs.Catalogs.{table_of};
 ghost use Rattle.catalog_core.specs.Streams.{state_of, states_of};
 ghost use Rattle.folder.specs.State.{State, Stream, table};
-ghost use Rattle.folder.specs.Sound.{Care, Whole};
+ghost use Rattle.folder.specs.Sound.{Care};
 ghost use Rattle.folder.specs.Left.{IsLeft};
+ghost use Rattle.folder.specs.Causes.{IsOfStream, IsOfStreams};
 ghost use Rattle.folder.specs.StreamRows.{rows_of, rows_at, bytes_of, bytes_at, joined};
-ghost use Rattle.folder.specs.StreamRows.{HasStream, IsReadEvent, HasReadCause, CountsRead};
+ghost use Rattle.folder.specs.StreamRows.{HasStream, IsReadEvent, HasReadCause, CountsRead, TakesAtMost};
 ghost use Rattle.folder.specs.declared.refusal.ReadRefusal.TheVariants.{Memory};
 
 use crate::reading::read_extent;
@@ -43,9 +44,10 @@ impl<T: Drop> From<AllocFailed<T>> for ReadRefusal {
 /// The rows of the extents of the streams with these numbers, for each number from the left the extents of
 /// its stream in the order of appending, each read from its file; a number without a stream has none. Where
 /// the files are a state's these are its rows, and the bytes of its files are taken, each as often as it is
-/// read. Reading ends at the first file that isn't read: `Fault` comes only where the store failed, `Damaged`
-/// only where a file's bytes haven't the kept digest, and `Unreadable` never on files of a state. On every
-/// store the rows have the kinds of their stream's columns.
+/// read, and never more. Reading ends at the first file that isn't read: `Fault` comes only where the store
+/// failed, `Damaged` only where a file's bytes haven't the kept digest, so never where the files hold their
+/// bytes, and `Unreadable` never on files of a state; where the store tells its files both are shown by the
+/// bytes of a file that is read. On every store the rows have the kinds of their stream's columns.
 pub fn read_streams<D: Store>(
     alloc: Global,
     store: &mut D,
@@ -60,11 +62,13 @@ pub fn read_streams<D: Store>(
     ensures taken { IsTrue D.tells → (care : Care) (s : State) → IsLeft care (D.view store.old) s s
         → table_of catalog.now ≡ table s → OnOk result
         (CountsRead (sum_by (bytes_at s.streams) numbers.now) (D.counts store.old) (D.counts store.new)) }
+    ensures most { IsTrue D.tells → (care : Care) (s : State) → IsLeft care (D.view store.old) s s
+        → table_of catalog.now ≡ table s
+        → TakesAtMost (sum_by (bytes_at s.streams) numbers.now) (D.counts store.old) (D.counts store.new) }
     ensures event { IsTrue D.tells → (care : Care) (s : State) → IsLeft care (D.view store.old) s s
-        → table_of catalog.now ≡ table s → IfErr result (IsReadEvent s) }
-    ensures undamaged { IsTrue D.tells → (s : State) → IsLeft Whole (D.view store.old) s s
-        → table_of catalog.now ≡ table s → (file : ℕ) (kept found : Digest)
-        → IsErrOf result (ReadRefusal.Damaged file kept found) → ⊥ }
+        → table_of catalog.now ≡ table s → IfErr result (IsReadEvent care s) }
+    ensures found { IsTrue D.tells → IfErr result (IsOfStreams (table_of catalog.now).streams numbers.now
+        (D.view store.old).files) }
     ensures cause { IfErr result (λ why. HasReadCause why (D.counts store.old) (D.counts store.new)) }
     ensures no_fault { OnOk result ((D.counts store.new).reads ≡ (D.counts store.old).reads) }
     ensures narrows { Narrows (D.view store.old) (D.view store.new) }
@@ -94,11 +98,13 @@ fn read_at<D: Store>(
     ensures taken { IsTrue D.tells → (care : Care) (s : State) → IsLeft care (D.view store.old) s s
         → states_of streams.now ≡ (table s).streams → OnOk result
         (CountsRead (bytes_at s.streams number) (D.counts store.old) (D.counts store.new)) }
+    ensures most { IsTrue D.tells → (care : Care) (s : State) → IsLeft care (D.view store.old) s s
+        → states_of streams.now ≡ (table s).streams
+        → TakesAtMost (bytes_at s.streams number) (D.counts store.old) (D.counts store.new) }
     ensures event { IsTrue D.tells → (care : Care) (s : State) → IsLeft care (D.view store.old) s s
-        → states_of streams.now ≡ (table s).streams → IfErr result (IsReadEvent s) }
-    ensures undamaged { IsTrue D.tells → (s : State) → IsLeft Whole (D.view store.old) s s
-        → states_of streams.now ≡ (table s).streams → (file : ℕ) (kept found : Digest)
-        → IsErrOf result (ReadRefusal.Damaged file kept found) → ⊥ }
+        → states_of streams.now ≡ (table s).streams → IfErr result (IsReadEvent care s) }
+    ensures found { IsTrue D.tells → IfErr result (λ why. (numbers : List ℕ) → Contains numbers number
+        → IsOfStreams (states_of streams.now) numbers (D.view store.old).files why) }
     ensures cause { IfErr result (λ why. HasReadCause why (D.counts store.old) (D.counts store.new)) }
     ensures no_fault { OnOk result ((D.counts store.new).reads ≡ (D.counts store.old).reads) }
     ensures narrows { Narrows (D.view store.old) (D.view store.new) }
@@ -124,13 +130,14 @@ fn read_stream<D: Store>(
     ensures taken { IsTrue D.tells → (care : Care) (s : State) (x : Stream)
         → IsLeft care (D.view store.old) s s → HasStream s (state_of stream.now) x
         → OnOk result (CountsRead (bytes_of x) (D.counts store.old) (D.counts store.new)) }
+    ensures most { IsTrue D.tells → (care : Care) (s : State) (x : Stream)
+        → IsLeft care (D.view store.old) s s → HasStream s (state_of stream.now) x
+        → TakesAtMost (bytes_of x) (D.counts store.old) (D.counts store.new) }
     ensures event { IsTrue D.tells → (care : Care) (s : State) (x : Stream)
         → IsLeft care (D.view store.old) s s → HasStream s (state_of stream.now) x
-        → IfErr result (IsReadEvent s) }
-    ensures undamaged { IsTrue D.tells → (s : State) (x : Stream)
-        → IsLeft Whole (D.view store.old) s s → HasStream s (state_of stream.now) x
-        → (file : ℕ) (kept found : Digest)
-        → IsErrOf result (ReadRefusal.Damaged file kept found) → ⊥ }
+        → IfErr result (IsReadEvent care s) }
+    ensures found { IsTrue D.tells → IfErr result (IsOfStream (state_of stream.now)
+        (D.view store.old).files) }
     ensures cause { IfErr result (λ why. HasReadCause why (D.counts store.old) (D.counts store.new)) }
     ensures no_fault { OnOk result ((D.counts store.new).reads ≡ (D.counts store.old).reads) }
     ensures narrows { Narrows (D.view store.old) (D.view store.new) }

@@ -27,7 +27,7 @@ module _ (care : Care) (start : State) where
   }
 
   -- the state after some of them
-  prefix_here : (commands : List Item) (answers : List Answer) (cs : List Item) (more : List Answer) (s : State) (image : ℕ → List ℕ) → Run start commands answers s → IsSound care image s → IsOfPrefix care start (commands ++ cs) (answers ++ more) image
+  prefix_here : (commands : List Item) (answers : List Answer) (cs : List Item) (more : List Answer) (s : State) (image : ℕ → List ℕ) → Run care start commands answers s → IsSound care image s → IsOfPrefix care start (commands ++ cs) (answers ++ more) image
   prefix_here commands answers cs more s image run sound = record {
     before = commands;
     behind = cs;
@@ -41,7 +41,7 @@ module _ (care : Care) (start : State) where
   }
 
   -- and after all
-  prefix_all : (commands : List Item) (answers : List Answer) (s : State) (image : ℕ → List ℕ) → Run start commands answers s → IsSound care image s → IsOfPrefix care start commands answers image
+  prefix_all : (commands : List Item) (answers : List Answer) (s : State) (image : ℕ → List ℕ) → Run care start commands answers s → IsSound care image s → IsOfPrefix care start commands answers image
   prefix_all commands answers s image run sound = record {
     before = commands;
     behind = [];
@@ -64,7 +64,7 @@ reaches_loaded found u v since =
     ])
 
 -- one command more, from s to s', of which the machine may give this answer
-pub reaches_on : (found : Found) (u v w : View) (commands : List Item) (answers : List Answer) (c : Item) (a : Answer) (s s' : State) → Run found.first commands answers s → Run found.first (commands ++ c ∷ []) (answers ++ a ∷ []) s'
+pub reaches_on : (found : Found) (u v w : View) (commands : List Item) (answers : List Answer) (c : Item) (a : Answer) (s s' : State) → Run found.care found.first commands answers s → Run found.care found.first (commands ++ c ∷ []) (answers ++ a ∷ []) s'
     → Reaches found commands answers u v → Since found.care s s' v w → Reaches found (commands ++ c ∷ []) (answers ++ a ∷ []) u w
 reaches_on found u v w commands answers c a s s' run run' before since =
     let Q : (ℕ → List ℕ) → Type 0 = IsReached found (commands ++ c ∷ []) (answers ++ a ∷ []) in

@@ -1,5 +1,7 @@
 pub mod CauseLemmas
+pub mod CompleteLemmas
 pub mod CrashLemmas
+pub mod FaultLemmas
 pub mod LoadingLemmas
 pub mod ProgressLemmas
 pub mod SendingLemmas

@@ -6,27 +6,27 @@ use Rattle.script_text.specs.declared.lines.Lines.{Lines}
 use Rattle.script_text.proofs.TakeLemmas.{taken_next, rest_is}
 use Rattle.session.specs.declared.session.Session.{Session}
 use Rattle.nectar_top.specs.Crash.{Found}
-use Rattle.nectar_top.specs.Outside.{Outside, with_sink, faults, NoneFell}
+use Rattle.nectar_top.specs.Outside.{Outside, with_answer, faults, NoneFell}
 use Rattle.nectar_top.specs.Run.{longest_script}
 use Rattle.nectar_top.specs.Turns.{Serving, Ends, HasCause}
 use Rattle.nectar_top.specs.declared.exit.Exit.{Exit}
 use Rattle.nectar_top.proofs.CauseLemmas.{none_fell, none_fell_on, caused_since}
 
 -- where the first session serves so many of these bytes first, the second one is left with the others
-abbrev pub Serves : Found → View → Lines → Session → Option (List ℕ) → View → List ℕ → Lines → Session → Option (List ℕ) → View → List ℕ → List ℕ → Type 0
-Serves found u r0 s0 w0 v0 piece r1 s1 w1 v1 more rest =
-    (served : List ℕ) (begun before : Outside) → Serving found u v0 r0 s0 served piece begun (with_sink before w0) → Serving found u v1 r1 s1 (served ++ more) rest begun (with_sink before w1)
+abbrev pub Serves : Found → View → Lines → Session → Option (List ℕ) → View → Counts → List ℕ → Lines → Session → Option (List ℕ) → View → Counts → List ℕ → List ℕ → Type 0
+Serves found u r0 s0 w0 v0 c0 piece r1 s1 w1 v1 c1 more rest =
+    (served : List ℕ) (begun before : Outside) → Serving found u v0 r0 s0 served piece begun (with_answer before w0 c0) → Serving found u v1 r1 s1 (served ++ more) rest begun (with_answer before w1 c1)
 
 -- so many bytes of the piece were taken, over a store of this type
 pub record TakenSoFar (D : Type 0) (view : D → View) (tells : Bool) (r0 r1 : Lines) (s0 s1 : Session) (w0 w1 : Option (List ℕ)) (v0 v1 : View) (f0 f1 : ℕ) (c0 c1 : Counts) (piece : List ℕ) (at : ℕ) : Type 0 where
   pub bound : at ≤ length piece
-  pub serving : IsTrue tells → (found : Found) (origin : D) → Serves found (view origin) r0 s0 w0 v0 piece r1 s1 w1 v1 (take at piece) (drop at piece)
+  pub serving : IsTrue tells → (found : Found) (origin : D) → Serves found (view origin) r0 s0 w0 v0 c0 piece r1 s1 w1 v1 c1 (take at piece) (drop at piece)
   pub counts : (source : ℕ) → NoneFell (faults source f0 c0) (faults source f1 c1)
 
 pub TakenSoFar-none : (D : Type 0) (view : D → View) (tells : Bool) (reader : Lines) (session : Session) (written : Option (List ℕ)) (v : View) (f : ℕ) (c : Counts) (piece : List ℕ) → TakenSoFar D view tells reader reader session session written written v v f f c c piece 0
 TakenSoFar-none D view tells reader session written v f c piece = record {
   bound = omega arith;
-  serving = λ told found origin served begun before at. subst (λ t. Serving found (view origin) v reader session t piece begun (with_sink before written)) (sym (append-nil served)) at;
+  serving = λ told found origin served begun before at. subst (λ t. Serving found (view origin) v reader session t piece begun (with_answer before written c)) (sym (append-nil served)) at;
   counts = λ source. none_fell (faults source f c);
 }
 
@@ -36,22 +36,22 @@ module _ (D : Type 0) (view : D → View) (tells : Bool) (r0 r1 : Lines) (s0 s1 
   part = take (length piece - at) (drop at piece)
 
   -- what is served of the piece, with its rest as the code cuts it
-  at_part : IsTrue tells → (found : Found) (origin : D) (served : List ℕ) (begun before : Outside) → Serving found (view origin) v0 r0 s0 served piece begun (with_sink before w0)
-      → Serving found (view origin) v1 r1 s1 (served ++ take at piece) part begun (with_sink before w1)
+  at_part : IsTrue tells → (found : Found) (origin : D) (served : List ℕ) (begun before : Outside) → Serving found (view origin) v0 r0 s0 served piece begun (with_answer before w0 c0)
+      → Serving found (view origin) v1 r1 s1 (served ++ take at piece) part begun (with_answer before w1 c1)
   at_part told found origin served begun before serving =
-      subst (λ rest. Serving found (view origin) v1 r1 s1 (served ++ take at piece) rest begun (with_sink before w1)) (sym (rest_is piece at)) (so_far.serving told found origin served begun before serving)
+      subst (λ rest. Serving found (view origin) v1 r1 s1 (served ++ take at piece) rest begun (with_answer before w1 c1)) (sym (rest_is piece at)) (so_far.serving told found origin served begun before serving)
 
   rest_next : (count : ℕ) → drop count part ≡ drop (at + count) piece
   rest_next count = ap (drop count) (rest_is piece at) ∙ drop-drop count at piece
 
   pub TakenSoFar-more : (r2 : Lines) (s2 : Session) (w2 : Option (List ℕ)) (v2 : View) (f2 : ℕ) (c2 : Counts) (count : ℕ) → count ≤ length part
-      → (IsTrue tells → (found : Found) (origin : D) → Serves found (view origin) r1 s1 w1 v1 part r2 s2 w2 v2 (take count part) (drop count part))
+      → (IsTrue tells → (found : Found) (origin : D) → Serves found (view origin) r1 s1 w1 v1 c1 part r2 s2 w2 v2 c2 (take count part) (drop count part))
       → ((source : ℕ) → NoneFell (faults source f1 c1) (faults source f2 c2)) → TakenSoFar D view tells r0 r2 s0 s2 w0 w2 v0 v2 f0 f2 c0 c2 piece (at + count)
   TakenSoFar-more r2 s2 w2 v2 f2 c2 count fits serves counts = record {
     bound = omega (arith, fits, so_far.bound, length-take (length piece - at) (drop at piece), length-drop at piece);
     serving = λ told found origin served begun before serving.
-        subst (λ rest. Serving found (view origin) v2 r2 s2 (served ++ take (at + count) piece) rest begun (with_sink before w2)) (rest_next count)
-        (subst (λ t. Serving found (view origin) v2 r2 s2 t (drop count part) begun (with_sink before w2)) (append_assoc served (take at piece) (take count part) ∙ ap (λ t. served ++ t) (taken_next piece at count))
+        subst (λ rest. Serving found (view origin) v2 r2 s2 (served ++ take (at + count) piece) rest begun (with_answer before w2 c2)) (rest_next count)
+        (subst (λ t. Serving found (view origin) v2 r2 s2 t (drop count part) begun (with_answer before w2 c2)) (append_assoc served (take at piece) (take count part) ∙ ap (λ t. served ++ t) (taken_next piece at count))
         (serves told found origin (served ++ take at piece) begun before (at_part told found origin served begun before serving)));
     counts = λ source. none_fell_on (faults source f0 c0) (faults source f1 c1) (faults source f2 c2) (so_far.counts source) (counts source);
   }
@@ -60,17 +60,17 @@ module _ (D : Type 0) (view : D → View) (tells : Bool) (r0 r1 : Lines) (s0 s1 
   whole : (served : List ℕ) → (served ++ take at piece) ++ part ≡ served ++ piece
   whole served = append_assoc served (take at piece) part ∙ ap (λ t. served ++ t) (ap (λ t. take at piece ++ t) (rest_is piece at) ∙ take-append-drop at piece)
 
-  pub Ends-more : (exit : Exit) (w2 : Option (List ℕ)) (v2 : View)
-      → (IsTrue tells → (found : Found) (origin : D) (served : List ℕ) (begun before : Outside) → Serving found (view origin) v1 r1 s1 served part begun (with_sink before w1) → length (served ++ part) ≤ longest_script → Ends found (view origin) v2 exit begun (with_sink before w2))
-      → IsTrue tells → (found : Found) (origin : D) (served : List ℕ) (begun before : Outside) → Serving found (view origin) v0 r0 s0 served piece begun (with_sink before w0) → length (served ++ piece) ≤ longest_script → Ends found (view origin) v2 exit begun (with_sink before w2)
-  Ends-more exit w2 v2 ends told found origin served begun before serving within =
+  pub Ends-more : (exit : Exit) (w2 : Option (List ℕ)) (v2 : View) (c2 : Counts)
+      → (IsTrue tells → (found : Found) (origin : D) (served : List ℕ) (begun before : Outside) → Serving found (view origin) v1 r1 s1 served part begun (with_answer before w1 c1) → length (served ++ part) ≤ longest_script → Ends found (view origin) v2 exit begun (with_answer before w2 c2))
+      → IsTrue tells → (found : Found) (origin : D) (served : List ℕ) (begun before : Outside) → Serving found (view origin) v0 r0 s0 served piece begun (with_answer before w0 c0) → length (served ++ piece) ≤ longest_script → Ends found (view origin) v2 exit begun (with_answer before w2 c2)
+  Ends-more exit w2 v2 c2 ends told found origin served begun before serving within =
       ends told found origin (served ++ take at piece) begun before (at_part told found origin served begun before serving) (omega (arith, within, ap length (whole served)))
 
   pub HasCause-more : (exit : Exit) (f2 : ℕ) (c2 : Counts) → ((source : ℕ) → HasCause exit (faults source f1 c1) (faults source f2 c2)) → (source : ℕ) → HasCause exit (faults source f0 c0) (faults source f2 c2)
   HasCause-more exit f2 c2 cause source = caused_since exit (faults source f0 c0) (faults source f1 c1) (faults source f2 c2) (so_far.counts source) (cause source)
 
   -- all of the piece is served
-  pub Serves-all : length piece ≤ at → IsTrue tells → (found : Found) (origin : D) → Serves found (view origin) r0 s0 w0 v0 piece r1 s1 w1 v1 piece []
+  pub Serves-all : length piece ≤ at → IsTrue tells → (found : Found) (origin : D) → Serves found (view origin) r0 s0 w0 v0 c0 piece r1 s1 w1 v1 c1 piece []
   Serves-all all told found origin served begun before serving =
-      subst (λ rest. Serving found (view origin) v1 r1 s1 (served ++ piece) rest begun (with_sink before w1)) (drop_all at piece all)
-      (subst (λ t. Serving found (view origin) v1 r1 s1 (served ++ t) (drop at piece) begun (with_sink before w1)) (take_all at piece all) (so_far.serving told found origin served begun before serving))
+      subst (λ rest. Serving found (view origin) v1 r1 s1 (served ++ piece) rest begun (with_answer before w1 c1)) (drop_all at piece all)
+      (subst (λ t. Serving found (view origin) v1 r1 s1 (served ++ t) (drop at piece) begun (with_answer before w1 c1)) (take_all at piece all) (so_far.serving told found origin served begun before serving))

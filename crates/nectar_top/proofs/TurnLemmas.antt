@@ -10,7 +10,7 @@ use Rattle.script_text.specs.declared.item.Item.{Item}
 use Rattle.script_text.specs.declared.lines.Lines.{Lines}
 use Rattle.session.specs.declared.session.Session.{Session}
 use Rattle.nectar_top.specs.Crash.{Found}
-use Rattle.nectar_top.specs.Outside.{Outside, shown, with_sink, Faults, NoneFell}
+use Rattle.nectar_top.specs.Outside.{Outside, shown, with_answer, Faults, NoneFell}
 use Rattle.nectar_top.specs.Progress.{Progress, Sends, Fails}
 use Rattle.nectar_top.specs.Run.{longest_script, Answered, AnsweredInPart, BrokenOff}
 use Rattle.nectar_top.specs.Turns.{Serving, Ends, HasCause}
@@ -32,15 +32,17 @@ one_byte (x ∷ []) e = refl
 one_byte (x ∷ y ∷ more) e = absurd (omega (arith, e))
 
 -- nothing was read
-pub Serving-new : (found : Found) (u v : View) (reader : Lines) (session : Session) (begun : Outside) → Progress found u v reader session [] begun begun → Serving found u v reader session [] [] begun begun
-Serving-new found u v reader session begun progress = record { consumed = Consumes-nil begun.left; progress = progress }
+pub Serving-new : (found : Found) (u v : View) (reader : Lines) (session : Session) (left written : Option (List ℕ)) (old new : Counts) → Progress found u v reader session [] (shown left written old) (shown left written new)
+    → Serving found u v reader session [] [] (shown left written old) (shown left written new)
+Serving-new found u v reader session left written old new progress = record { consumed = Consumes-nil left; progress = progress }
 
 -- what is answered, and how far the run has come, does not speak of the source
-Answered-beside : (found : Found) (u v : View) (commands : List Item) (begun : Outside) (left left' written : Option (List ℕ)) → Answered found u v commands begun (shown left written) → Answered found u v commands begun (shown left' written)
-Answered-beside found u v commands begun left left' written a = record { answers = a.answers; state = a.state; run = a.run; wrote = a.wrote; left = a.left; since = a.since }
+Answered-beside : (found : Found) (u v : View) (commands : List Item) (begun : Outside) (left left' written : Option (List ℕ)) (counts : Counts) → Answered found u v commands begun (shown left written counts) → Answered found u v commands begun (shown left' written counts)
+Answered-beside found u v commands begun left left' written counts a = record { answers = a.answers; state = a.state; run = a.run; wrote = a.wrote; faults = a.faults; left = a.left; since = a.since }
 
-Progress-beside : (found : Found) (u v : View) (reader : Lines) (session : Session) (taken : List ℕ) (begun : Outside) (left left' written : Option (List ℕ)) → Progress found u v reader session taken begun (shown left written) → Progress found u v reader session taken begun (shown left' written)
-Progress-beside found u v reader session taken begun left left' written p = record {
+Progress-beside : (found : Found) (u v : View) (reader : Lines) (session : Session) (taken : List ℕ) (begun : Outside) (left left' written : Option (List ℕ)) (counts : Counts) → Progress found u v reader session taken begun (shown left written counts)
+    → Progress found u v reader session taken begun (shown left' written counts)
+Progress-beside found u v reader session taken begun left left' written counts p = record {
   done = p.done;
   part = p.part;
   commands = p.commands;
@@ -54,35 +56,36 @@ Progress-beside found u v reader session taken begun left left' written p = reco
   since = p.since;
   reads = p.reads;
   wrote = p.wrote;
+  faults = p.faults;
 }
 
 -- a read of the source, where all that came is served
-module _ (found : Found) (u v : View) (reader : Lines) (session : Session) (served : List ℕ) (begun : Outside) (left written : Option (List ℕ)) (at : Serving found u v reader session served [] begun (shown left written)) where
+module _ (found : Found) (u v : View) (reader : Lines) (session : Session) (served : List ℕ) (begun : Outside) (left written : Option (List ℕ)) (counts : Counts) (at : Serving found u v reader session served [] begun (shown left written counts)) where
   all : Consumes begun.left left served
   all = subst (Consumes begun.left left) (append-nil served) at.consumed
 
   -- more came
-  pub Serving-read : (left' : Option (List ℕ)) (piece : List ℕ) → Consumes left left' piece → Serving found u v reader session served piece begun (shown left' written)
+  pub Serving-read : (left' : Option (List ℕ)) (piece : List ℕ) → Consumes left left' piece → Serving found u v reader session served piece begun (shown left' written counts)
   Serving-read left' piece consumed = record {
     consumed = Consumes-trans begun.left left left' served piece all consumed;
-    progress = Progress-beside found u v reader session served begun left left' written at.progress;
+    progress = Progress-beside found u v reader session served begun left left' written counts at.progress;
   }
 
-  pub Ends-read : (left' : Option (List ℕ)) → length served ≤ longest_script → KeepsOrForgets left left' → Ends found u v exit.SourceFault begun (shown left' written)
+  pub Ends-read : (left' : Option (List ℕ)) → length served ≤ longest_script → KeepsOrForgets left left' → Ends found u v exit.SourceFault begun (shown left' written counts)
   Ends-read left' within kept = record {
     taken = served;
     took = Takes-failed begun.left left left' served all kept;
     within = within;
-    answered = Answered-beside found u v (items served) begun left left' written (Answered-taken found u v reader session served begun _ at.progress);
+    answered = Answered-beside found u v (items served) begun left left' written counts (Answered-taken found u v reader session served begun _ at.progress);
   }
 
-  pub Ends-too_long : (left' : Option (List ℕ)) (bytes : List ℕ) → length served ≡ longest_script → length bytes ≡ 1 → Consumes left left' bytes → Ends found u v exit.ScriptLimit begun (shown left' written)
+  pub Ends-too_long : (left' : Option (List ℕ)) (bytes : List ℕ) → length served ≡ longest_script → length bytes ≡ 1 → Consumes left left' bytes → Ends found u v exit.ScriptLimit begun (shown left' written counts)
   Ends-too_long left' bytes full one consumed = record {
     taken = served;
     byte = get_or bytes 0 0;
     took = subst (λ b. Consumes begun.left left' (served ++ b)) (one_byte bytes one) (Consumes-trans begun.left left left' served bytes all consumed);
     full = full;
-    answered = Answered-beside found u v (items served) begun left left' written (Answered-taken found u v reader session served begun _ at.progress);
+    answered = Answered-beside found u v (items served) begun left left' written counts (Answered-taken found u v reader session served begun _ at.progress);
   }
 
 -- the server takes some of what came
@@ -96,11 +99,11 @@ module _ (found : Found) (u v : View) (reader : Lines) (session : Session) (serv
 
   module _ (w : View) (count : ℕ) (given : Item) (ended : Completes (at.progress.part ++ take count rest) given) where
     -- a command ended, and was answered
-    pub Serving-command : (reader' : Lines) (session' : Session) (written' : Option (List ℕ)) → Stands reader' [] → Sends found.care v w at.progress.state given session' now (with_sink now written')
-        → Serving found u w reader' session' (served ++ take count rest) (drop count rest) begun (with_sink now written')
-    Serving-command reader' session' written' reads sent = record {
+    pub Serving-command : (reader' : Lines) (session' : Session) (written' : Option (List ℕ)) (counts' : Counts) → Stands reader' [] → Sends found.care v w at.progress.state given session' now (with_answer now written' counts')
+        → Serving found u w reader' session' (served ++ take count rest) (drop count rest) begun (with_answer now written' counts')
+    Serving-command reader' session' written' counts' reads sent = record {
       consumed = parted count;
-      progress = Progress-command found u v reader session served begun now at.progress (take count rest) given ended w reader' session' (with_sink now written') reads sent;
+      progress = Progress-command found u v reader session served begun now at.progress (take count rest) given ended w reader' session' (with_answer now written' counts') reads sent;
     }
 
     -- the bytes of what was served and the rest
@@ -108,20 +111,20 @@ module _ (found : Found) (u v : View) (reader : Lines) (session : Session) (serv
     whole = append_assoc served (take count rest) (drop count rest) ∙ ap (λ t. served ++ t) (take-append-drop count rest)
 
     -- a command ended, and the run with it
-    pub Ends-command : (exit : Exit) (written' : Option (List ℕ)) → length (served ++ rest) ≤ longest_script → Fails exit found.care v w at.progress.state given now (with_sink now written') → Ends found u w exit begun (with_sink now written')
-    Ends-command exit.SinkFault written' within sent = record {
+    pub Ends-command : (exit : Exit) (written' : Option (List ℕ)) (counts' : Counts) → length (served ++ rest) ≤ longest_script → Fails exit found.care v w at.progress.state given now (with_answer now written' counts') → Ends found u w exit begun (with_answer now written' counts')
+    Ends-command exit.SinkFault written' counts' within sent = record {
       taken = served ++ rest;
       took = at.consumed;
       within = within;
-      answered = inl (subst (λ t. AnsweredInPart found u w (items t) begun (with_sink now written')) whole (AnsweredInPart-command found u v reader session served begun now at.progress (take count rest) given ended w (with_sink now written') (drop count rest) sent));
+      answered = inl (subst (λ t. AnsweredInPart found u w (items t) begun (with_answer now written' counts')) whole (AnsweredInPart-command found u v reader session served begun now at.progress (take count rest) given ended w (with_answer now written' counts') (drop count rest) sent));
     }
-    Ends-command exit.StoreFault written' within broke = record {
+    Ends-command exit.StoreFault written' counts' within broke = record {
       taken = served ++ rest;
       took = at.consumed;
       within = within;
-      answered = inl (subst (λ t. BrokenOff found u w (items t) begun (with_sink now written')) whole (BrokenOff-command found u v reader session served begun now at.progress (take count rest) given ended w (with_sink now written') (drop count rest) broke));
+      answered = inl (subst (λ t. BrokenOff found u w (items t) begun (with_answer now written' counts')) whole (BrokenOff-command found u v reader session served begun now at.progress (take count rest) given ended w (with_answer now written' counts') (drop count rest) broke));
     }
-    Ends-command _ written' within failed = absurd failed
+    Ends-command _ written' counts' within failed = absurd failed
 
 -- the script ends, and all of it is served
 module _ (found : Found) (u v : View) (reader : Lines) (session : Session) (served : List ℕ) (begun now : Outside) (at : Serving found u v reader session served [] begun now) (at_end : IsAtEnd now.left) (within : length served ≤ longest_script) where
@@ -132,35 +135,35 @@ module _ (found : Found) (u v : View) (reader : Lines) (session : Session) (serv
   Ends-none none = record { input = served; took = taken_all; at_end = at_end; within = within; answered = Answered-end found u v reader session served begun now at.progress none }
 
   module _ (w : View) (given : Item) (last : (before : List ℕ) → Stands reader before → (spelled : Item) × Given spelled given × (all_items before ≡ spelled ∷ [])) where
-    pub Ends-last : (session' : Session) (written' : Option (List ℕ)) → Sends found.care v w at.progress.state given session' now (with_sink now written') → Ends found u w exit.Done begun (with_sink now written')
-    Ends-last session' written' sent = record {
+    pub Ends-last : (session' : Session) (written' : Option (List ℕ)) (counts' : Counts) → Sends found.care v w at.progress.state given session' now (with_answer now written' counts') → Ends found u w exit.Done begun (with_answer now written' counts')
+    Ends-last session' written' counts' sent = record {
       input = served;
       took = taken_all;
       at_end = at_end;
       within = within;
-      answered = Answered-last found u v reader session served begun now at.progress given last w session' (with_sink now written') sent;
+      answered = Answered-last found u v reader session served begun now at.progress given last w session' (with_answer now written' counts') sent;
     }
 
-    pub Ends-last-failed : (exit : Exit) (written' : Option (List ℕ)) → Fails exit found.care v w at.progress.state given now (with_sink now written') → Ends found u w exit begun (with_sink now written')
-    Ends-last-failed exit.SinkFault written' sent = record {
+    pub Ends-last-failed : (exit : Exit) (written' : Option (List ℕ)) (counts' : Counts) → Fails exit found.care v w at.progress.state given now (with_answer now written' counts') → Ends found u w exit begun (with_answer now written' counts')
+    Ends-last-failed exit.SinkFault written' counts' sent = record {
       taken = served;
       took = taken_all;
       within = within;
-      answered = inr (at_end, AnsweredInPart-last found u v reader session served begun now at.progress given last w (with_sink now written') sent);
+      answered = inr (at_end, AnsweredInPart-last found u v reader session served begun now at.progress given last w (with_answer now written' counts') sent);
     }
-    Ends-last-failed exit.StoreFault written' broke = record {
+    Ends-last-failed exit.StoreFault written' counts' broke = record {
       taken = served;
       took = taken_all;
       within = within;
-      answered = inr (at_end, BrokenOff-last found u v reader session served begun now at.progress given last w (with_sink now written') broke);
+      answered = inr (at_end, BrokenOff-last found u v reader session served begun now at.progress given last w (with_answer now written' counts') broke);
     }
-    Ends-last-failed _ written' failed = absurd failed
+    Ends-last-failed _ written' counts' failed = absurd failed
 
 -- so many bytes were taken, at least one a turn, over a store of this type
-pub record ReadSoFar (D : Type 0) (view : D → View) (tells : Bool) (r0 r1 : Lines) (s0 s1 : Session) (v0 v1 : View) (begun now : Outside) (f0 f1 : Faults) (count turn : ℕ) : Type 0 where
+pub record ReadSoFar (D : Type 0) (view : D → View) (tells : Bool) (r0 r1 : Lines) (s0 s1 : Session) (v0 v1 : View) (start now : Outside) (f0 f1 : Faults) (count turn : ℕ) : Type 0 where
   pub within : count ≤ longest_script
   pub turns : turn ≤ count
-  pub serving : IsTrue tells → (found : Found) (origin : D) → Serving found (view origin) v0 r0 s0 [] [] begun begun → (served : List ℕ) × (length served ≡ count) × Serving found (view origin) v1 r1 s1 served [] begun now
+  pub serving : IsTrue tells → (found : Found) (origin : D) (begun : Outside) → Serving found (view origin) v0 r0 s0 [] [] begun start → (served : List ℕ) × (length served ≡ count) × Serving found (view origin) v1 r1 s1 served [] begun now
   pub counts : NoneFell f0 f1
 
 -- what stands at the exit that came

@@ -4,7 +4,7 @@ use Rattle.outside_traits.specs.View.{View}
 use Rattle.outside_traits.specs.Runs.{Spans}
 use Rattle.script_text.specs.declared.answer.Answer.{Answer}
 use Rattle.script_text.specs.declared.item.Item.{Item}
-use Rattle.folder.specs.Sound.{Care, IsSound}
+use Rattle.folder.specs.Sound.{Care, Whole, IsSound}
 use Rattle.folder.specs.State.{State}
 use Rattle.folder.specs.Left.{Everything}
 use Rattle.nectar_top.specs.Machine.{Run}
@@ -16,6 +16,10 @@ pub record Found : Type 0 where
   pub first : State
   pub other : State
 
+-- a folder of one state, whose files hold their bytes
+abbrev pub intact : State → Found
+intact s = record { care = Whole; first = s; other = s }
+
 -- The image is that of a state after a prefix of these commands, which has these answers in front.
 pub record IsOfPrefix (care : Care) (start : State) (commands : List Item) (answers : List Answer) (image : ℕ → List ℕ) : Type 0 where
   pub before : List Item
@@ -25,7 +29,7 @@ pub record IsOfPrefix (care : Care) (start : State) (commands : List Item) (answ
   pub others : List Answer
   pub answers_are : answers ≡ given ++ others
   pub state : State
-  pub run : Run start before given state
+  pub run : Run care start before given state
   pub sound : IsSound care image state
 
 -- the image is that of the other state that was found, or of one after a prefix

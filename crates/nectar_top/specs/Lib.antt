@@ -7,3 +7,4 @@ pub mod Run
 pub mod Sending
 pub mod Turns
 pub mod Words
+pub mod Refusals

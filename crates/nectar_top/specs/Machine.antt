@@ -5,20 +5,21 @@ use Rattle.script_text.specs.declared.answer.Answer.{Answer}
 use Rattle.script_text.specs.declared.item.Item.{Item}
 use Rattle.script_text.specs.declared.item.Item.TheVariants as item
 use Rattle.script_text.specs.declared.answer.Refusal.TheVariants.{Memory}
+use Rattle.folder.specs.Sound.{Care}
 use Rattle.folder.specs.State.{State}
 use Rattle.session.specs.Machine as session
 
--- one step
-abbrev pub Step : State → Item → Answer → State → Type 0
-Step old (item.Command command) answer new = session.Step old command answer new
-Step old (item.Refused why) answer new = (session.outcome answer new ≡ session.refused old why) ⊎ (session.outcome answer new ≡ session.refused old Memory)
+-- one step over files of which so much is known
+abbrev pub Step : Care → State → Item → Answer → State → Type 0
+Step care old (item.Command command) answer new = session.Step care old command answer new
+Step care old (item.Refused why) answer new = (session.outcome answer new ≡ session.refused old why) ⊎ (session.outcome answer new ≡ session.refused old Memory)
 
 -- the machine may give these answers to these commands, one step after another
-abbrev pub Run : State → List Item → List Answer → State → Type 0
-Run old [] [] new = new ≡ old
-Run old (command ∷ commands) (answer ∷ answers) new = (mid : State) × Step old command answer mid × Run mid commands answers new
-Run old [] (answer ∷ answers) new = ⊥
-Run old (command ∷ commands) [] new = ⊥
+abbrev pub Run : Care → State → List Item → List Answer → State → Type 0
+Run care old [] [] new = new ≡ old
+Run care old (command ∷ commands) (answer ∷ answers) new = (mid : State) × Step care old command answer mid × Run care mid commands answers new
+Run care old [] (answer ∷ answers) new = ⊥
+Run care old (command ∷ commands) [] new = ⊥
 
 -- the text of answers, one after another
 abbrev pub texts_of : List Answer → List ℕ

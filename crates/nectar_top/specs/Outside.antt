@@ -1,19 +1,21 @@
 -- What the program works on shows of itself.
 use Rattle.std.specs.Prelude.{ℕ, ◌≤◌, List, Option}
+use Rattle.outside_traits.specs.Counts.{Rose}
 use Rattle.outside_traits.specs.View.{Counts}
 use Rattle.outside_traits.specs.Calls.{Rises}
 
--- what the source has left and the sink has written, where they tell it
+-- what the source has left and the sink has written, where they tell it, and the store's counts
 pub record Outside : Type 0 where
   pub left : Option (List ℕ)
   pub written : Option (List ℕ)
+  pub counts : Counts
 
-abbrev pub shown : Option (List ℕ) → Option (List ℕ) → Outside
-shown left written = record { left = left; written = written }
+abbrev pub shown : Option (List ℕ) → Option (List ℕ) → Counts → Outside
+shown left written counts = record { left = left; written = written; counts = counts }
 
--- the same, where only the sink has changed
-abbrev pub with_sink : Outside → Option (List ℕ) → Outside
-with_sink outside written = record outside { written = written }
+-- the same, where only the sink and the store have changed
+abbrev pub with_answer : Outside → Option (List ℕ) → Counts → Outside
+with_answer outside written counts = record outside { written = written; counts = counts }
 
 -- how many calls of the source and of the sink have failed, and the store's counts
 pub record Faults : Type 0 where
@@ -23,6 +25,13 @@ pub record Faults : Type 0 where
 
 abbrev pub faults : ℕ → ℕ → Counts → Faults
 faults source sink store = record { source = source; sink = sink; store = store }
+
+-- no call has failed since; a count that stands at its last value counts as risen
+pub record NoneFailed (old new : Faults) : Type 0 where
+  pub source : Rose old.source new.source → ⊥
+  pub sink : Rose old.sink new.sink → ⊥
+  pub reads : Rose old.store.reads new.store.reads → ⊥
+  pub writes : Rose old.store.writes new.store.writes → ⊥
 
 -- none has fallen
 pub record NoneFell (old new : Faults) : Type 0 where

@@ -1,5 +1,5 @@
 -- How far a run of the program has come, between its commands and within one.
-use Rattle.std.specs.Prelude.{◌≡◌, ◌⊎◌, ℕ, List, ◌++◌}
+use Rattle.std.specs.Prelude.{◌≡◌, ◌⊎◌, ℕ, ◌≤◌, List, ◌++◌}
 use Rattle.std.specs.Io.KnownBytes.{Appends}
 use Rattle.outside_traits.specs.View.{View}
 use Rattle.script_text.specs.Answer.{answer_text}
@@ -16,6 +16,7 @@ use Rattle.session.specs.declared.session.Session.{Session}
 use Rattle.nectar_top.specs.Crash.{Found, Reaches}
 use Rattle.nectar_top.specs.Machine.{Step, Run, texts_of}
 use Rattle.nectar_top.specs.Outside.{Outside}
+use Rattle.nectar_top.specs.Refusals.{IsSparingItem, fault_in, faults_in, RoseBy}
 use Rattle.nectar_top.specs.Sending.{SentInPart}
 use Rattle.nectar_top.specs.declared.exit.Exit.{Exit}
 use Rattle.nectar_top.specs.declared.exit.Exit.TheVariants as exit
@@ -32,16 +33,17 @@ pub record Progress (found : Found) (u v : View) (reader : Lines) (session : Ses
   pub whole : taken ≡ done ++ part
   pub goes_on : (more : List ℕ) → items (done ++ more) ≡ commands ++ items more
   pub ends : (more : List ℕ) → all_items (done ++ more) ≡ commands ++ all_items more
-  pub run : Run found.first commands answers state
+  pub run : Run found.care found.first commands answers state
   pub stands : standing.Stands found.care v session state
   pub since : Reaches found commands answers u v
   pub reads : Stands reader part
   pub wrote : Appends begun.written now.written (texts_of answers)
+  pub faults : RoseBy (faults_in answers) begun.counts.reads now.counts.reads
 
 -- a command was performed and is to be answered so, and the session stands for the state after it
 pub record Performs (care : Care) (u v : View) (old : State) (command : Item) (session : Session) (answer : Answer) : Type 0 where
   pub new : State
-  pub step : Step old command answer new
+  pub step : Step care old command answer new
   pub stands : standing.Stands care v session new
   pub since : Since care old new u v
 
@@ -49,7 +51,7 @@ pub record Performs (care : Care) (u v : View) (old : State) (command : Item) (s
 pub record Breaks (care : Care) (u v : View) (old : State) (command : Item) : Type 0 where
   pub answer : Answer
   pub new : State
-  pub step : Step old command answer new
+  pub step : Step care old command answer new
   pub left : IsLeft care v old new ⊎ IsLeft care v new old
   pub since : Since care old new u v
 
@@ -57,6 +59,7 @@ pub record Breaks (care : Care) (u v : View) (old : State) (command : Item) : Ty
 pub record Sends (care : Care) (u v : View) (old : State) (command : Item) (session : Session) (before now : Outside) : Type 0 where
   pub answer : Answer
   pub performs : Performs care u v old command session answer
+  pub faults : IsSparingItem command → RoseBy (fault_in answer) before.counts.reads now.counts.reads
   pub wrote : Appends before.written now.written (answer_text answer)
 
 -- a command was performed, and a front of its answer written that lacks something
@@ -64,11 +67,13 @@ pub record SendsInPart (care : Care) (u v : View) (old : State) (command : Item)
   pub session : Session
   pub answer : Answer
   pub performs : Performs care u v old command session answer
+  pub faults : IsSparingItem command → RoseBy (fault_in answer) before.counts.reads now.counts.reads
   pub sent : SentInPart before.written now.written (answer_text answer)
 
 -- the store failed in a command, of which no answer was written
 pub record BreaksOff (care : Care) (u v : View) (old : State) (command : Item) (before now : Outside) : Type 0 where
   pub breaks : Breaks care u v old command
+  pub counts : before.counts.reads ≤ now.counts.reads
   pub wrote : now.written ≡ before.written
 
 -- a command was not performed and answered whole, and the run ends so

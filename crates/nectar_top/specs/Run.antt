@@ -2,6 +2,7 @@
 -- before it and after it, and by what the store's crashes leave. Where the source doesn't tell what it has left, some input
 -- is meant.
 use Rattle.std.specs.Prelude.{◌≡◌, ℕ, ◌<◌, ◌≤◌, List, ◌∷◌, [], ◌++◌, length, ◌⊎◌}
+use Rattle.std.specs.List.{AllByRecursion}
 use Rattle.std.specs.Io.KnownBytes.{Consumes, IsAtEnd, Appends}
 use Rattle.outside_traits.specs.Bytes.{Takes}
 use Rattle.outside_traits.specs.View.{View}
@@ -11,21 +12,24 @@ use Rattle.script_text.specs.declared.answer.Answer.{Answer}
 use Rattle.script_text.specs.declared.item.Item.{Item}
 use Rattle.folder.specs.State.{State}
 use Rattle.folder.specs.Left.{IsLeft, Since}
-use Rattle.nectar_top.specs.Crash.{Found, Reaches}
+use Rattle.nectar_top.specs.Crash.{Found, Reaches, intact}
 use Rattle.nectar_top.specs.Machine.{Step, Run, texts_of}
 use Rattle.nectar_top.specs.Outside.{Outside}
+use Rattle.nectar_top.specs.Refusals.{IsSparing, faults_in, RoseBy}
 
 -- the most bytes of a script
 abbrev pub longest_script : ℕ
 longest_script = 1073741824
 
 -- These commands, none left out, in another order or twice, were performed from the first state on, and the text of their
--- answers was written, and nothing else. The store is left with the state after them.
+-- answers was written, and nothing else. A failed read is told at most as often as the store's count of them rose. The store
+-- is left with the state after them.
 pub record Answered (found : Found) (u v : View) (commands : List Item) (begun now : Outside) : Type 0 where
   pub answers : List Answer
   pub state : State
-  pub run : Run found.first commands answers state
+  pub run : Run found.care found.first commands answers state
   pub wrote : Appends begun.written now.written (texts_of answers)
+  pub faults : RoseBy (faults_in answers) begun.counts.reads now.counts.reads
   pub left : IsLeft found.care v state state
   pub since : Reaches found commands answers u v
 
@@ -36,6 +40,11 @@ pub record IsDone (found : Found) (u v : View) (begun now : Outside) : Type 0 wh
   pub at_end : IsAtEnd now.left
   pub within : length input ≤ longest_script
   pub answered : Answered found u v (all_items input) begun now
+
+-- The same over a folder whose files all hold their bytes, where no answer is laid to the store.
+pub record IsComplete (s : State) (u v : View) (begun now : Outside) : Type 0 where
+  pub done : IsDone (intact s) u v begun now
+  pub sparing : AllByRecursion IsSparing done.answered.answers
 
 -- no more of the input came, and the commands of what was taken are answered
 pub record IsCutOff (found : Found) (u v : View) (begun now : Outside) : Type 0 where
@@ -61,12 +70,13 @@ pub record AnsweredInPart (found : Found) (u v : View) (commands : List Item) (b
   pub answers : List Answer
   pub last : Answer
   pub state : State
-  pub run : Run found.first performed (answers ++ last ∷ []) state
+  pub run : Run found.care found.first performed (answers ++ last ∷ []) state
   pub part : List ℕ
   pub rest : List ℕ
   pub last_text : answer_text last ≡ part ++ rest
   pub lacks : 0 < length rest
   pub wrote : Appends begun.written now.written (texts_of answers ++ part)
+  pub faults : RoseBy (faults_in (answers ++ last ∷ [])) begun.counts.reads now.counts.reads
   pub left : IsLeft found.care v state state
   pub since : Reaches found performed (answers ++ last ∷ []) u v
 
@@ -79,11 +89,12 @@ pub record BrokenOff (found : Found) (u v : View) (commands : List Item) (begun 
   pub first : commands ≡ performed ++ broken ∷ others
   pub answers : List Answer
   pub state : State
-  pub run : Run found.first performed answers state
+  pub run : Run found.care found.first performed answers state
   pub wrote : Appends begun.written now.written (texts_of answers)
+  pub faults : RoseBy (faults_in answers) begun.counts.reads now.counts.reads
   pub answer : Answer
   pub new : State
-  pub step : Step state broken answer new
+  pub step : Step found.care state broken answer new
   pub left : IsLeft found.care v state new ⊎ IsLeft found.care v new state
   pub since : Reaches found (performed ++ broken ∷ []) (answers ++ answer ∷ []) u v
 

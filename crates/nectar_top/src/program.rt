@@ -1,6 +1,6 @@
 //! The whole program as one call.
 ghost use Rattle.std.specs.Prelude.{◌≡◌, ◌↔◌, ◌⊎◌, ℕ, ◌+◌, ◌<◌, ◌≤◌, List, ◌++◌, [], length, IfOk, IfErr};
-ghost use Rattle.std.specs.Prelude.{IsTrue, IsErrOf};
+ghost use Rattle.std.specs.Prelude.{IsTrue, IsErrOf, Option, Some};
 ghost use Rattle.std.specs.Io.KnownBytes.{IsAtEnd};
 ghost use Rattle.outside_traits.specs.Counts.{Rose};
 ghost use Rattle.outside_traits.specs.Calls.{Rises};
@@ -8,12 +8,14 @@ ghost use Rattle.outside_traits.specs.Runs.{Narrows};
 ghost use Rattle.script_text.specs.Reader as reader;
 ghost use Rattle.folder.specs.Left.{IsLeft, Since};
 ghost use Rattle.folder.specs.Replay.{StopsReading};
+ghost use Rattle.folder.specs.Sound.{Whole};
+ghost use Rattle.folder.specs.State.{State};
 ghost use Rattle.session.specs.Standing.{Stands};
 ghost use Rattle.nectar_top.specs.Crash.{Found};
 ghost use Rattle.nectar_top.specs.Loading.{HasLoadingCause, WereNotTaken, exit_of};
-ghost use Rattle.nectar_top.specs.Outside.{Outside, shown, faults, NoneFell};
+ghost use Rattle.nectar_top.specs.Outside.{Outside, shown, faults, NoneFell, NoneFailed};
 ghost use Rattle.nectar_top.specs.Run.{longest_script, IsDone, IsCutOff, IsTooLong, IsUnwritten, IsBroken};
-ghost use Rattle.nectar_top.specs.Run.{IsUnloaded};
+ghost use Rattle.nectar_top.specs.Run.{IsUnloaded, IsComplete};
 ghost use Rattle.nectar_top.specs.Turns.{Serving, Ends, HasCause};
 ghost use Rattle.nectar_top.specs.Words.{AreAccepted};
 
@@ -55,37 +57,53 @@ pub fn nectar<S: Source, K: Sink, D: Store>(
     ensures done { IsTrue D.tells → (found : Found)
         → IsLeft found.care (D.view store.old) found.first found.other → result ≡ Exit.Done
         → IsDone found (D.view store.old) (D.view store.new)
-        (shown (S.left source.old) (K.written sink.old)) (shown (S.left source.new) (K.written sink.new)) }
+        (shown (S.left source.old) (K.written sink.old) (D.counts store.old))
+        (shown (S.left source.new) (K.written sink.new) (D.counts store.new)) }
 
     // The commands that end in what was taken are answered and kept.
     ensures source_fault { IsTrue D.tells → (found : Found)
         → IsLeft found.care (D.view store.old) found.first found.other → result ≡ Exit.SourceFault
         → IsCutOff found (D.view store.old) (D.view store.new)
-        (shown (S.left source.old) (K.written sink.old)) (shown (S.left source.new) (K.written sink.new)) }
+        (shown (S.left source.old) (K.written sink.old) (D.counts store.old))
+        (shown (S.left source.new) (K.written sink.new) (D.counts store.new)) }
     ensures source_cause { result ≡ Exit.SourceFault → Rose (S.faults source.old) (S.faults source.new) }
     ensures script_limit { IsTrue D.tells → (found : Found)
         → IsLeft found.care (D.view store.old) found.first found.other → result ≡ Exit.ScriptLimit
         → IsTooLong found (D.view store.old) (D.view store.new)
-        (shown (S.left source.old) (K.written sink.old)) (shown (S.left source.new) (K.written sink.new)) }
+        (shown (S.left source.old) (K.written sink.old) (D.counts store.old))
+        (shown (S.left source.new) (K.written sink.new) (D.counts store.new)) }
 
     // All answers but the last one are written whole, and all that were begun are kept.
     ensures sink_fault { IsTrue D.tells → (found : Found)
         → IsLeft found.care (D.view store.old) found.first found.other → result ≡ Exit.SinkFault
         → IsUnwritten found (D.view store.old) (D.view store.new)
-        (shown (S.left source.old) (K.written sink.old)) (shown (S.left source.new) (K.written sink.new)) }
+        (shown (S.left source.old) (K.written sink.old) (D.counts store.old))
+        (shown (S.left source.new) (K.written sink.new) (D.counts store.new)) }
     ensures sink_cause { result ≡ Exit.SinkFault → Rose (K.faults sink.old) (K.faults sink.new) }
 
     // The store failed in a command, of which no answer is written; or before the first one.
     ensures store_fault { IsTrue D.tells → (found : Found)
         → IsLeft found.care (D.view store.old) found.first found.other → result ≡ Exit.StoreFault
         → IsBroken found (D.view store.old) (D.view store.new)
-        (shown (S.left source.old) (K.written sink.old)) (shown (S.left source.new) (K.written sink.new))
+        (shown (S.left source.old) (K.written sink.old) (D.counts store.old))
+        (shown (S.left source.new) (K.written sink.new) (D.counts store.new))
         ⊎ ((source.new ≡ source.old) × (sink.new ≡ sink.old)
         × IsUnloaded found (D.view store.old) (D.view store.new)) }
     ensures store_cause { result ≡ Exit.StoreFault
         → Rose (D.counts store.old).writes (D.counts store.new).writes
         ⊎ ((source.new ≡ source.old) × (sink.new ≡ sink.old)
         × Rose (D.counts store.old).reads (D.counts store.new).reads) }
+
+    // Over a folder of one state whose files hold their bytes, where no call fails and the script has no more
+    // bytes than the limit, the run is done, and no answer is laid to the store; or memory was refused.
+    ensures complete { IsTrue D.tells → AreAccepted words.now → (s : State) (input : List ℕ)
+        → IsLeft Whole (D.view store.old) s s → S.left source.old ≡ Some input → length input ≤ longest_script
+        → NoneFailed (faults (S.faults source.old) (K.faults sink.old) (D.counts store.old))
+        (faults (S.faults source.new) (K.faults sink.new) (D.counts store.new))
+        → ((result ≡ Exit.Done) × IsComplete s (D.view store.old) (D.view store.new)
+        (shown (S.left source.old) (K.written sink.old) (D.counts store.old))
+        (shown (S.left source.new) (K.written sink.new) (D.counts store.new)))
+        ⊎ (result ≡ Exit.Memory) }
 
     // Want of memory comes before the first command alone.
     ensures memory { IsTrue D.tells → (found : Found)
@@ -112,9 +130,10 @@ pub fn nectar<S: Source, K: Sink, D: Store>(
 // All the memory that a run needs but for its rows, and the folder's session.
 fn begin<D: Store>(alloc: Global, folder: &str, store: &mut D) -> Result<(Server, Vec<u8>), Exit>
     ensures server { IsTrue D.tells → (found : Found)
-        → IsLeft found.care (D.view store.old) found.first found.other → IfOk result (λ begun. (outside : Outside)
-        → Serving found (D.view store.old) (D.view store.new) begun.0.reader begun.0.session [] [] outside
-        outside) }
+        → IsLeft found.care (D.view store.old) found.first found.other
+        → IfOk result (λ begun. (left written : Option (List ℕ))
+        → Serving found (D.view store.old) (D.view store.new) begun.0.reader begun.0.session [] []
+        (shown left written (D.counts store.old)) (shown left written (D.counts store.new))) }
     ensures piece { IfOk result (λ begun. 0 < length begun.1.items) }
     ensures left { IsTrue D.tells → (found : Found)
         → IsLeft found.care (D.view store.old) found.first found.other
@@ -192,11 +211,11 @@ fn serve<S: Source, K: Sink, D: Store>(
     store: &mut D,
 ) -> Exit
     requires room { 0 < length piece.old }
-    ensures ends { IsTrue D.tells → (found : Found) (origin : D)
-        → Serving found (D.view origin) (D.view store.old) server.reader server.session [] []
-        (shown (S.left source.old) (K.written sink.old)) (shown (S.left source.old) (K.written sink.old))
-        → Ends found (D.view origin) (D.view store.new) result
-        (shown (S.left source.old) (K.written sink.old)) (shown (S.left source.new) (K.written sink.new)) }
+    ensures ends { IsTrue D.tells → (found : Found) (origin : D) (begun : Outside)
+        → Serving found (D.view origin) (D.view store.old) server.reader server.session [] [] begun
+        (shown (S.left source.old) (K.written sink.old) (D.counts store.old))
+        → Ends found (D.view origin) (D.view store.new) result begun
+        (shown (S.left source.new) (K.written sink.new) (D.counts store.new)) }
     ensures cause { HasCause result
         (faults (S.faults source.old) (K.faults sink.old) (D.counts store.old))
         (faults (S.faults source.new) (K.faults sink.new) (D.counts store.new)) }
@@ -234,17 +253,17 @@ fn serve_piece<S: Source, K: Sink, D: Store>(
     ensures ok { IsTrue D.tells → IfOk result (λ next. (found : Found) (origin : D) (served : List ℕ)
         (begun : Outside)
         → Serving found (D.view origin) (D.view store.old) server.reader server.session served [] begun
-        (shown (S.left source.old) (K.written sink.old))
+        (shown (S.left source.old) (K.written sink.old) (D.counts store.old))
         → (more : List ℕ) × (length more ≡ next.1)
         × Serving found (D.view origin) (D.view store.new) next.0.reader next.0.session (served ++ more) []
-        begun (shown (S.left source.new) (K.written sink.new))) }
+        begun (shown (S.left source.new) (K.written sink.new) (D.counts store.new))) }
     ensures err { IsTrue D.tells → IfErr result (λ exit. (found : Found) (origin : D) (served : List ℕ)
         (begun : Outside)
         → Serving found (D.view origin) (D.view store.old) server.reader server.session served [] begun
-        (shown (S.left source.old) (K.written sink.old))
+        (shown (S.left source.old) (K.written sink.old) (D.counts store.old))
         → length served + length piece.old ≤ longest_script
         → Ends found (D.view origin) (D.view store.new) exit begun
-        (shown (S.left source.new) (K.written sink.new))) }
+        (shown (S.left source.new) (K.written sink.new) (D.counts store.new))) }
     ensures cause { IfErr result (λ exit. HasCause exit
         (faults (S.faults source.old) (K.faults sink.old) (D.counts store.old))
         (faults (S.faults source.new) (K.faults sink.new) (D.counts store.new))) }
@@ -269,10 +288,10 @@ fn serve_limit<S: Source, K: Sink, D: Store>(
 ) -> Exit
     ensures ends { IsTrue D.tells → (found : Found) (origin : D) (served : List ℕ) (begun : Outside)
         → Serving found (D.view origin) (D.view store.old) server.reader server.session served [] begun
-        (shown (S.left source.old) (K.written sink.old))
+        (shown (S.left source.old) (K.written sink.old) (D.counts store.old))
         → length served ≡ longest_script
         → Ends found (D.view origin) (D.view store.new) result begun
-        (shown (S.left source.new) (K.written sink.new)) }
+        (shown (S.left source.new) (K.written sink.new) (D.counts store.new)) }
     ensures cause { HasCause result
         (faults (S.faults source.old) (K.faults sink.old) (D.counts store.old))
         (faults (S.faults source.new) (K.faults sink.new) (D.counts store.new)) }

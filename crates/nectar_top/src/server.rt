@@ -9,8 +9,9 @@ ghost use Rattle.script_text.specs.Script.{IsWholeItem};
 ghost use Rattle.folder.specs.Sound.{Care};
 ghost use Rattle.folder.specs.State.{State};
 ghost use Rattle.nectar_top.specs.Crash.{Found};
-ghost use Rattle.nectar_top.specs.Outside.{Outside, with_sink, faults, NoneFell};
+ghost use Rattle.nectar_top.specs.Outside.{Outside, with_answer, faults, NoneFell};
 ghost use Rattle.nectar_top.specs.Progress.{Performs, Breaks, Sends, Fails};
+ghost use Rattle.nectar_top.specs.Refusals.{IsSparingItem, fault_in, RoseBy};
 ghost use Rattle.nectar_top.specs.Run.{longest_script};
 ghost use Rattle.nectar_top.specs.Turns.{Serving, Ends, HasCause};
 ghost use Rattle.script_text.specs.Reader as reader;
@@ -58,16 +59,16 @@ impl Server {
         ensures ok { IsTrue D.tells → IfOk result (λ server. (found : Found) (origin : D)
             (served : List ℕ) (begun before : Outside)
             → Serving found (D.view origin) (D.view store.old) self.reader self.session served piece.now begun
-            (with_sink before (K.written sink.old))
+            (with_answer before (K.written sink.old) (D.counts store.old))
             → Serving found (D.view origin) (D.view store.new) server.reader server.session
-            (served ++ piece.now) [] begun (with_sink before (K.written sink.new))) }
+            (served ++ piece.now) [] begun (with_answer before (K.written sink.new) (D.counts store.new))) }
         ensures err { IsTrue D.tells → IfErr result (λ exit. (found : Found) (origin : D)
             (served : List ℕ) (begun before : Outside)
             → Serving found (D.view origin) (D.view store.old) self.reader self.session served piece.now begun
-            (with_sink before (K.written sink.old))
+            (with_answer before (K.written sink.old) (D.counts store.old))
             → length (served ++ piece.now) ≤ longest_script
             → Ends found (D.view origin) (D.view store.new) exit begun
-            (with_sink before (K.written sink.new))) }
+            (with_answer before (K.written sink.new) (D.counts store.new))) }
         ensures cause { IfErr result (λ exit. (source : ℕ)
             → HasCause exit (faults source (K.faults sink.old) (D.counts store.old))
             (faults source (K.faults sink.new) (D.counts store.new))) }
@@ -92,10 +93,10 @@ impl Server {
     pub fn end<K: Sink, D: Store>(self, sink: &mut K, store: &mut D) -> Exit
         ensures ends { IsTrue D.tells → (found : Found) (origin : D) (served : List ℕ) (begun before : Outside)
             → Serving found (D.view origin) (D.view store.old) self.reader self.session served [] begun
-            (with_sink before (K.written sink.old))
+            (with_answer before (K.written sink.old) (D.counts store.old))
             → IsAtEnd before.left → length served ≤ longest_script
             → Ends found (D.view origin) (D.view store.new) result begun
-            (with_sink before (K.written sink.new)) }
+            (with_answer before (K.written sink.new) (D.counts store.new)) }
         ensures cause { (source : ℕ)
             → HasCause result (faults source (K.faults sink.old) (D.counts store.old))
             (faults source (K.faults sink.new) (D.counts store.new)) }
@@ -126,17 +127,17 @@ impl Server {
         ensures ok { IsTrue D.tells → IfOk result (λ next. (found : Found) (origin : D)
             (served : List ℕ) (begun before : Outside)
             → Serving found (D.view origin) (D.view store.old) self.reader self.session served piece.now begun
-            (with_sink before (K.written sink.old))
+            (with_answer before (K.written sink.old) (D.counts store.old))
             → Serving found (D.view origin) (D.view store.new) next.0.reader next.0.session
             (served ++ take next.1 piece.now) (drop next.1 piece.now) begun
-            (with_sink before (K.written sink.new))) }
+            (with_answer before (K.written sink.new) (D.counts store.new))) }
         ensures err { IsTrue D.tells → IfErr result (λ exit. (found : Found) (origin : D)
             (served : List ℕ) (begun before : Outside)
             → Serving found (D.view origin) (D.view store.old) self.reader self.session served piece.now begun
-            (with_sink before (K.written sink.old))
+            (with_answer before (K.written sink.old) (D.counts store.old))
             → length (served ++ piece.now) ≤ longest_script
             → Ends found (D.view origin) (D.view store.new) exit begun
-            (with_sink before (K.written sink.new))) }
+            (with_answer before (K.written sink.new) (D.counts store.new))) }
         ensures cause { IfErr result (λ exit. (source : ℕ)
             → HasCause exit (faults source (K.faults sink.old) (D.counts store.old))
             (faults source (K.faults sink.new) (D.counts store.new))) }
@@ -207,11 +208,13 @@ fn answer<K: Sink, D: Store>(
     ensures ok { IsTrue D.tells → IfOk result (λ next. (care : Care) (old : State) (before : Outside)
         → Stands care (D.view store.old) session old
         → Sends care (D.view store.old) (D.view store.new) old item next
-        (with_sink before (K.written sink.old)) (with_sink before (K.written sink.new))) }
+        (with_answer before (K.written sink.old) (D.counts store.old))
+        (with_answer before (K.written sink.new) (D.counts store.new))) }
     ensures err { IsTrue D.tells → IfErr result (λ exit. (care : Care) (old : State) (before : Outside)
         → Stands care (D.view store.old) session old
         → Fails exit care (D.view store.old) (D.view store.new) old item
-        (with_sink before (K.written sink.old)) (with_sink before (K.written sink.new))) }
+        (with_answer before (K.written sink.old) (D.counts store.old))
+        (with_answer before (K.written sink.new) (D.counts store.new))) }
     ensures cause { IfErr result (λ exit. (source : ℕ)
         → HasCause exit (faults source (K.faults sink.old) (D.counts store.old))
         (faults source (K.faults sink.new) (D.counts store.new))) }
@@ -240,6 +243,8 @@ fn perform<D: Store>(
         → OnErr result (Breaks care (D.view store.old) (D.view store.new) old item) }
     ensures narrow { IfOk result (λ next. IsNarrow next.1) }
     ensures cause { OnErr result (Rose (D.counts store.old).writes (D.counts store.new).writes) }
+    ensures faults { IsSparingItem item → IfOk result
+        (λ next. RoseBy (fault_in next.1) (D.counts store.old).reads (D.counts store.new).reads) }
     ensures counts { Rises (D.counts store.old) (D.counts store.new) }
 {
     match item {

@@ -56,7 +56,7 @@ module _ (care : Care) (v : View) (session session' : Session) (s : State) (stan
 
   -- a refusal changes nothing
   pub refuses : (c : Command) (why : Refusal) → table_in (folder_of session') ≡ table_in (folder_of session) → journal_of (folder_of session') ≡ journal_of (folder_of session)
-      → machine.Performs s c (refused s why) ⊎ IsEvent s c why → Performs care v v session' s c (answer.Refused why)
+      → machine.Performs s c (refused s why) ⊎ IsEvent care s c why → Performs care v v session' s c (answer.Refused why)
   refuses c why t j either = record {
     new = s;
     step = elim either [ inl given ↦ inl given | inr event ↦ inr (why, event, refl) ];
@@ -66,24 +66,24 @@ module _ (care : Care) (v : View) (session session' : Session) (s : State) (stan
 
 -- ---- the outcome of a command
 
-module _ (t : Table) (s : State) (same : t ≡ table s) where
+module _ (care : Care) (t : Table) (s : State) (same : t ≡ table s) where
   pub made_ok : (name : List ℕ) (columns : List Column) (c : Change) → making t name columns ≡ Ok c → machine.Performs s (command.Stream name columns) (outcome answer.Ok (with_stream s name columns))
   made_ok name columns c is = sym (ap (made s name columns) (subst (λ x. making x name columns ≡ Ok c) same is))
 
-  pub made_err : (name : List ℕ) (columns : List Column) (why : Refusal) → making t name columns ≡ Err why ⊎ (why ≡ refusal.Memory) → machine.Performs s (command.Stream name columns) (refused s why) ⊎ IsEvent s (command.Stream name columns) why
+  pub made_err : (name : List ℕ) (columns : List Column) (why : Refusal) → making t name columns ≡ Err why ⊎ (why ≡ refusal.Memory) → machine.Performs s (command.Stream name columns) (refused s why) ⊎ IsEvent care s (command.Stream name columns) why
   made_err name columns why either = elim either [
     | inl is ↦ inl (sym (ap (made s name columns) (subst (λ x. making x name columns ≡ Err why) same is)))
-    | inr none ↦ inr (subst (λ w. IsEvent s (command.Stream name columns) w) (sym none) tt)
+    | inr none ↦ inr (subst (λ w. IsEvent care s (command.Stream name columns) w) (sym none) tt)
   ]
 
   pub appended_ok : (name : List ℕ) (lines : List (List ℕ)) (a : Append) (count : ℕ) → IsAppending t name lines (Ok a) → count ≡ held t a → machine.Performs s (command.Append name lines) (outcome (answer.Held count) (with_rows s a.place a.rows))
   appended_ok name lines a count is holds =
       (Ok a, subst (λ x. IsAppending x name lines (Ok a)) same is, ap (λ n. outcome (answer.Held n) (with_rows s a.place a.rows)) (holds ∙ ap (λ x. held x a) same))
 
-  pub appended_err : (name : List ℕ) (lines : List (List ℕ)) (why : Refusal) → IsAppending t name lines (Err why) ⊎ (why ≡ refusal.Memory) → machine.Performs s (command.Append name lines) (refused s why) ⊎ IsEvent s (command.Append name lines) why
+  pub appended_err : (name : List ℕ) (lines : List (List ℕ)) (why : Refusal) → IsAppending t name lines (Err why) ⊎ (why ≡ refusal.Memory) → machine.Performs s (command.Append name lines) (refused s why) ⊎ IsEvent care s (command.Append name lines) why
   appended_err name lines why either = elim either [
     | inl is ↦ inl (Err why, subst (λ x. IsAppending x name lines (Err why)) same is, refl)
-    | inr none ↦ inr (subst (λ w. IsEvent s (command.Append name lines) w) (sym none) tt)
+    | inr none ↦ inr (subst (λ w. IsEvent care s (command.Append name lines) w) (sym none) tt)
   ]
 
   pub ran_ok : (name : List ℕ) (tree : PlainTree) (r : Run) (plan : PlainPlan) (bytes : ℕ) (rows : Rows) → running t name tree ≡ Ok r → plan ≡ r.plan → bytes ≡ bytes_of (extents_of t.streams r.plan) → HasRows plan (lists_of s.streams plan) rows
@@ -93,16 +93,16 @@ module _ (t : Table) (s : State) (same : t ≡ table s) where
       let run : IsRunOn r.plan (lists_of s.streams r.plan) (bytes_read s r) (result_of rows bytes) = (ap (result_of rows) read, subst (λ p. plan_meaning p (lists_of s.streams p) ≡ Ok rows) plan_is has.meaning, subst (λ p. machine_time p (lists_of s.streams p) ≤ most_machine_time) plan_is has.within) in
       subst (λ x. RunsTo s x (outcome (result_of rows bytes) (with_run s (Some r.program)))) (sym (subst (λ x. running x name tree ≡ Ok r) same is)) (run, refl)
 
-  pub ran_err : (name : List ℕ) (tree : PlainTree) (why : Refusal) → running t name tree ≡ Err why ⊎ (why ≡ refusal.Memory) → machine.Performs s (command.Run name tree) (refused s why) ⊎ IsEvent s (command.Run name tree) why
+  pub ran_err : (name : List ℕ) (tree : PlainTree) (why : Refusal) → running t name tree ≡ Err why ⊎ (why ≡ refusal.Memory) → machine.Performs s (command.Run name tree) (refused s why) ⊎ IsEvent care s (command.Run name tree) why
   ran_err name tree why either = elim either [
     | inl is ↦ inl (subst (λ x. RunsTo s x (refused s why)) (sym (subst (λ x. running x name tree ≡ Err why) same is)) refl)
-    | inr none ↦ inr (subst (λ w. IsEvent s (command.Run name tree) w) (sym none) tt)
+    | inr none ↦ inr (subst (λ w. IsEvent care s (command.Run name tree) w) (sym none) tt)
   ]
 
-  pub ran_refused : (name : List ℕ) (tree : PlainTree) (r : Run) (plan : PlainPlan) (why : Refusal) → running t name tree ≡ Ok r → plan ≡ r.plan → IsRunRefusal s plan why → machine.Performs s (command.Run name tree) (refused s why) ⊎ IsEvent s (command.Run name tree) why
+  pub ran_refused : (name : List ℕ) (tree : PlainTree) (r : Run) (plan : PlainPlan) (why : Refusal) → running t name tree ≡ Ok r → plan ≡ r.plan → IsRunRefusal care s plan why → machine.Performs s (command.Run name tree) (refused s why) ⊎ IsEvent care s (command.Run name tree) why
   ran_refused name tree r plan why is plan_is either = elim either [
     | inl refused_on ↦ inl (subst (λ x. RunsTo s x (refused s why)) (sym (subst (λ x. running x name tree ≡ Ok r) same is)) (on why (subst (λ p. IsRefusedOn p (lists_of s.streams p) why) plan_is refused_on), refl))
-    | inr unread ↦ inr (subst (λ w. IsEvent s (command.Run name tree) w) (sym unread.is) (event unread.refusal unread.event))
+    | inr unread ↦ inr (subst (λ w. IsEvent care s (command.Run name tree) w) (sym unread.is) (event unread.refusal unread.event))
   ]
     where
       on : (why : Refusal) → IsRefusedOn r.plan (lists_of s.streams r.plan) why → IsRunOn r.plan (lists_of s.streams r.plan) (bytes_read s r) (answer.Refused why)
@@ -110,7 +110,7 @@ module _ (t : Table) (s : State) (same : t ≡ table s) where
       on (refusal.Limit limit.Machine) is = is
       on _ is = absurd is
 
-      event : (why : ReadRefusal) → IsReadEvent s why → IsEvent s (command.Run name tree) (refusal_of why)
+      event : (why : ReadRefusal) → IsReadEvent care s why → IsEvent care s (command.Run name tree) (refusal_of why)
       event reading.Fault is = tt
       event (reading.Damaged file kept found) is = is
       event (reading.Unreadable file at) is = absurd is
@@ -168,5 +168,5 @@ module _ (care : Care) (t u v : View) (s new : State) (before : StaysSound care 
   breaks_before left = record { since = since_stays s; left = inl left }
 
 -- a refusal that the machine gives, or that comes in the course of the command
-pub event_step : (s : State) (c : Command) (why : Refusal) → machine.Performs s c (refused s why) ⊎ IsEvent s c why → machine.Step s c (answer.Refused why) s
-event_step s c why either = elim either [ inl given ↦ inl given | inr event ↦ inr (why, event, refl) ]
+pub event_step : (care : Care) (s : State) (c : Command) (why : Refusal) → machine.Performs s c (refused s why) ⊎ IsEvent care s c why → machine.Step care s c (answer.Refused why) s
+event_step care s c why either = elim either [ inl given ↦ inl given | inr event ↦ inr (why, event, refl) ]

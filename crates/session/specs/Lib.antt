@@ -1,4 +1,6 @@
+pub mod Causes
 pub mod Machine
 pub mod ReadEvents
 pub mod Standing
+pub mod Taken
 pub mod TypedFor

@@ -13,6 +13,7 @@ use Rattle.script_text.specs.declared.item.Command.TheVariants as command
 use Rattle.planning.specs.Appending.{IsAppending, Append, held}
 use Rattle.planning.specs.Making.{making}
 use Rattle.planning.specs.Running.{running, Run, extents_of, bytes_of, IsRunOn}
+use Rattle.folder.specs.Sound.{Care}
 use Rattle.folder.specs.State.{Stream, State, table}
 use Rattle.folder.specs.StreamRows.{rows_at, ShowsDamage}
 use Rattle.folder.specs.Next.{with_stream, with_rows, with_run}
@@ -67,14 +68,14 @@ Performs s (command.Stream name columns) given = given ≡ made s name columns (
 Performs s (command.Append name lines) given = (plan : Result Append Refusal) × IsAppending (table s) name lines plan × (given ≡ appended s plan)
 Performs s (command.Run name tree) given = RunsTo s (running (table s) name tree) given
 
--- what may come in the course of a command in place of any answer: want of memory, and in a run a failed read or a file that
--- shows damage
-abbrev pub IsEvent : State → Command → Refusal → Type 0
-IsEvent s given refusal.Memory = ⊤
-IsEvent s (command.Run name tree) refusal.Fault = ⊤
-IsEvent s (command.Run name tree) (refusal.Damaged file kept found) = ShowsDamage s file kept found
-IsEvent s _ _ = ⊥
+-- What may come in the course of a command in place of any answer: want of memory, and in a run a failed read or a file that
+-- shows damage, as none does that holds its bytes.
+abbrev pub IsEvent : Care → State → Command → Refusal → Type 0
+IsEvent care s given refusal.Memory = ⊤
+IsEvent care s (command.Run name tree) refusal.Fault = ⊤
+IsEvent care s (command.Run name tree) (refusal.Damaged file kept found) = ShowsDamage care s file kept found
+IsEvent care s _ _ = ⊥
 
--- one step; an event changes nothing
-abbrev pub Step : State → Command → Answer → State → Type 0
-Step old given_to given new = Performs old given_to (outcome given new) ⊎ ((why : Refusal) × IsEvent old given_to why × (outcome given new ≡ refused old why))
+-- one step over files of which so much is known; an event changes nothing
+abbrev pub Step : Care → State → Command → Answer → State → Type 0
+Step care old given_to given new = Performs old given_to (outcome given new) ⊎ ((why : Refusal) × IsEvent care old given_to why × (outcome given new ≡ refused old why))

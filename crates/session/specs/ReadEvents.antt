@@ -9,6 +9,7 @@ use Rattle.planning.specs.Running.{most_machine_time}
 use Rattle.script_text.specs.declared.answer.LimitKind.TheVariants as limit
 use Rattle.script_text.specs.declared.answer.Refusal.{Refusal}
 use Rattle.script_text.specs.declared.answer.Refusal.TheVariants as refusal
+use Rattle.folder.specs.Sound.{Care}
 use Rattle.folder.specs.State.{State}
 use Rattle.folder.specs.StreamRows.{IsReadEvent}
 use Rattle.folder.specs.declared.refusal.ReadRefusal.{ReadRefusal}
@@ -33,11 +34,11 @@ IsRefusedOn plan lists (refusal.Limit limit.Machine) = most_machine_time < machi
 IsRefusedOn plan lists _ = ⊥
 
 -- its files weren't read
-pub record AreUnread (s : State) (why : Refusal) : Type 0 where
+pub record AreUnread (care : Care) (s : State) (why : Refusal) : Type 0 where
   pub refusal : ReadRefusal
-  pub event : IsReadEvent s refusal
+  pub event : IsReadEvent care s refusal
   pub is : why ≡ refusal_of refusal
 
 -- a run of a plan on the rows of its streams is refused
-abbrev pub IsRunRefusal : State → PlainPlan → Refusal → Type 0
-IsRunRefusal s plan why = IsRefusedOn plan (lists_of s.streams plan) why ⊎ AreUnread s why
+abbrev pub IsRunRefusal : Care → State → PlainPlan → Refusal → Type 0
+IsRunRefusal care s plan why = IsRefusedOn plan (lists_of s.streams plan) why ⊎ AreUnread care s why

@@ -24,7 +24,7 @@ pub record Stands (care : Care) (v : View) (session : Session) (s : State) : Typ
 -- the answer is the machine's, the session means the state after it, and each crash since leaves the state before or that
 pub record Performs (care : Care) (u v : View) (session : Session) (s : State) (command : Command) (given : Answer) : Type 0 where
   pub new : State
-  pub step : Step s command given new
+  pub step : Step care s command given new
   pub stands : Stands care v session new
   pub since : Since care s new u v
 
@@ -32,7 +32,7 @@ pub record Performs (care : Care) (u v : View) (session : Session) (s : State) (
 pub record Breaks (care : Care) (u v : View) (s : State) (command : Command) : Type 0 where
   pub answer : Answer
   pub new : State
-  pub step : Step s command answer new
+  pub step : Step care s command answer new
   pub since : Since care s new u v
   pub left : IsLeftWith care v s new
 

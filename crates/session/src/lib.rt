@@ -1,8 +1,10 @@
 //! The session: a folder that was loaded, and each command of a script performed over it.
 #![tactic(auto)]
 
+pub mod laws;
 mod running;
 pub mod session;
 
 pub use folder::LoadRefusal;
+pub use laws::files_are_read;
 pub use session::Session;

@@ -1,6 +1,6 @@
 //! The session: a folder that was loaded, and the commands performed over it.
-ghost use Rattle.std.specs.Prelude.{◌≡◌, ◌⊎◌, ℕ, ◌<◌, ◌^◌, false, List, length, map, IsTrue, IfOk, IfErr, OnOk, OnErr};
-ghost use Rattle.std.specs.Prelude.{IsErrOf};
+ghost use Rattle.std.specs.Prelude.{◌≡◌, ◌⊎◌, ℕ, ◌+◌, ◌<◌, ◌≤◌, ◌^◌, false, List, length};
+ghost use Rattle.std.specs.Prelude.{IsTrue, IfOk, IfErr, IsErrOf, OnOk, OnErr, sum_by};
 ghost use Rattle.outside_traits.specs.Counts.{Rose};
 ghost use Rattle.outside_traits.specs.View.{View, Counts, Now, Only};
 ghost use Rattle.outside_traits.specs.Calls.{Rises, MayRaiseReads, MayRaiseWrites};
@@ -8,12 +8,16 @@ ghost use Rattle.outside_traits.specs.Runs.{Narrows};
 ghost use Rattle.catalog_types.specs.declared.change.Change.{Change};
 ghost use Rattle.catalog_core.specs.Catalogs.{IsReady};
 ghost use Rattle.catalog_core.specs.Table.{Fits};
-ghost use Rattle.folder.specs.Folders.{catalog_of, journal_of, table_in};
+ghost use Rattle.folder.specs.Folders.{catalog_of, journal_of, table_in, FolderStands};
 ghost use Rattle.folder.specs.Left.{IsLeft, IsLeftWith, Since};
-ghost use Rattle.folder.specs.Replay.{StopsReading, is_checkpoint};
+ghost use Rattle.folder.specs.Replay.{ReadsAs, StopsReading, is_checkpoint};
 ghost use Rattle.folder.specs.Sound.{Care};
 ghost use Rattle.folder.specs.Standing.{IsNext};
 ghost use Rattle.folder.specs.State.{State, table};
+ghost use Rattle.folder.specs.StreamRows.{CountsRead, TakesAtMost, bytes_at};
+ghost use Rattle.journal_store.specs.Journals.{generation_of};
+ghost use Rattle.journal_store.specs.Readings.{generation_file};
+ghost use Rattle.plan_core.specs.PlainPlan.{leaves};
 ghost use Rattle.plan_grammar.specs.Counts.{IsWithinLimits};
 ghost use Rattle.planning.specs.Appending.{Append, append_change, file_bytes};
 ghost use Rattle.planning.specs.Recorded.{IsRecordOf};
@@ -27,6 +31,8 @@ ghost use Rattle.script_text.specs.declared.answer.Refusal.{Refusal};
 ghost use Rattle.script_text.specs.declared.item.Command.TheVariants as command;
 ghost use Rattle.session.specs.Machine.{Step, lists_of};
 ghost use Rattle.session.specs.ReadEvents.{HasRows, IsRunRefusal};
+ghost use Rattle.session.specs.Causes.{TellsOfNoFile, IsOfFiles, HasByteCause};
+ghost use Rattle.session.specs.Taken.{TakesAsTold, bytes_to_read};
 
 use crate::running::{refusal_of, result_of, rows_on};
 use catalog_core::CatalogRefusal;
@@ -53,10 +59,17 @@ impl Session {
 
     /// Loads a folder, which is made where its making isn't finished. `NotAStore` comes exactly where its log
     /// files have no reading, with the first byte where reading stops, unless the store fails or memory is
-    /// refused first; `Fault` only where the store failed. No file is read but the logs.
+    /// refused first; `Fault` only where the store failed. No file is read but the logs, and no more is taken
+    /// than their bytes.
     pub fn load<D: Store>(alloc: Global, store: &mut D) -> Result<Session, LoadRefusal>
         ensures stands { IsTrue D.tells → (care : Care) (a b : State) → IsLeft care (D.view store.old) a b
             → IfOk result (λ session. Stands care (D.view store.new) session a) }
+        // On every store that tells its files the table is what they read as, and what each crash now leaves
+        // reads as.
+        ensures reading { IsTrue D.tells
+            → IfOk result (λ session. ReadsAs (D.view store.old).files (table_in (folder_of session))) }
+        ensures crash { IsTrue D.tells
+            → IfOk result (λ session. FolderStands (D.view store.new) (folder_of session)) }
         ensures since { IsTrue D.tells → (care : Care) (a b : State) → IsLeft care (D.view store.old) a b
             → Since care a b (D.view store.old) (D.view store.new) }
         ensures left { IsTrue D.tells → (care : Care) (a b : State) → IsLeft care (D.view store.old) a b
@@ -69,6 +82,10 @@ impl Session {
         ensures cause { IsErrOf result LoadRefusal.Fault
             → Rose (D.counts store.old).reads (D.counts store.new).reads
             ⊎ Rose (D.counts store.old).writes (D.counts store.new).writes }
+        ensures taken { IsTrue D.tells → IfOk result (λ session. (D.counts store.new).taken
+            ≤ (D.counts store.old).taken + length ((D.view store.old).files 0)
+            + length ((D.view store.old).files
+            (generation_file (generation_of (journal_of (folder_of session)))))) }
         ensures counts { Rises (D.counts store.old) (D.counts store.new) }
     {
         left_stores::<D>();
@@ -96,6 +113,14 @@ impl Session {
         ensures cause { OnErr result (Rose (D.counts store.old).writes (D.counts store.new).writes) }
         ensures fault { IfOk result (λ next. next.1 ≡ Answer.Refused Refusal.Fault
             → Rose (D.counts store.old).reads (D.counts store.new).reads) }
+        // Where the store tells its files, damage and unreadable bytes are those of a file that a run reads.
+        ensures found { IsTrue D.tells → IfOk result (λ next. HasByteCause (table_in (folder_of self)) command
+            (D.view store.old).files next.1) }
+        // A result has taken the bytes that it tells, and no command more than the files that it reads have.
+        ensures taken { IsTrue D.tells → (care : Care) (s : State) → Stands care (D.view store.old) self s
+            → IfOk result (λ next. TakesAsTold next.1 (D.counts store.old) (D.counts store.new)) }
+        ensures most { IsTrue D.tells → (care : Care) (s : State) → Stands care (D.view store.old) self s
+            → TakesAtMost (bytes_to_read s command) (D.counts store.old) (D.counts store.new) }
         ensures counts { Rises (D.counts store.old) (D.counts store.new) }
     {
         match command {
@@ -120,8 +145,8 @@ impl Session {
             → OnErr result (Breaks care (D.view store.old) (D.view store.new) s (command.Stream name columns)) }
         ensures narrow { IfOk result (λ next. IsNarrow next.1) }
         ensures cause { OnErr result (Rose (D.counts store.old).writes (D.counts store.new).writes) }
-        ensures fault { IfOk result (λ next. next.1 ≡ Answer.Refused Refusal.Fault → ⊥) }
-        ensures counts { Rises (D.counts store.old) (D.counts store.new) }
+        ensures of_no_file { IfOk result (λ next. TellsOfNoFile next.1) }
+        ensures counts { MayRaiseWrites (D.counts store.old) (D.counts store.new) }
     {
         next_states::<D>();
         let mut session = self;
@@ -150,8 +175,8 @@ impl Session {
             → OnErr result (Breaks care (D.view store.old) (D.view store.new) s (command.Append name lines)) }
         ensures narrow { IfOk result (λ next. IsNarrow next.1) }
         ensures cause { OnErr result (Rose (D.counts store.old).writes (D.counts store.new).writes) }
-        ensures fault { IfOk result (λ next. next.1 ≡ Answer.Refused Refusal.Fault → ⊥) }
-        ensures counts { Rises (D.counts store.old) (D.counts store.new) }
+        ensures of_no_file { IfOk result (λ next. TellsOfNoFile next.1) }
+        ensures counts { MayRaiseWrites (D.counts store.old) (D.counts store.new) }
     {
         let mut session = self;
         let plan = match plan_append(session.alloc, session.folder.catalog(), name, lines) {
@@ -186,6 +211,13 @@ impl Session {
         ensures cause { OnErr result (Rose (D.counts store.old).writes (D.counts store.new).writes) }
         ensures fault { IfOk result (λ next. next.1 ≡ Answer.Refused Refusal.Fault
             → Rose (D.counts store.old).reads (D.counts store.new).reads) }
+        ensures found { IsTrue D.tells → IfOk result (λ next. HasByteCause (table_in (folder_of self))
+            (command.Run name plan.now) (D.view store.old).files next.1) }
+        ensures taken { IsTrue D.tells → (care : Care) (s : State) → Stands care (D.view store.old) self s
+            → IfOk result (λ next. TakesAsTold next.1 (D.counts store.old) (D.counts store.new)) }
+        ensures most { IsTrue D.tells → (care : Care) (s : State) → Stands care (D.view store.old) self s
+            → TakesAtMost (bytes_to_read s (command.Run name plan.now)) (D.counts store.old)
+            (D.counts store.new) }
         ensures counts { Rises (D.counts store.old) (D.counts store.new) }
     {
         next_states::<D>();
@@ -300,10 +332,18 @@ impl Session {
         ensures ok { IsTrue D.tells → (care : Care) (s : State) → Stands care (D.view store.old) self.now s
             → IfOk result (λ rows. HasRows typed.now.plan (lists_of s.streams typed.now.plan) rows.items) }
         ensures err { IsTrue D.tells → (care : Care) (s : State) → Stands care (D.view store.old) self.now s
-            → IfErr result (IsRunRefusal s typed.now.plan) }
+            → IfErr result (IsRunRefusal care s typed.now.plan) }
         ensures narrow { IfOk result (λ rows. HaveFewValues rows.items) }
         ensures fault { IsErrOf result Refusal.Fault
             → Rose (D.counts store.old).reads (D.counts store.new).reads }
+        ensures found { IsTrue D.tells → IfErr result (IsOfFiles (table_in (folder_of self.now)).streams
+            (leaves typed.now.plan) (D.view store.old).files) }
+        ensures taken { IsTrue D.tells → (care : Care) (s : State) → Stands care (D.view store.old) self.now s
+            → OnOk result (CountsRead (sum_by (bytes_at s.streams) (leaves typed.now.plan))
+            (D.counts store.old) (D.counts store.new)) }
+        ensures most { IsTrue D.tells → (care : Care) (s : State) → Stands care (D.view store.old) self.now s
+            → TakesAtMost (sum_by (bytes_at s.streams) (leaves typed.now.plan)) (D.counts store.old)
+            (D.counts store.new) }
         ensures narrows { Narrows (D.view store.old) (D.view store.new) }
         ensures counts { MayRaiseReads (D.counts store.old) (D.counts store.new) }
     {

@@ -7,9 +7,9 @@ use Rattle.nectar_top.proofs.TurnLemmas.{Serving-new}
 use Rattle.nectar_top.proofs.program.begin.Goals as goal
 
 pub returns-in-Ok-load_folder-clause-server : goal.returns-in-Ok-load_folder-clause-server
-returns-in-Ok-load_folder-clause-server g c = λ told found left outside.
-    Serving-new found _ _ _ _ outside (Progress-new found _ _ _ _ outside (subst (λ r. reader.Stands r []) (sym c.new.ensures.reader) c.in-Ok.ensures.room)
-    (subst (λ s. Stands found.care (g.D.Store.view c.load_folder.new.store) s found.first) (sym c.new.ensures.session) (c.in-Ok-load_folder.ensures.stands told found left)) (c.load_folder.ensures.since told found left))
+returns-in-Ok-load_folder-clause-server g c = λ told found left source sink.
+    Serving-new found _ _ _ _ source sink _ _ (Progress-new found _ _ _ _ source sink _ _ (subst (λ r. reader.Stands r []) (sym c.new.ensures.reader) c.in-Ok.ensures.room)
+    (subst (λ s. Stands found.care (g.D.Store.view c.load_folder.new.store) s found.first) (sym c.new.ensures.session) (c.in-Ok-load_folder.ensures.stands told found left)) (c.load_folder.ensures.since told found left) c.load_folder.ensures.counts)
 
 pub returns-in-Ok-load_folder-clause-stopped : goal.returns-in-Ok-load_folder-clause-stopped
 returns-in-Ok-load_folder-clause-stopped g c = λ told file at stops. absurd (goes_on c.in-Ok-load_folder.session file at (c.in-Ok-load_folder.ensures.stopped told file at stops))

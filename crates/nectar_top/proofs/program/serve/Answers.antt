@@ -4,28 +4,28 @@ use Rattle.nectar_top.proofs.CauseLemmas.{none_fell_on, caused_since}
 use Rattle.nectar_top.proofs.program.serve.Goals as goal
 
 pub returns-then-taken-eq-MAX_SCRIPT_LEN-clause-ends : goal.returns-then-taken-eq-MAX_SCRIPT_LEN-clause-ends
-returns-then-taken-eq-MAX_SCRIPT_LEN-clause-ends g c = λ told found origin new.
-    let at = c.loop.invariant.serving told found origin new in
-    c.serve_limit.ensures.ends told found origin at.0 _ at.2 (omega (arith, at.1))
+returns-then-taken-eq-MAX_SCRIPT_LEN-clause-ends g c = λ told found origin begun new.
+    let at = c.loop.invariant.serving told found origin begun new in
+    c.serve_limit.ensures.ends told found origin at.0 begun at.2 (omega (arith, at.1))
 
 pub returns-in-Ok-default-eq0-clause-ends : goal.returns-in-Ok-default-eq0-clause-ends
-returns-in-Ok-default-eq0-clause-ends g c = λ told found origin new.
-    let at = c.loop.invariant.serving told found origin new in
-    let next = c.in-Ok-default-eq0.ensures.ok told found origin at.0 _ at.2 in
-    c.end.ensures.ends told found origin (at.0 ++ next.0) _ (shown (g.S.Source.left c.serve_piece.new.source) (g.K.Sink.written c.serve_piece.new.sink)) next.2 (c.in-Ok-default-eq0.ensures.end (search rules)) (omega (arith, at.1, c.loop.invariant.within, next.1, length-append at.0 next.0))
+returns-in-Ok-default-eq0-clause-ends g c = λ told found origin begun new.
+    let at = c.loop.invariant.serving told found origin begun new in
+    let next = c.in-Ok-default-eq0.ensures.ok told found origin at.0 begun at.2 in
+    c.end.ensures.ends told found origin (at.0 ++ next.0) begun (shown (g.S.Source.left c.serve_piece.new.source) (g.K.Sink.written c.serve_piece.new.sink) (g.D.Store.counts c.serve_piece.new.store)) next.2 (c.in-Ok-default-eq0.ensures.end (search rules)) (omega (arith, at.1, c.loop.invariant.within, next.1, length-append at.0 next.0))
 
 pub returns-in-Err-clause-ends : goal.returns-in-Err-clause-ends
-returns-in-Err-clause-ends g c = λ told found origin new.
-    let at = c.loop.invariant.serving told found origin new in
-    c.in-Err.ensures.err told found origin at.0 _ at.2 (omega (arith, at.1, c.loop.invariant.within, length-take c.min-room.result c.loop.piece))
+returns-in-Err-clause-ends g c = λ told found origin begun new.
+    let at = c.loop.invariant.serving told found origin begun new in
+    c.in-Err.ensures.err told found origin at.0 begun at.2 (omega (arith, at.1, c.loop.invariant.within, length-take c.min-room.result c.loop.piece))
 
 pub loop-preserved : goal.loop-preserved
 loop-preserved g c = record {
   within = omega (arith, c.loop.invariant.within, c.in-Ok.ensures.bound, length-take c.min-room.result c.loop.piece);
   turns = omega (arith, c.loop.invariant.turns, c.in-Ok.count-test.1);
-  serving = λ told found origin new.
-      let at = c.loop.invariant.serving told found origin new in
-      let next = c.in-Ok.ensures.ok told found origin at.0 _ at.2 in
+  serving = λ told found origin begun new.
+      let at = c.loop.invariant.serving told found origin begun new in
+      let next = c.in-Ok.ensures.ok told found origin at.0 begun at.2 in
       (at.0 ++ next.0, omega (arith, at.1, next.1, length-append at.0 next.0), next.2);
   counts = none_fell_on _ _ _ c.loop.invariant.counts c.serve_piece.ensures.counts;
 }

@@ -1,9 +1,13 @@
+use Rattle.std.proofs.Common.{refl}
 use Rattle.nectar_top.proofs.server.answer.Goals as goal
 
 pub returns-in-Ok-send-clause-ok : goal.returns-in-Ok-send-clause-ok
 returns-in-Ok-send-clause-ok g c = λ told care old before stands.
-    record { answer = c.in-Ok.answer; performs = c.in-Ok.ensures.ok told care old stands; wrote = c.in-Ok-send.ensures.ok }
+    record { answer = c.in-Ok.answer; performs = c.in-Ok.ensures.ok told care old stands; faults = c.in-Ok.ensures.faults; wrote = c.in-Ok-send.ensures.ok }
 
 pub returns-in-Err-send-clause-err : goal.returns-in-Err-send-clause-err
 returns-in-Err-send-clause-err g c = λ told care old before stands.
-    record { session = c.in-Ok.session; answer = c.in-Ok.answer; performs = c.in-Ok.ensures.ok told care old stands; sent = c.in-Err-send.ensures.err }
+    record { session = c.in-Ok.session; answer = c.in-Ok.answer; performs = c.in-Ok.ensures.ok told care old stands; faults = c.in-Ok.ensures.faults; sent = c.in-Err-send.ensures.err }
+
+pub returns-in-Err-clause-err : goal.returns-in-Err-clause-err
+returns-in-Err-clause-err g c = λ told care old before stands. record { breaks = c.in-Err.ensures.err told care old stands; counts = c.perform.ensures.counts.reads; wrote = refl }

@@ -8,7 +8,7 @@ loop-at-preserved g c =
     TakenSoFar-more _ _ _ _ _ _ _ _ _ _ _ _ _ _ _ c.args.piece.now c.loop-at.at c.loop-at.invariant _ _ _ _ _ _ c.in-Ok.count c.in-Ok.ensures.bound.1 c.in-Ok.ensures.ok c.take_command.ensures.counts
 
 pub returns-in-Err-clause-err : goal.returns-in-Err-clause-err
-returns-in-Err-clause-err g c = Ends-more _ _ _ _ _ _ _ _ _ _ _ _ _ _ _ c.args.piece.now c.loop-at.at c.loop-at.invariant _ _ _ c.in-Err.ensures.err
+returns-in-Err-clause-err g c = Ends-more _ _ _ _ _ _ _ _ _ _ _ _ _ _ _ c.args.piece.now c.loop-at.at c.loop-at.invariant _ _ _ _ c.in-Err.ensures.err
 
 pub returns-in-Err-clause-cause : goal.returns-in-Err-clause-cause
 returns-in-Err-clause-cause g c = HasCause-more _ _ _ _ _ _ _ _ _ _ _ _ _ _ _ c.args.piece.now c.loop-at.at c.loop-at.invariant _ _ _ c.in-Err.ensures.cause

@@ -8,6 +8,8 @@ use Rattle.folder.specs.Next.{with_rows}
 use Rattle.planning.specs.Appending.{append_change}
 use Rattle.session.proofs.RowLemmas.{are_rows_of}
 use Rattle.session.proofs.StepLemmas.{refuses, stands_prepared, appended_ok, appended_err, kept_performs, either_breaks}
+use Rattle.session.proofs.RefusalLemmas.{appending_refuses}
+use Rattle.session.proofs.TakenLemmas.{of_no_file}
 use Rattle.session.proofs.session.Session.append.Goals as goal
 
 pub record_file-requires-clause-append : goal.record_file-requires-clause-append
@@ -19,19 +21,25 @@ pub returns-in-Ok-prepare-clause-ok : goal.returns-in-Ok-prepare-clause-ok
 returns-in-Ok-prepare-clause-ok g c = λ told care s stands.
     let ok = c.in-Ok.ensures.ok in
     let same = ap table_of c.catalog.ensures ∙ stands.means.table_is in
-    kept_performs care _ _ s (with_rows s ok.0.place ok.0.rows) (command.Append c.args.name c.args.lines) (answer.Held c.in-Ok.plan.held) (appended_ok _ s same c.args.name c.args.lines ok.0 c.in-Ok.plan.held ok.1 ok.5) _
+    kept_performs care _ _ s (with_rows s ok.0.place ok.0.rows) (command.Append c.args.name c.args.lines) (answer.Held c.in-Ok.plan.held) (appended_ok care _ s same c.args.name c.args.lines ok.0 c.in-Ok.plan.held ok.1 ok.5) _
     (c.record_file.ensures.ok told care s ok.0 (stands_prepared care _ _ _ s c.prepare.ensures.table c.prepare.ensures.journal stands) (are_rows_of s _ same ok.0.place ok.0.rows ok.6) (ok.2 ∙ ap (λ (t : Table). append_change t ok.0) same) ok.4) c.record_file.ensures.answer
 
 pub returns-in-Ok-prepare-clause-err : goal.returns-in-Ok-prepare-clause-err
 returns-in-Ok-prepare-clause-err g c = λ told care s stands.
     let ok = c.in-Ok.ensures.ok in
     let same = ap table_of c.catalog.ensures ∙ stands.means.table_is in
-    either_breaks care _ _ s (with_rows s ok.0.place ok.0.rows) (command.Append c.args.name c.args.lines) (answer.Held c.in-Ok.plan.held) (appended_ok _ s same c.args.name c.args.lines ok.0 c.in-Ok.plan.held ok.1 ok.5) _
+    either_breaks care _ _ s (with_rows s ok.0.place ok.0.rows) (command.Append c.args.name c.args.lines) (answer.Held c.in-Ok.plan.held) (appended_ok care _ s same c.args.name c.args.lines ok.0 c.in-Ok.plan.held ok.1 ok.5) _
     (c.record_file.ensures.err told care s ok.0 (stands_prepared care _ _ _ s c.prepare.ensures.table c.prepare.ensures.journal stands) (are_rows_of s _ same ok.0.place ok.0.rows ok.6) (ok.2 ∙ ap (λ (t : Table). append_change t ok.0) same) ok.4)
 
 pub returns-in-Err-clause-ok : goal.returns-in-Err-clause-ok
 returns-in-Err-clause-ok g c = λ told care s stands.
-    refuses care _ c.args.self c.args.self s stands (command.Append c.args.name c.args.lines) c.in-Err.refusal refl refl (appended_err _ s (ap table_of c.catalog.ensures ∙ stands.means.table_is) c.args.name c.args.lines c.in-Err.refusal c.in-Err.ensures.err)
+    refuses care _ c.args.self c.args.self s stands (command.Append c.args.name c.args.lines) c.in-Err.refusal refl refl (appended_err care _ s (ap table_of c.catalog.ensures ∙ stands.means.table_is) c.args.name c.args.lines c.in-Err.refusal c.in-Err.ensures.err)
 
 pub returns-in-Err-prepare-clause-ok : goal.returns-in-Err-prepare-clause-ok
 returns-in-Err-prepare-clause-ok g c = λ told care s stands. refuses care _ c.args.self c.prepare.new.self s stands (command.Append c.args.name c.args.lines) refusal.Memory c.prepare.ensures.table c.prepare.ensures.journal (inr tt)
+
+pub returns-in-Ok-prepare-clause-of_no_file : goal.returns-in-Ok-prepare-clause-of_no_file
+returns-in-Ok-prepare-clause-of_no_file g c = of_no_file (answer.Held c.in-Ok.plan.held) tt _ c.record_file.ensures.answer
+
+pub returns-in-Err-clause-of_no_file : goal.returns-in-Err-clause-of_no_file
+returns-in-Err-clause-of_no_file g c = appending_refuses (table_of c.catalog.result.now) c.args.name c.args.lines c.in-Err.refusal c.in-Err.ensures.err

@@ -12,3 +12,12 @@ returns-in-Ok-clause-only g c = λ told file at stops. absurd (c.in-Ok.ensures.e
 
 pub returns-in-Err-clause-only : goal.returns-in-Err-clause-only
 returns-in-Err-clause-only g c = λ told file at stops. only_of c.in-Err.refusal file at (λ h b is. c.in-Err.ensures.place told file at h b stops (ap Err is))
+
+pub returns-in-Ok-clause-reading : goal.returns-in-Ok-clause-reading
+returns-in-Ok-clause-reading g c = c.in-Ok.ensures.reading
+
+pub returns-in-Ok-clause-crash : goal.returns-in-Ok-clause-crash
+returns-in-Ok-clause-crash g c = c.in-Ok.ensures.stands
+
+pub returns-in-Ok-clause-taken : goal.returns-in-Ok-clause-taken
+returns-in-Ok-clause-taken g c = c.in-Ok.ensures.taken

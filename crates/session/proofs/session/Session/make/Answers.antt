@@ -9,6 +9,8 @@ use Rattle.folder.specs.Next.{with_stream}
 use Rattle.folder.specs.Standing.{IsNext}
 use Rattle.folder.specs.State.{table}
 use Rattle.session.proofs.StepLemmas.{refuses, stands_prepared, made_ok, made_err, kept_performs, kept_breaks}
+use Rattle.session.proofs.RefusalLemmas.{making_refuses}
+use Rattle.session.proofs.TakenLemmas.{of_no_file}
 use Rattle.session.proofs.session.Session.make.Goals as goal
 
 pub returns-in-Ok-prepare-clause-ok : goal.returns-in-Ok-prepare-clause-ok
@@ -18,7 +20,7 @@ returns-in-Ok-prepare-clause-ok g c = λ told care s stands.
     let same = ap table_of c.catalog.ensures ∙ stands.means.table_is in
     let fits = subst (λ x. Fits x (table s)) is (subst (λ t. Fits c.in-Ok.recording.change t) same c.in-Ok.ensures.recorded.fits) in
     let next = c.next_states.ensures.stream care c.args.store.now s c.args.name c.args.columns stands.means.settled stands.means.valid fits in
-    kept_performs care _ _ s (with_stream s c.args.name c.args.columns) (command.Stream c.args.name c.args.columns) answer.Ok (made_ok _ s same c.args.name c.args.columns c.in-Ok.recording.change ok) _
+    kept_performs care _ _ s (with_stream s c.args.name c.args.columns) (command.Stream c.args.name c.args.columns) answer.Ok (made_ok care _ s same c.args.name c.args.columns c.in-Ok.recording.change ok) _
     (c.record.ensures.ok told care s _ (stands_prepared care _ _ _ s c.prepare.ensures.table c.prepare.ensures.journal stands) (subst (λ x. IsNext care (g.D.Store.view c.args.store.now) s x (with_stream s c.args.name c.args.columns)) (sym is) next)) c.record.ensures.answer
 
 pub returns-in-Ok-prepare-clause-err : goal.returns-in-Ok-prepare-clause-err
@@ -28,12 +30,18 @@ returns-in-Ok-prepare-clause-err g c = λ told care s stands.
     let same = ap table_of c.catalog.ensures ∙ stands.means.table_is in
     let fits = subst (λ x. Fits x (table s)) is (subst (λ t. Fits c.in-Ok.recording.change t) same c.in-Ok.ensures.recorded.fits) in
     let next = c.next_states.ensures.stream care c.args.store.now s c.args.name c.args.columns stands.means.settled stands.means.valid fits in
-    kept_breaks care _ _ s (with_stream s c.args.name c.args.columns) (command.Stream c.args.name c.args.columns) answer.Ok (made_ok _ s same c.args.name c.args.columns c.in-Ok.recording.change ok) _
+    kept_breaks care _ _ s (with_stream s c.args.name c.args.columns) (command.Stream c.args.name c.args.columns) answer.Ok (made_ok care _ s same c.args.name c.args.columns c.in-Ok.recording.change ok) _
     (c.record.ensures.err told care s _ (stands_prepared care _ _ _ s c.prepare.ensures.table c.prepare.ensures.journal stands) (subst (λ x. IsNext care (g.D.Store.view c.args.store.now) s x (with_stream s c.args.name c.args.columns)) (sym is) next))
 
 pub returns-in-Err-clause-ok : goal.returns-in-Err-clause-ok
 returns-in-Err-clause-ok g c = λ told care s stands.
-    refuses care _ c.args.self c.args.self s stands (command.Stream c.args.name c.args.columns) c.in-Err.refusal refl refl (made_err _ s (ap table_of c.catalog.ensures ∙ stands.means.table_is) c.args.name c.args.columns c.in-Err.refusal c.in-Err.ensures.err)
+    refuses care _ c.args.self c.args.self s stands (command.Stream c.args.name c.args.columns) c.in-Err.refusal refl refl (made_err care _ s (ap table_of c.catalog.ensures ∙ stands.means.table_is) c.args.name c.args.columns c.in-Err.refusal c.in-Err.ensures.err)
 
 pub returns-in-Err-prepare-clause-ok : goal.returns-in-Err-prepare-clause-ok
 returns-in-Err-prepare-clause-ok g c = λ told care s stands. refuses care _ c.args.self c.prepare.new.self s stands (command.Stream c.args.name c.args.columns) refusal.Memory c.prepare.ensures.table c.prepare.ensures.journal (inr tt)
+
+pub returns-in-Ok-prepare-clause-of_no_file : goal.returns-in-Ok-prepare-clause-of_no_file
+returns-in-Ok-prepare-clause-of_no_file g c = of_no_file answer.Ok tt _ c.record.ensures.answer
+
+pub returns-in-Err-clause-of_no_file : goal.returns-in-Err-clause-of_no_file
+returns-in-Err-clause-of_no_file g c = making_refuses (table_of c.catalog.result.now) c.args.name c.args.columns c.in-Err.refusal c.in-Err.ensures.err

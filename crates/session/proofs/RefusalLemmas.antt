@@ -1,0 +1,275 @@
+-- Which refusals are laid to the store.
+use Rattle.std.proofs.Common.{◌≡◌, ◌⊎◌, ℕ, Bool, true, false, cond, List, Option, None, Some, Ok, Err, Result, IfOk, IfErr, refl, sym, ap, ◌∙◌, subst, inl, inr}
+use Rattle.std.specs.Prelude.{Vec, nat_le, nat_lt, is_some, length}
+use Rattle.std.specs.declared.alloc.Global.{Global}
+use Rattle.rows_core.specs.declared.file_ref.Digest.{Digest}
+use Rattle.rows_core.specs.declared.schema.Column.{Column}
+use Rattle.rows_core.specs.declared.value.Value.{Value}
+use Rattle.rows_core.specs.Schema.{has_repeat}
+use Rattle.catalog_types.specs.declared.change.Change.{Change}
+use Rattle.catalog_types.specs.declared.change.Change.TheVariants as change
+use Rattle.catalog_types.specs.declared.snapshot.StreamState.{StreamState}
+use Rattle.outside_traits.specs.Counts.{Rose}
+use Rattle.outside_traits.specs.declared.failed.Failed.{Failed}
+use Rattle.catalog_core.specs.Programs.{extents_at, most_text_bytes, with_program}
+use Rattle.catalog_core.specs.Table.{Table, place_of, most_ticks, most_streams, most_programs, file_end, most_extents, most_extents_in_all, most_extent_bytes, extent_count}
+use Rattle.plan_binder.specs.declared.refusal.BindRefusal.{BindRefusal}
+use Rattle.plan_binder.specs.declared.refusal.BindRefusal.TheVariants as binding
+use Rattle.plan_core.specs.declared.refusal.PlanRefusal.{PlanRefusal}
+use Rattle.plan_core.specs.declared.refusal.PlanRefusal.TheVariants as typing
+use Rattle.plan_core.specs.Columns.{Rows}
+use Rattle.plan_core.specs.PlainPlan.{PlainPlan, leaves}
+use Rattle.plan_core.specs.PlanTyping.{Kinds}
+use Rattle.plan_grammar.specs.PlainNamed.{PlainTree}
+use Rattle.planning.specs.Appending.{Append, held, append_to, file_bytes, appending, appending_read, IsAppending, IsAppendingAt}
+use Rattle.planning.specs.Making.{making, most_columns}
+use Rattle.planning.specs.Rows.{Reading, BadLine, have_long}
+use Rattle.planning.specs.Rows as rows
+use Rattle.planning.specs.Running.{Run, result_of, bound_plan, typing_of, unbound, untyped, storing, run_of, running_typed, running_bound, running, IsRunOn}
+use Rattle.script_text.specs.declared.answer.Answer.{Answer}
+use Rattle.script_text.specs.declared.answer.Answer.TheVariants as answer
+use Rattle.script_text.specs.declared.answer.LimitKind.TheVariants as limit
+use Rattle.script_text.specs.declared.answer.Refusal.{Refusal}
+use Rattle.script_text.specs.declared.answer.Refusal.TheVariants as refusal
+use Rattle.script_text.specs.declared.item.Command.{Command}
+use Rattle.script_text.specs.declared.item.Command.TheVariants as command
+use Rattle.folder.specs.Sound.{Care, Shown, Whole}
+use Rattle.folder.specs.State.{State, table}
+use Rattle.folder.specs.Causes.{IsOfStreams}
+use Rattle.folder.specs.declared.refusal.ReadRefusal.{ReadRefusal}
+use Rattle.folder.specs.declared.refusal.ReadRefusal.TheVariants as reading
+use Rattle.session.specs.declared.session.Session.{Session}
+use Rattle.session.specs.ReadEvents.{refusal_of, IsRefusedOn}
+use Rattle.session.specs.Machine.{Outcome, outcome, refused, made, appended, lists_of, bytes_read, RunsTo, Performs, IsEvent, Step}
+use Rattle.session.specs.Causes.{SparesStore, TellsOfNoFile, IsOfFiles, IsOfRun, HasByteCause}
+
+-- ---- what planning refuses is laid to the command
+
+spares_if : {C : Type 0} (b : Bool) (x y : Result C Refusal) → IfErr x SparesStore → IfErr y SparesStore → IfErr (cond b x y) SparesStore
+spares_if true x y first second = first
+spares_if false x y first second = second
+
+making_spares : (t : Table) (name : List ℕ) (columns : List Column) → IfErr (making t name columns) SparesStore
+making_spares t name columns =
+    let by_ticks : Result Change Refusal = cond (nat_le most_ticks t.tick) (Err (refusal.Limit limit.Commands)) (Ok (change.Stream name columns)) in
+    let by_streams : Result Change Refusal = cond (nat_le most_streams (length t.streams)) (Err (refusal.Limit limit.Streams)) by_ticks in
+    let by_columns : Result Change Refusal = cond (nat_lt most_columns (length columns)) (Err (refusal.Limit limit.Columns)) by_streams in
+    let by_names : Result Change Refusal = cond (has_repeat columns) (Err refusal.IllTyped) by_columns in
+    spares_if {C = Change} (is_some (place_of t.streams name)) (Err (refusal.Exists name)) by_names tt
+    (spares_if {C = Change} (has_repeat columns) (Err refusal.IllTyped) by_columns tt
+    (spares_if {C = Change} (nat_lt most_columns (length columns)) (Err (refusal.Limit limit.Columns)) by_streams tt
+    (spares_if {C = Change} (nat_le most_streams (length t.streams)) (Err (refusal.Limit limit.Streams)) by_ticks tt
+    (spares_if {C = Change} (nat_le most_ticks t.tick) (Err (refusal.Limit limit.Commands)) (Ok (change.Stream name columns)) tt tt))))
+
+appending_spares : (t : Table) (place : ℕ) (read : List (List Value)) → IfErr (appending t place read) SparesStore
+appending_spares t place read =
+    let by_ticks : Result Append Refusal = cond (nat_le most_ticks t.tick) (Err (refusal.Limit limit.Commands)) (Ok (append_to place read)) in
+    let by_files : Result Append Refusal = cond (nat_le file_end t.next_file) (Err (refusal.Limit limit.Files)) by_ticks in
+    let by_all : Result Append Refusal = cond (nat_le most_extents_in_all (extent_count t.streams)) (Err (refusal.Limit limit.AllExtents)) by_files in
+    let by_extents : Result Append Refusal = cond (nat_le most_extents (length (extents_at t.streams place))) (Err (refusal.Limit limit.Extents)) by_all in
+    let by_bytes : Result Append Refusal = cond (nat_lt most_extent_bytes (length (file_bytes read))) (Err (refusal.Limit limit.Extent)) by_extents in
+    spares_if {C = Append} (have_long read) (Err (refusal.Limit limit.Text)) by_bytes tt
+    (spares_if {C = Append} (nat_lt most_extent_bytes (length (file_bytes read))) (Err (refusal.Limit limit.Extent)) by_extents tt
+    (spares_if {C = Append} (nat_le most_extents (length (extents_at t.streams place))) (Err (refusal.Limit limit.Extents)) by_all tt
+    (spares_if {C = Append} (nat_le most_extents_in_all (extent_count t.streams)) (Err (refusal.Limit limit.AllExtents)) by_files tt
+    (spares_if {C = Append} (nat_le file_end t.next_file) (Err (refusal.Limit limit.Files)) by_ticks tt
+    (spares_if {C = Append} (nat_le most_ticks t.tick) (Err (refusal.Limit limit.Commands)) (Ok (append_to place read)) tt tt)))))
+
+appending_read_spares : (t : Table) (place : ℕ) (read : Reading) → IfErr (appending_read t place read) SparesStore
+appending_read_spares t place (BadLine number) = tt
+appending_read_spares t place (rows.Rows read) = appending_spares t place read
+
+appending_at_spares : (t : Table) (place : Option ℕ) (name : List ℕ) (lines : List (List ℕ)) (given : Result Append Refusal) → IsAppendingAt t place name lines given → IfErr given SparesStore
+appending_at_spares t None name lines given is = subst (λ (g : Result Append Refusal). IfErr g SparesStore) (sym is) tt
+appending_at_spares t (Some place) name lines given is = subst (λ (g : Result Append Refusal). IfErr g SparesStore) (sym is.2) (appending_read_spares t place is.0)
+
+storing_spares : (t : Table) (run : Run) → IfErr (storing t run) SparesStore
+storing_spares t run =
+    let by_ticks : Result Run Refusal = cond (nat_le most_ticks t.tick) (Err (refusal.Limit limit.Commands)) (Ok run) in
+    let by_programs : Result Run Refusal = cond (nat_lt most_programs (length (with_program run.program t.programs))) (Err (refusal.Limit limit.Programs)) by_ticks in
+    spares_if {C = Run} (nat_lt most_text_bytes (length run.program.text)) (Err (refusal.Limit limit.PlanText)) by_programs tt
+    (spares_if {C = Run} (nat_lt most_programs (length (with_program run.program t.programs))) (Err (refusal.Limit limit.Programs)) by_ticks tt
+    (spares_if {C = Run} (nat_le most_ticks t.tick) (Err (refusal.Limit limit.Commands)) (Ok run) tt tt))
+
+untyped_spares : (why : PlanRefusal) → SparesStore (untyped why)
+untyped_spares (typing.Unknown number) = tt
+untyped_spares typing.IllTyped = tt
+untyped_spares typing.TooMany = tt
+untyped_spares typing.Memory = tt
+
+unbound_spares : (why : BindRefusal) → SparesStore (unbound why)
+unbound_spares (binding.Unknown name) = tt
+unbound_spares binding.IllTyped = tt
+unbound_spares binding.Memory = tt
+
+typed_spares : (t : Table) (run : Run) (kinds : Result Kinds PlanRefusal) → IfErr (running_typed t run kinds) SparesStore
+typed_spares t run (Ok kinds) = storing_spares t run
+typed_spares t run (Err why) = untyped_spares why
+
+bound_spares : (t : Table) (name : List ℕ) (tree : PlainTree) (plan : Result PlainPlan BindRefusal) → IfErr (running_bound t name tree plan) SparesStore
+bound_spares t name tree (Ok plan) = typed_spares t (run_of t.streams name tree plan) (typing_of t.streams plan)
+bound_spares t name tree (Err why) = unbound_spares why
+
+abbrev IsMemory : Refusal → Type 0
+IsMemory why = why ≡ refusal.Memory
+
+planned_spares : {C : Type 0} (planned : Result C Refusal) (why : Refusal) → IfErr planned SparesStore → planned ≡ Err why ⊎ IsMemory why → SparesStore why
+planned_spares {C = C} planned why spares (inl is) = subst (λ (r : Result C Refusal). IfErr r SparesStore) is spares
+planned_spares planned why spares (inr none) = subst SparesStore (sym none) tt
+
+pub making_refuses : (t : Table) (name : List ℕ) (columns : List Column) (why : Refusal) → making t name columns ≡ Err why ⊎ IsMemory why → SparesStore why
+making_refuses t name columns why either = planned_spares (making t name columns) why (making_spares t name columns) either
+
+pub appending_refuses : (t : Table) (name : List ℕ) (lines : List (List ℕ)) (why : Refusal) → IsAppending t name lines (Err why) ⊎ IsMemory why → SparesStore why
+appending_refuses t name lines why (inl is) = appending_at_spares t (place_of t.streams name) name lines (Err why) is
+appending_refuses t name lines why (inr none) = subst SparesStore (sym none) tt
+
+running_refuses : (t : Table) (name : List ℕ) (tree : PlainTree) (why : Refusal) → running t name tree ≡ Err why ⊎ IsMemory why → SparesStore why
+running_refuses t name tree why either = planned_spares (running t name tree) why (bound_spares t name tree (bound_plan t.streams tree)) either
+
+-- ---- answers by the bytes of files
+
+module _ (t : Table) (files : ℕ → List ℕ) where
+  stream_cause : (name : List ℕ) (columns : List Column) (given : Answer) → TellsOfNoFile given → HasByteCause t (command.Stream name columns) files given
+  stream_cause name columns (answer.Refused why) tells = tells
+  stream_cause name columns answer.Ok tells = tt
+  stream_cause name columns (answer.Held n) tells = tt
+  stream_cause name columns (answer.Result rows used kept read) tells = tt
+
+  append_cause : (name : List ℕ) (lines : List (List ℕ)) (given : Answer) → TellsOfNoFile given → HasByteCause t (command.Append name lines) files given
+  append_cause name lines (answer.Refused why) tells = tells
+  append_cause name lines answer.Ok tells = tt
+  append_cause name lines (answer.Held n) tells = tt
+  append_cause name lines (answer.Result rows used kept read) tells = tt
+
+  pub stream_causes : (c : Command) (name : List ℕ) (columns : List Column) (result : Result (Session × Answer) Failed) → c ≡ command.Stream name columns → IfOk result (λ next. TellsOfNoFile next.1) → IfOk result (λ next. HasByteCause t c files next.1)
+  stream_causes c name columns (Ok next) is tells = subst (λ x. HasByteCause t x files next.1) (sym is) (stream_cause name columns next.1 tells)
+  stream_causes c name columns (Err failed) is tells = tt
+
+  pub append_causes : (c : Command) (name : List ℕ) (lines : List (List ℕ)) (result : Result (Session × Answer) Failed) → c ≡ command.Append name lines → IfOk result (λ next. TellsOfNoFile next.1) → IfOk result (λ next. HasByteCause t c files next.1)
+  append_causes c name lines (Ok next) is tells = subst (λ x. HasByteCause t x files next.1) (sym is) (append_cause name lines next.1 tells)
+  append_causes c name lines (Err failed) is tells = tt
+
+  -- what is refused before, and want of memory
+  of_spared : (planned : Result Run Refusal) (why : Refusal) → SparesStore why → IsOfRun t planned files why
+  of_spared (Err w) why spares = spares
+  of_spared (Ok run) why spares = by why spares
+    where
+      by : (why : Refusal) → SparesStore why → IsOfFiles t.streams (leaves run.plan) files why
+      by (refusal.Damaged file kept found) spares = absurd spares
+      by (refusal.Unreadable file at) spares = absurd spares
+      by _ spares = tt
+
+  module _ (name : List ℕ) (tree : PlainTree) where
+    pub run_refused : (why : Refusal) → running t name tree ≡ Err why ⊎ IsMemory why → HasByteCause t (command.Run name tree) files (answer.Refused why)
+    run_refused why either = of_spared (running t name tree) why (running_refuses t name tree why either)
+
+    pub run_unread : (run : Run) (plan : PlainPlan) (why : Refusal) → running t name tree ≡ Ok run → plan ≡ run.plan → IsOfFiles t.streams (leaves plan) files why → HasByteCause t (command.Run name tree) files (answer.Refused why)
+    run_unread run plan why is plan_is found = subst (λ (r : Result Run Refusal). IsOfRun t r files why) (sym is) (subst (λ p. IsOfFiles t.streams (leaves p) files why) plan_is found)
+
+    -- a result, or want of memory where it was to be recorded
+    pub run_kept : (rows : Rows) (bytes : ℕ) (given : Answer) → given ≡ result_of rows bytes → (result : Result (Session × Answer) Failed)
+        → IfOk result (λ next. (next.1 ≡ given) ⊎ (next.1 ≡ answer.Refused refusal.Memory)) → IfOk result (λ next. HasByteCause t (command.Run name tree) files next.1)
+    run_kept rows bytes given result_is (Ok next) either = elim either [
+      | inl is ↦ subst (λ (a : Answer). HasByteCause t (command.Run name tree) files a) (sym (is ∙ result_is)) tt
+      | inr none ↦ subst (λ (a : Answer). HasByteCause t (command.Run name tree) files a) (sym none) (of_spared (running t name tree) refusal.Memory tt)
+    ]
+    run_kept rows bytes given result_is (Err failed) either = tt
+
+-- why files aren't read, as a refusal of the run
+pub of_reading : (streams : List StreamState) (numbers : List ℕ) (files : ℕ → List ℕ) (why : ReadRefusal) → IsOfStreams streams numbers files why → IsOfFiles streams numbers files (refusal_of why)
+of_reading streams numbers files reading.Fault found = tt
+of_reading streams numbers files (reading.Damaged file kept digest) found = found
+of_reading streams numbers files (reading.Unreadable file at) found = found
+of_reading streams numbers files reading.Memory found = tt
+
+-- a run on rows that were read is refused for its plan
+pub of_rows : (streams : List StreamState) (numbers : List ℕ) (files : ℕ → List ℕ) (plan : PlainPlan) (lists : List Rows) (result : Result (Vec (List Value) Global) Refusal) → IfErr result (λ why. IsRefusedOn plan lists why ⊎ (why ≡ refusal.Memory))
+    → IfErr result (IsOfFiles streams numbers files)
+of_rows streams numbers files plan lists (Ok rows) either = tt
+of_rows streams numbers files plan lists (Err why) (inl is) = on why is
+  where
+    on : (why : Refusal) → IsRefusedOn plan lists why → IsOfFiles streams numbers files why
+    on (refusal.Damaged file kept found) is = absurd is
+    on (refusal.Unreadable file at) is = absurd is
+    on _ is = tt
+of_rows streams numbers files plan lists (Err why) (inr none) = subst (λ (w : Refusal). IsOfFiles streams numbers files w) (sym none) tt
+
+-- a command that reads no files tells no failed read
+pub no_fault_in : (old new : ℕ) (result : Result (Session × Answer) Failed) → IfOk result (λ next. TellsOfNoFile next.1) → IfOk result (λ next. next.1 ≡ answer.Refused refusal.Fault → Rose old new)
+no_fault_in old new (Ok next) tells = λ is. absurd (subst TellsOfNoFile is tells)
+no_fault_in old new (Err failed) tells = tt
+
+-- ---- so is what the machine does where there is memory and each file is read
+
+-- the refusal that is answered is the one that was planned
+spares_same : (s : State) (why w : Refusal) (new : State) → outcome (answer.Refused why) new ≡ refused s w → SparesStore w → SparesStore why
+spares_same s why w new is spares =
+    let same : answer.Refused why ≡ answer.Refused w = ap (λ (o : Outcome). o.answer) is in
+    let one : w ≡ why = cc in
+    subst SparesStore one spares
+
+made_spares : (s : State) (name : List ℕ) (columns : List Column) (planned : Result Change Refusal) (why : Refusal) (new : State) → IfErr planned SparesStore → outcome (answer.Refused why) new ≡ made s name columns planned → SparesStore why
+made_spares s name columns (Ok change) why new spares is =
+    let same : answer.Refused why ≡ answer.Ok = ap (λ (o : Outcome). o.answer) is in
+    absurd (cc)
+made_spares s name columns (Err w) why new spares is = spares_same s why w new is spares
+
+appended_spares : (s : State) (planned : Result Append Refusal) (why : Refusal) (new : State) → IfErr planned SparesStore → outcome (answer.Refused why) new ≡ appended s planned → SparesStore why
+appended_spares s (Ok a) why new spares is =
+    let same : answer.Refused why ≡ answer.Held (held (table s) a) = ap (λ (o : Outcome). o.answer) is in
+    absurd (cc)
+appended_spares s (Err w) why new spares is = spares_same s why w new is spares
+
+on_spares : (plan : PlainPlan) (lists : List Rows) (bytes : ℕ) (why : Refusal) → IsRunOn plan lists bytes (answer.Refused why) → SparesStore why
+on_spares plan lists bytes refusal.Fault is = absurd is
+on_spares plan lists bytes (refusal.Damaged file kept found) is = absurd is
+on_spares plan lists bytes (refusal.Unreadable file at) is = absurd is
+on_spares plan lists bytes _ is = tt
+
+ran_spares : (s : State) (planned : Result Run Refusal) (why : Refusal) (new : State) → IfErr planned SparesStore → RunsTo s planned (outcome (answer.Refused why) new) → SparesStore why
+ran_spares s (Ok run) why new spares is = on_spares run.plan (lists_of s.streams run.plan) (bytes_read s run) why is.0
+ran_spares s (Err w) why new spares is = spares_same s why w new is spares
+
+performed_spares : (s : State) (c : Command) (why : Refusal) (new : State) → Performs s c (outcome (answer.Refused why) new) → SparesStore why
+performed_spares s (command.Stream name columns) why new is = made_spares s name columns (making (table s) name columns) why new (making_spares (table s) name columns) is
+performed_spares s (command.Append name lines) why new is = appended_spares s is.0 why new (appending_at_spares (table s) (place_of (table s).streams name) name lines is.0 is.1) is.2
+performed_spares s (command.Run name tree) why new is = ran_spares s (running (table s) name tree) why new (bound_spares (table s) name tree (bound_plan (table s).streams tree)) is
+
+-- ---- what comes in the course of a command: want of memory, a failed read, and damage where files may show it
+
+event_spares : (s : State) (c : Command) (why : Refusal) → IsEvent Whole s c why → (why ≡ refusal.Fault → ⊥) → SparesStore why
+event_spares s c refusal.Fault event none = none refl
+event_spares s (command.Stream name columns) (refusal.Damaged file kept found) event none = absurd event
+event_spares s (command.Append name lines) (refusal.Damaged file kept found) event none = absurd event
+event_spares s (command.Run name tree) (refusal.Damaged file kept found) event none =
+    let may : Whole ≡ Shown = event.may in
+    absurd (cc)
+event_spares s (command.Stream name columns) (refusal.Unreadable file at) event none = absurd event
+event_spares s (command.Append name lines) (refusal.Unreadable file at) event none = absurd event
+event_spares s (command.Run name tree) (refusal.Unreadable file at) event none = absurd event
+event_spares s c _ event none = tt
+
+-- where the files hold their bytes no refusal but that of a failed read is laid to the store
+pub step_spares : (s new : State) (c : Command) (why : Refusal) → Step Whole s c (answer.Refused why) new → (why ≡ refusal.Fault → ⊥) → SparesStore why
+step_spares s new c why (inl performs) none = performed_spares s c why new performs
+step_spares s new c why (inr event) none =
+    let same : answer.Refused why ≡ answer.Refused event.0 = ap (λ (o : Outcome). o.answer) event.2 in
+    let one : event.0 ≡ why = cc in
+    event_spares s c why (subst (IsEvent Whole s c) one event.1) none
+
+-- and never is one for unreadable bytes
+pub never_unreadable : (care : Care) (s new : State) (c : Command) (file at : ℕ) → Step care s c (answer.Refused (refusal.Unreadable file at)) new → ⊥
+never_unreadable care s new c file at (inl performs) = performed_spares s c (refusal.Unreadable file at) new performs
+never_unreadable care s new c file at (inr event) =
+    let same : answer.Refused (refusal.Unreadable file at) ≡ answer.Refused event.0 = ap (λ (o : Outcome). o.answer) event.2 in
+    let one : event.0 ≡ refusal.Unreadable file at = cc in
+    unread c (subst (IsEvent care s c) one event.1)
+  where
+    unread : (c : Command) → IsEvent care s c (refusal.Unreadable file at) → ⊥
+    unread (command.Stream name columns) is = is
+    unread (command.Append name lines) is = is
+    unread (command.Run name tree) is = is
+
+pub never_damaged : (s new : State) (c : Command) (file : ℕ) (kept found : Digest) → Step Whole s c (answer.Refused (refusal.Damaged file kept found)) new → ⊥
+never_damaged s new c file kept found step = step_spares s new c (refusal.Damaged file kept found) step (λ is. absurd (cc))
