@@ -64,8 +64,8 @@ impl Session {
     pub fn load<D: Store>(alloc: Global, store: &mut D) -> Result<Session, LoadRefusal>
         ensures stands { IsTrue D.tells → (care : Care) (a b : State) → IsLeft care (D.view store.old) a b
             → IfOk result (λ session. Stands care (D.view store.new) session a) }
-        // On every store that tells its files the table is what they read as, and what they read as after each
-        // crash now.
+        // On every store that tells its files the table is what they read as, and what each crash now leaves
+        // reads as.
         ensures reading { IsTrue D.tells
             → IfOk result (λ session. ReadsAs (D.view store.old).files (table_in (folder_of session))) }
         ensures crash { IsTrue D.tells
