@@ -1,6 +1,19 @@
-//! What a rewriting is estimated to cost, and the bytes that it reads.
+//! The least rewriting of a plan at a cut, what a rewriting is estimated to cost, and the bytes that it
+//! reads.
 #![tactic(auto)]
 
+mod choosing;
+mod cuts;
+mod inputs;
+pub mod laws;
+mod least_rewriting;
+mod made;
 mod measures;
+mod nodes;
+mod priced;
+mod search;
+mod sums;
+mod table;
 
+pub use least_rewriting::least;
 pub use measures::{estimate, reads};

@@ -1,0 +1,100 @@
+-- The cheapest of the three forms is a least rewriting's, and a least tree of the chosen form is a least one.
+use Rattle.std.proofs.Common.{◌≡◌, ℕ, ◌≤◌, ◌⊎◌, inl, inr, Option, None, Some, arith, refl, ap, sym, subst}
+use Rattle.plan_core.specs.PlainPlan.{PlainPlan}
+use Rattle.estimator.specs.Bytes.{Lengths}
+use Rattle.estimator.specs.Cuts.{Cuts}
+use Rattle.rewrite_core.specs.Entries.{Entries}
+use Rattle.rewrite_core.specs.Estimate.{estimate_of, IsLeast}
+use Rattle.rewrite_core.specs.IsRewriting.{IsRewriting, among}
+use Rattle.rewrite_core.specs.PlainRewriting.{PlainRewriting, PlainWay}
+use Rattle.rewriter.specs.declared.priced.Choice.{Choice}
+use Rattle.rewriter.specs.declared.priced.Form.{Form}
+use Rattle.rewriter.specs.declared.priced.Form.TheVariants as form
+use Rattle.rewriter.specs.declared.priced.Priced.{Priced}
+use Rattle.rewriter.specs.declared.priced.Want.{Want}
+use Rattle.rewriter.specs.declared.priced.Want.TheVariants as want
+use Rattle.rewriter.specs.Choosing.{IsCheaper}
+use Rattle.rewriter.specs.Forms.{way_in, IsComputed, IsRead, IsGrown, IsLeastOf, HasNone}
+use Rattle.rewriter.specs.Search.{Prices, Least, LeastOf, LeastIfAny, ways_of, IsChoice}
+use Rattle.rewriter.proofs.LeastParts.{forms, least_of_forms}
+
+module _ (entries : Entries) (lengths : Lengths) (q : PlainPlan) (c : Cuts) where
+  -- a least rewriting of the chosen form has the estimate
+  record Holds (choice : Choice) : Type 0 where
+    of : PlainRewriting
+    least_of : IsLeastOf (ways_of choice.form) entries lengths q c of
+    estimate : choice.estimate ≡ estimate_of lengths of
+
+  -- no rewriting of the form has a smaller estimate
+  abbrev Under : (PlainWay → Type 0) → ℕ → Type 0
+  Under Ways n = (other : PlainRewriting) → IsRewriting (among entries) q c other → Ways (way_in other) → n ≤ estimate_of lengths other
+
+  under_of : (Ways : PlainWay → Type 0) (p : Priced) → LeastOf want.Price Ways entries lengths q c p → Under Ways p.estimate
+  under_of Ways p l = λ other k f. subst (λ n. n ≤ estimate_of lengths other) (sym l.prices.estimate) (l.least.least other k f)
+
+  under_below : (Ways : PlainWay → Type 0) (n m : ℕ) → m ≤ n → Under Ways n → Under Ways m
+  under_below Ways n m le u = λ other k f. let h = u other k f in omega arith
+
+  lower : (choice r : Choice) (f : Form) (o : Option Priced) → IsCheaper choice f o r → r.estimate ≤ choice.estimate
+  lower choice r f None e = let t = ap (λ x. x.estimate) e in omega arith
+  lower choice r f (Some p) (inl e) = let t = ap (λ x. x.estimate) e.0 in omega arith
+  lower choice r f (Some p) (inr e) = let t = ap (λ x. x.estimate) e.0 in let k = e.1 in omega arith
+
+  holds_next : (choice r : Choice) (f : Form) (o : Option Priced) → LeastIfAny want.Price (ways_of f) entries lengths q c o → IsCheaper choice f o r → Holds choice → Holds r
+  holds_next choice r f None l e h = subst Holds (sym e) h
+  holds_next choice r f (Some p) l (inl e) h = subst Holds (sym e.0) h
+  holds_next choice r f (Some p) l (inr e) h = subst Holds (sym e.0) (record { of = l.of; least_of = l.least; estimate = l.prices.estimate })
+
+  under_next : (choice r : Choice) (f : Form) (o : Option Priced) → LeastIfAny want.Price (ways_of f) entries lengths q c o → IsCheaper choice f o r → Under (ways_of f) r.estimate
+  under_next choice r f None l e = λ other k w. absurd (l other k w)
+  under_next choice r f (Some p) l (inl e) =
+      let t = ap (λ x. x.estimate) e.0 in let k = e.1 in under_below (ways_of f) p.estimate r.estimate (omega arith) (under_of (ways_of f) p l)
+  under_next choice r f (Some p) l (inr e) =
+      let t = ap (λ x. x.estimate) e.0 in under_below (ways_of f) p.estimate r.estimate (omega arith) (under_of (ways_of f) p l)
+
+  pub chosen : (computed : Priced) (read grown : Option Priced) (second third : Choice) → LeastOf want.Price IsComputed entries lengths q c computed →
+      LeastIfAny want.Price IsRead entries lengths q c read → LeastIfAny want.Price IsGrown entries lengths q c grown →
+      IsCheaper (record { form = form.Computed; estimate = computed.estimate }) form.Read read second → IsCheaper second form.Grown grown third → IsChoice entries lengths q c third
+  chosen computed read grown second third a b d e f =
+      let first : Choice = record { form = form.Computed; estimate = computed.estimate } in
+      let holds = holds_next second third form.Grown grown d f (holds_next first second form.Read read b e (record { of = a.of; least_of = a.least; estimate = a.prices.estimate })) in
+      let below = lower second third form.Grown grown f in
+      let computes = under_below IsComputed second.estimate third.estimate below (under_below IsComputed computed.estimate second.estimate (lower first second form.Read read e) (under_of IsComputed computed a)) in
+      let reads = under_below IsRead second.estimate third.estimate below (under_next first second form.Read read b e) in
+      let grows = under_next second third form.Grown grown d f in
+      record {
+        of = holds.of;
+        least_of = holds.least_of;
+        estimate = holds.estimate;
+        least = λ other k. under_each other k computes reads grows;
+      }
+    where
+      under_each : (other : PlainRewriting) → IsRewriting (among entries) q c other → Under IsComputed third.estimate → Under IsRead third.estimate → Under IsGrown third.estimate → third.estimate ≤ estimate_of lengths other
+      under_each other k u v w = go (forms (way_in other))
+        where
+          go : IsComputed (way_in other) ⊎ (IsRead (way_in other) ⊎ IsGrown (way_in other)) → third.estimate ≤ estimate_of lengths other
+          go (inl x) = u other k x
+          go (inr (inl x)) = v other k x
+          go (inr (inr x)) = w other k x
+
+  -- the choice's own tree is a least one
+  pub least_there : (choice : Choice) → (h : IsChoice entries lengths q c choice) → IsLeast entries lengths q c h.of
+  least_there choice h = record { is = h.least_of.is; least = λ other k. subst (λ n. n ≤ estimate_of lengths other) h.estimate (h.least other k) }
+
+  pub least_by_form : (w : Want) (choice : Choice) (f : Form) (p : Priced) → choice.form ≡ f → IsChoice entries lengths q c choice → LeastOf w (ways_of f) entries lengths q c p → Least w entries lengths q c p
+  least_by_form w choice f p e h l = record {
+    of = l.of;
+    least = record {
+      is = l.least.is;
+      least = λ other k.
+          let mine = l.least.least h.of h.least_of.is (subst (λ x. ways_of x (way_in h.of)) e h.least_of.form) in
+          let there = h.estimate in
+          let under = h.least other k in
+          omega arith;
+    };
+    prices = l.prices;
+  }
+
+  -- a form that was chosen has a rewriting
+  pub form_there : (choice : Choice) (f : Form) → choice.form ≡ f → IsChoice entries lengths q c choice → HasNone (ways_of f) entries q c → ⊥
+  form_there choice f e h none = none h.of h.least_of.is (subst (λ x. ways_of x (way_in h.of)) e h.least_of.form)

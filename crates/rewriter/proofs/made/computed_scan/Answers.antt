@@ -1,0 +1,12 @@
+use Rattle.plan_core.specs.PlainPlan.{plan_of}
+use Rattle.rewrite_core.specs.PlainRewriting.{Node, Scan}
+use Rattle.rewriter.proofs.LeastParts as law
+use Rattle.rewriter.proofs.made.computed_scan.Goals as goal
+
+pub returns : goal.returns
+returns g c =
+    record {
+      of = Node (plan_of c.args.plan.now) c.args.cuts.now Scan;
+      least = law.computed_scan (g.L.Lookup.entries c.args.lookup.now) (g.Z.Sizes.lengths c.args.sizes.now) (plan_of c.args.plan.now) c.args.cuts.now c.requires.scan;
+      prices = record { estimate = c.whole_bytes-estimate.ensures; shown = c.in_ok-tree.ensures.shown; given = c.in_ok-tree.ensures.given };
+    }

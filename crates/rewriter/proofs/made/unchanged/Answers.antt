@@ -1,0 +1,13 @@
+use Rattle.std.proofs.Common.{refl}
+use Rattle.plan_core.specs.PlainPlan.{plan_of}
+use Rattle.rewrite_core.specs.PlainRewriting.{Change, Unchanged}
+use Rattle.rewriter.proofs.LeastParts as law
+use Rattle.rewriter.proofs.made.unchanged.Goals as goal
+
+pub returns : goal.returns
+returns g c =
+    record {
+      of = Change (plan_of c.args.plan.now) c.args.old.now c.args.new.now Unchanged;
+      least = law.delta_unchanged (g.L.Lookup.entries c.args.lookup.now) (g.Z.Sizes.lengths c.args.sizes.now) (plan_of c.args.plan.now) c.args.old.now c.args.new.now c.requires.same;
+      prices = record { estimate = refl; shown = c.in_ok-tree.ensures.shown; given = c.in_ok-tree.ensures.given };
+    }

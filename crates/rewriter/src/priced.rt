@@ -1,0 +1,42 @@
+//! What the search answers of a plan at a cut, or between two cuts.
+
+use rewrite_core::{Delta, Rewriting};
+
+/// Whether the search is for estimates alone, or for the trees that have them too.
+#[derive(Clone, Copy, PartialEq, Eq)]
+pub enum Want {
+    Price,
+    Tree,
+}
+
+/// How a rewriting makes the result of its plan.
+#[derive(Clone, Copy, PartialEq, Eq)]
+pub enum Form {
+    /// The operator is carried out, or the extents are read.
+    Computed,
+    /// The kept result of the plan and the cut is read.
+    Read,
+    /// The kept result of an earlier cut is read, and what came since is added.
+    Grown,
+}
+
+/// The form of a least rewriting, and its estimate.
+#[derive(Clone, Copy)]
+pub struct Choice {
+    pub form: Form,
+    pub estimate: u64,
+}
+
+/// The estimate of a rewriting, and the rewriting where it is wanted.
+#[derive(Drop)]
+pub struct Priced {
+    pub estimate: u64,
+    pub tree: Option<Rewriting>,
+}
+
+/// The estimate of a delta, and the delta where it is wanted.
+#[derive(Drop)]
+pub struct PricedDelta {
+    pub estimate: u64,
+    pub tree: Option<Delta>,
+}
