@@ -54,8 +54,8 @@ pub fn pairs_of(alloc: Global, text: &str) -> Result<Seq<(u32, u32)>> {
 pub fn list_at(lists: &Streams, place: usize) -> Result<&[Row]>
     ensures { IfOk result (λ rows. length rows.now ≤ 4294967295) }
 {
-    match lists.rows.get(place) {
-        Some(rows) if rows.len() <= 4_294_967_295 => Ok(rows),
+    match lists.rows.items().get(place) {
+        Some(rows) if rows.items().len() <= 4_294_967_295 => Ok(rows.items()),
         _ => bail!("no such list"),
     }
 }

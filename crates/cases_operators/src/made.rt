@@ -22,13 +22,13 @@ impl Generator {
 }
 
 /// So many rows of each of the streams, which have these kinds.
-pub fn rows_made(alloc: Global, streams: &[Seq<Kind>], count: u32) -> Result<Vec<Vec<Row>>> {
+pub fn rows_made(alloc: Global, streams: &[Seq<Kind>], count: u32) -> Result<Seq<Seq<Row>>> {
     let mut generator = Generator { state: 1 };
     let mut lists = Vec::new(alloc);
     for kinds in streams {
         lists.push(list_made(alloc, kinds.items(), count, &mut generator)?)?;
     }
-    Ok(lists)
+    Ok(Seq::new(lists))
 }
 
 fn list_made(
@@ -36,12 +36,12 @@ fn list_made(
     kinds: &[Kind],
     count: u32,
     generator: &mut Generator,
-) -> Result<Vec<Row>> {
+) -> Result<Seq<Row>> {
     let mut rows = Vec::new(alloc);
     for _ in 0..count {
         rows.push(row_made(alloc, kinds, generator)?)?;
     }
-    Ok(rows)
+    Ok(Seq::new(rows))
 }
 
 fn row_made(alloc: Global, kinds: &[Kind], generator: &mut Generator) -> Result<Row> {

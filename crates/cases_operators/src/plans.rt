@@ -47,7 +47,7 @@ fn told(alloc: Global, answer: Result<String>) -> Result<String> {
 fn rows_run(alloc: Global, typed: &Typed, streams: &Streams) -> Result<String>
     requires { IsTypedOver streams.now.schemas.kinds typed.now }
 {
-    let lists = extents_of_leaves(alloc, typed.leaves(), &streams.rows)?;
+    let lists = extents_of_leaves(alloc, typed.leaves(), streams.rows.items())?;
     if !are_of_streams(streams.schemas.kinds.items(), typed.leaves(), &lists) {
         bail!("not rows of the streams");
     }
@@ -58,12 +58,12 @@ fn rows_run(alloc: Global, typed: &Typed, streams: &Streams) -> Result<String>
 fn extents_of_leaves(
     alloc: Global,
     leaves: &[u32],
-    streams: &[Vec<Row>],
+    streams: &[Seq<Row>],
 ) -> Result<Vec<Vec<Seq<Row>>>> {
     let mut lists = Vec::new(alloc);
     for leaf in leaves {
         let rows = streams.get(*leaf as usize).context("no stream")?;
-        lists.push(extents_of(alloc, rows)?)?;
+        lists.push(extents_of(alloc, rows.items())?)?;
     }
     Ok(lists)
 }

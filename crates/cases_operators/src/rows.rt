@@ -15,11 +15,11 @@ use std::alloc::Global;
 pub fn answer(alloc: Global, word: &str, arguments: &str, lists: Streams) -> Result<String> {
     let Streams { schemas, rows } = lists;
     let kinds = schemas.kinds.items().first().context("no list")?;
-    let mut rows = rows.into_iter();
+    let mut rows = rows.into_vec().into_iter();
     let first = rows.next().context("no list")?;
     match rows.next() {
-        None => of_one(alloc, word, arguments, kinds.items(), first),
-        Some(second) => of_two(alloc, word, arguments, first, second),
+        None => of_one(alloc, word, arguments, kinds.items(), first.into_vec()),
+        Some(second) => of_two(alloc, word, arguments, first.into_vec(), second.into_vec()),
     }
 }
 
