@@ -4,3 +4,4 @@ pub mod LeastParts
 pub mod Shapes
 pub mod Choices
 pub mod Tables
+pub mod WellFormed

@@ -6,7 +6,8 @@ ghost use Rattle.estimator.specs.Cuts.{Cuts};
 ghost use Rattle.rewrite_core.specs.declared.rewriting.Hit.{Hit};
 ghost use Rattle.rewrite_core.specs.Entries.{Entries, AreSound, IsWhole, IsEarlier};
 ghost use Rattle.rewrite_core.specs.Estimate.{estimate_of, IsLeast, IsLeastDelta};
-ghost use Rattle.rewrite_core.specs.IsRewriting.{IsRewriting, among, IsScan, IsLonger, lefts, rights};
+ghost use Rattle.rewrite_core.specs.IsRewriting.{IsRewriting, among, whichever, IsScan, IsLonger, lefts};
+ghost use Rattle.rewrite_core.specs.IsRewriting.{rights};
 ghost use Rattle.rewrite_core.specs.PlainRewriting.{PlainRewriting, Node, Scan, One, Two, Read, Tail};
 ghost use Rattle.rewrite_core.specs.PlainRewriting.{LeftGrew, RightGrew, BothGrew, PlainDelta, Change};
 ghost use Rattle.rewrite_core.specs.PlainRewriting.{Unchanged, NewRows, OfChild, OfDistinct, OfJoin};
@@ -104,4 +105,11 @@ pub fn least_of_forms()
         → ((other : PlainRewriting) → IsRewriting (among entries) q c other → IsGrown (way_in other)
         → estimate_of lengths r ≤ estimate_of lengths other)
         → IsLeast entries lengths q c r }
+{}
+
+/// A rewriting over sound entries is well formed, so that it can be estimated, and the bytes that it reads be
+/// told, without the entries.
+pub fn rewritings_are_formed()
+    ensures { (entries : Entries) → AreSound entries → (q : PlainPlan) (c : Cuts) (r : PlainRewriting)
+        → IsRewriting (among entries) q c r → IsRewriting whichever q c r }
 {}
