@@ -5,7 +5,7 @@ use Rattle.std.proofs.lemmas.Bool.{ltb-false, le-ltb}
 use Rattle.std.proofs.lemmas.List.{take_at, drop_at, take-append-drop, length-append, length-take}
 use Rattle.std.proofs.lemmas.Nat.{be_bytes_4, be_bytes_8, from_be_bytes-to_be_bytes_4, from_be_bytes-to_be_bytes_8}
 use Rattle.byte_formats.specs.Reading.{number_at, bounded_at, left_between}
-use Rattle.byte_formats.proofs.Readers.{IsBytes, IsBytes-drop, IsBytes-take, guard_ok, ok_is, Takes, IsReader}
+use Rattle.byte_formats.proofs.Readers.{IsBytes, IsBytes-drop, IsBytes-take, guard_ok, ok_is, HasFront, IsReader}
 
 pub record IsWide (w : Width) (limit : ℕ) : Type 0 where
   pub len : (n : ℕ) → length (to_be_bytes w n) ≡ byte_len w
@@ -29,12 +29,12 @@ wide64 = record {
   below = λ bytes fits. omega (arith, fits 0, fits 1, fits 2, fits 3, fits 4, fits 5, fits 6, fits 7);
 }
 
-number_takes : (w : Width) (limit : ℕ) (wide : IsWide w limit) (bytes : List ℕ) (x : ℕ × List ℕ) → IsBytes bytes → number_at w bytes ≡ Ok x → Takes (to_be_bytes w) (λ n. n < limit) bytes x
+number_takes : (w : Width) (limit : ℕ) (wide : IsWide w limit) (bytes : List ℕ) (x : ℕ × List ℕ) → IsBytes bytes → number_at w bytes ≡ Ok x → HasFront (to_be_bytes w) (λ n. n < limit) bytes x
 number_takes w limit wide bytes x fits e =
     let g = guard_ok (ltb (length bytes) (byte_len w)) 0 (Ok (from_be_bytes w (take (byte_len w) bytes), drop (byte_len w) bytes)) x e in
     let long : byte_len w ≤ length bytes = ltb-false _ _ g.0 in
     let front : to_be_bytes w (from_be_bytes w (take (byte_len w) bytes)) ≡ take (byte_len w) bytes = wide.back (take (byte_len w) bytes) (omega (arith, length-take (byte_len w) bytes)) (IsBytes-take (byte_len w) bytes fits) in
-    subst (λ y. Takes (to_be_bytes w) (λ n. n < limit) bytes y) (ok_is (from_be_bytes w (take (byte_len w) bytes), drop (byte_len w) bytes) x g.1)
+    subst (λ y. HasFront (to_be_bytes w) (λ n. n < limit) bytes y) (ok_is (from_be_bytes w (take (byte_len w) bytes), drop (byte_len w) bytes) x g.1)
     (record { parts = sym (ap (λ (l : List ℕ). l ++ drop (byte_len w) bytes) front ∙ take-append-drop (byte_len w) bytes); rest = IsBytes-drop (byte_len w) bytes fits; fits = wide.below (take (byte_len w) bytes) (IsBytes-take (byte_len w) bytes fits) })
 
 number_again : (w : Width) (limit : ℕ) (wide : IsWide w limit) (n : ℕ) (rest : List ℕ) → n < limit → number_at w (to_be_bytes w n ++ rest) ≡ Ok (n, rest)
@@ -56,7 +56,7 @@ or_parts false false e = (refl, refl)
 abbrev pub IsBetween : ℕ → ℕ → ℕ → Type 0
 IsBetween low high n = (low ≤ n) × (n ≤ high)
 
-bounded_takes : (w : Width) (limit : ℕ) (wide : IsWide w limit) (low high : ℕ) (bytes : List ℕ) (x : ℕ × List ℕ) → IsBytes bytes → bounded_at w low high bytes ≡ Ok x → Takes (to_be_bytes w) (IsBetween low high) bytes x
+bounded_takes : (w : Width) (limit : ℕ) (wide : IsWide w limit) (low high : ℕ) (bytes : List ℕ) (x : ℕ × List ℕ) → IsBytes bytes → bounded_at w low high bytes ≡ Ok x → HasFront (to_be_bytes w) (IsBetween low high) bytes x
 unfolding bounded_at
 bounded_takes w limit wide low high bytes x fits e =
     let left = left_between (to_be_bytes w low) (to_be_bytes w high) bytes true true in

@@ -34,11 +34,11 @@ pub ok_is : {A : Type 0} (x y : A) → done x ≡ done y → x ≡ y
 ok_is x y e = cc
 
 -- a value at the front, and the bytes after it
-pub record Takes {A : Type 0} (spell : A → List ℕ) (P : A → Type 0) (bytes : List ℕ) (x : A × List ℕ) : Type 0 where
+pub record HasFront {A : Type 0} (spell : A → List ℕ) (P : A → Type 0) (bytes : List ℕ) (x : A × List ℕ) : Type 0 where
   pub parts : bytes ≡ spell x.0 ++ x.1
   pub rest : IsBytes x.1
   pub fits : P x.0
 
 pub record IsReader {A : Type 0} (read : List ℕ → Read A) (spell : A → List ℕ) (P : A → Type 0) : Type 0 where
-  pub takes : (bytes : List ℕ) (x : A × List ℕ) → IsBytes bytes → read bytes ≡ Ok x → Takes spell P bytes x
+  pub takes : (bytes : List ℕ) (x : A × List ℕ) → IsBytes bytes → read bytes ≡ Ok x → HasFront spell P bytes x
   pub again : (a : A) (rest : List ℕ) → P a → read (spell a ++ rest) ≡ Ok (a, rest)

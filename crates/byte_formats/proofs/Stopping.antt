@@ -4,7 +4,7 @@ use Rattle.std.proofs.lemmas.Bool.{cases_lt}
 use Rattle.std.proofs.lemmas.List.{take-append-drop, length-append}
 use Rattle.std.proofs.Math.Seq.{take-length}
 use Rattle.byte_formats.specs.Reading.{◌>>=◌, Read}
-use Rattle.byte_formats.proofs.Readers.{IsBytes, IsReader, Takes}
+use Rattle.byte_formats.proofs.Readers.{IsBytes, IsReader, HasFront}
 use Rattle.byte_formats.proofs.Same.{Same, same_less, same_longer, same_behind, read_same}
 
 -- a step that failed, or that succeeded and was followed by one that failed
@@ -46,7 +46,7 @@ goes_longer read spell P law bytes left e g more =
     same_longer n (spell g.item) more bytes (omega arith) g.same
 
 -- behind a part that was read
-module _ {A : Type 0} (read : List ℕ → Read A) (spell : A → List ℕ) (P : A → Type 0) (law : IsReader read spell P) (bytes : List ℕ) (x : A × List ℕ) (t : Takes spell P bytes x) where
+module _ {A : Type 0} (read : List ℕ → Read A) (spell : A → List ℕ) (P : A → Type 0) (law : IsReader read spell P) (bytes : List ℕ) (x : A × List ℕ) (t : HasFront spell P bytes x) where
   parts_len : length bytes ≡ length (spell x.0) + length x.1
   parts_len = ap length t.parts ∙ length-append (spell x.0) x.1
 

@@ -7,7 +7,7 @@ use Rattle.rows_core.specs.Txt.{IsTxt}
 use Rattle.byte_formats.specs.Reading.{bounded_at, any_following, left_in_text, is_text, text_at}
 use Rattle.byte_formats.specs.Format.{text_spelling}
 use Rattle.byte_formats.proofs.Texts.{is_text-true, is_text-parts}
-use Rattle.byte_formats.proofs.Readers.{IsBytes, IsBytes-drop, bind_ok, guard_ok, Takes}
+use Rattle.byte_formats.proofs.Readers.{IsBytes, IsBytes-drop, bind_ok, guard_ok, HasFront}
 use Rattle.byte_formats.proofs.Fields.{wide32, bounded_reader}
 
 -- a test that did not fail, the other way round
@@ -15,7 +15,7 @@ kept_ok : {A : Type 0} (b : Bool) (x y : A) (d : ℕ) → cond b (Ok x) (Err d) 
 kept_ok true x y d e = (refl, cc)
 kept_ok false x y d e = absurd cc
 
-pub text_takes : (bytes : List ℕ) (x : List ℕ × List ℕ) → IsBytes bytes → text_at bytes ≡ Ok x → Takes text_spelling IsTxt bytes x
+pub text_takes : (bytes : List ℕ) (x : List ℕ × List ℕ) → IsBytes bytes → text_at bytes ≡ Ok x → HasFront text_spelling IsTxt bytes x
 unfolding text_at
 text_takes bytes x fits e =
     let b = bind_ok (bounded_at w32 0 1000 bytes) (λ n. cond (ltb (length n.1) n.0) (Err (left_in_text (any_following 0) n.0 n.1)) (cond (is_text (take n.0 n.1)) (Ok (take n.0 n.1, drop n.0 n.1)) (Err (left_in_text (any_following 0) n.0 n.1)))) x e in
@@ -30,7 +30,7 @@ text_takes bytes x fits e =
     let parts : bytes ≡ text_spelling (take n.0 n.1) ++ drop n.0 n.1 =
     t.parts ∙ ap (λ (l : List ℕ). to_be_bytes w32 n.0 ++ l) (sym (take-append-drop n.0 n.1)) ∙ sym (append_assoc (to_be_bytes w32 n.0) (take n.0 n.1) (drop n.0 n.1))
     ∙ ap (λ (m : ℕ). (to_be_bytes w32 m ++ take n.0 n.1) ++ drop n.0 n.1) (sym len) in
-    subst (λ y. Takes text_spelling IsTxt bytes y) k.1
+    subst (λ y. HasFront text_spelling IsTxt bytes y) k.1
     (record { parts = parts; rest = IsBytes-drop n.0 n.1 t.rest; fits = (is_text-parts (take n.0 n.1) k.0, omega (arith, len, small)) })
 
 pub text_again : (t rest : List ℕ) → IsTxt t → text_at (text_spelling t ++ rest) ≡ Ok (t, rest)

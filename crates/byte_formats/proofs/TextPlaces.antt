@@ -5,7 +5,7 @@ use Rattle.std.proofs.lemmas.Bool.{ltb-true, lt-ltb, le-ltb, both_ways, cases_lt
 use Rattle.rows_core.specs.Txt.{IsTxt}
 use Rattle.byte_formats.specs.declared.text.Followers.{Followers}
 use Rattle.byte_formats.specs.Reading.{bounded_at, any_following, followers_of, followers_after, left_in_text, or_else, is_text, text_at}
-use Rattle.byte_formats.proofs.Readers.{IsBytes, IsReader, Takes}
+use Rattle.byte_formats.proofs.Readers.{IsBytes, IsReader, HasFront}
 use Rattle.byte_formats.specs.Format.{text_spelling}
 use Rattle.byte_formats.proofs.Fields.{wide32, IsBetween, bounded_reader}
 use Rattle.byte_formats.proofs.Texts.{is_text-true}
@@ -177,7 +177,7 @@ longer_goes bytes left fits e =
       same = subst (λ (n : ℕ). Same (length bytes - left) (to_be_bytes w32 n ++ t.text) bytes) (sym t.len) (goes_longer (bounded_at w32 0 1000) (to_be_bytes w32) (IsBetween 0 1000) lengths bytes left e g t.text);
     }
 
-inner_goes : (bytes : List ℕ) (left : ℕ) (n : ℕ × List ℕ) → Takes (to_be_bytes w32) (IsBetween 0 1000) bytes n → text_of n ≡ Err left → GoesTo text_spelling IsTxt bytes left
+inner_goes : (bytes : List ℕ) (left : ℕ) (n : ℕ × List ℕ) → HasFront (to_be_bytes w32) (IsBetween 0 1000) bytes n → text_of n ≡ Err left → GoesTo text_spelling IsTxt bytes left
 inner_goes bytes left n t e =
     let r = refusal n.0 n.1 left e in
     let g = text_goes n.1 (any_following 0) n.0 (omega arith) (omega arith) r.1 in

@@ -1,6 +1,6 @@
-//! Runs over a store that fails at some call and at each call behind it. Commands stand behind each other with
-//! ` ; ` between them, and each is answered one line; in front of them and of ` : ` stands a probe, a script
-//! whose answers tell the state.
+//! Runs over a store that fails at some call and at each call behind it. Commands stand behind each other
+//! with ` ; ` between them, and each is answered one line; in front of them and of ` : ` stands a probe, a
+//! script whose answers tell the state.
 
 use crate::script;
 use anyhow::{Context, Result};

@@ -56,8 +56,8 @@ pub struct Catalog {
     ghost named: { names.keys ≡ map name_of streams.items },
     ghost counted: { extents ≡ extent_count (states_of streams.items) },
     ghost sound: { IsTable (table_with tick next_file next_id (states_of streams.items)
-        programs.items entries.items) } by { IsTable-prop (table_with tick next_file next_id (states_of streams.items)
-            programs.items entries.items) },
+        programs.items entries.items) } by { IsTable-prop (table_with tick next_file next_id
+            (states_of streams.items) programs.items entries.items) },
 }
 
 impl Catalog {
@@ -67,9 +67,9 @@ impl Catalog {
     ghost use Rattle.catalog_core.specs.Catalogs.{HasRoomForProgram, IsReady};
     ghost use Rattle.catalog_core.specs.Programs.{names_of, columns_of, with_program};
     ghost use Rattle.catalog_core.specs.Streams as stream;
-    ghost use Rattle.catalog_core.specs.Table.{empty_table, place_of, most_ticks, Fits, FitsStream, FitsAppend};
-    ghost use Rattle.catalog_core.specs.Table.{IsNextExtent, HasPlaceForExtent, FitsProgram, after, with_tick};
-    ghost use Rattle.catalog_core.specs.Table.{with_programs, with_stored, most_programs};
+    ghost use Rattle.catalog_core.specs.Table.{empty_table, place_of, most_ticks, Fits, FitsStream};
+    ghost use Rattle.catalog_core.specs.Table.{FitsAppend, IsNextExtent, HasPlaceForExtent, FitsProgram};
+    ghost use Rattle.catalog_core.specs.Table.{after, with_tick, with_programs, with_stored, most_programs};
 
     /// The empty table.
     pub fn new(alloc: Global) -> Catalog
@@ -343,7 +343,8 @@ impl Catalog {
         requires counted { (table_of self.old).tick < most_ticks }
         requires fits { FitsProgram program (table_of self.old) }
         requires room { HasRoomForProgram program self.old }
-        ensures { table_of self.new ≡ with_tick (with_programs (with_stored program (table_of self.old).programs)
+        ensures { table_of self.new ≡ with_tick (with_programs (with_stored program
+            (table_of self.old).programs)
             (table_of self.old)) }
     {
         if let Some(program) = program {

@@ -49,7 +49,8 @@ fn plan_of_text(
     text: &[u8],
 ) -> Result<Option<Typed>, Memory>
     ensures found { IfOk result (λ found. IfSome found
-        (λ typed. IsPlanOf (states_of streams.now) text.now typed.plan × (typed.leaves ≡ leaves typed.plan))) }
+        (λ typed. IsPlanOf (states_of streams.now) text.now typed.plan
+        × (typed.leaves ≡ leaves typed.plan))) }
     ensures only { IfOk result (λ found. IfSome found (λ typed. (plan : PlainPlan)
         → IsPlanOf (states_of streams.now) text.now plan → plan ≡ typed.plan)) }
     ensures none { IfOk result (λ found. IfNone found

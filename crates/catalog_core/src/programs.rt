@@ -1,5 +1,6 @@
 //! The programs in the byte order of their names.
-ghost use Rattle.std.specs.Prelude.{◌≡◌, ◌↔◌, ◌<◌, ◌≤◌, List, length, slice_get, IsTrue, Some, vec_len, vec_capacity};
+ghost use Rattle.std.specs.Prelude.{◌≡◌, ◌↔◌, ◌<◌, ◌≤◌, List, length, slice_get, IsTrue, Some};
+ghost use Rattle.std.specs.Prelude.{vec_len, vec_capacity};
 ghost use Rattle.catalog_types.specs.declared.program.Program as plain;
 ghost use Rattle.catalog_core.specs.Programs.{AreByName, is_below, below, with_program};
 ghost use Rattle.catalog_core.specs.Table.{most_programs};

@@ -45,8 +45,8 @@ impl Folder {
         ensures reading { IsTrue D.tells
             → IfOk result (λ folder. ReadsAs (D.view store.old).files (table_in folder)) }
         ensures stands { IsTrue D.tells → IfOk result (λ folder. FolderStands (D.view store.new) folder) }
-        // From a store that is left: each crash since leaves one of its states, and after `Ok` the first alone.
-        // It is never `NotAStore`, by `store`.
+        // From a store that is left: each crash since leaves one of its states, and after `Ok` the first
+        // alone. It is never `NotAStore`, by `store`.
         ensures crash { IsTrue D.tells → (care : Care) (a b : State) → IsLeft care (D.view store.old) a b
             → Since care a b (D.view store.old) (D.view store.new) }
         ensures means { IsTrue D.tells → (care : Care) (a b : State) → IsLeft care (D.view store.old) a b

@@ -112,6 +112,8 @@ impl MemStore {
             ((⟦<MemStore as InMemory>⟧.shown self.new ≡ ⟦<MemStore as InMemory>⟧.shown self.old)
             × ((⟦<MemStore as Store>⟧.view self.new).moment ≡ (⟦<MemStore as Store>⟧.view self.old).moment)) }
         ensures counts { ⟦<MemStore as Store>⟧.counts self.new ≡ ⟦<MemStore as Store>⟧.counts self.old }
+        ensures refused { ⟦<MemStore as InMemory>⟧.refused self.new
+            ≡ ⟦<MemStore as InMemory>⟧.refused self.old }
         ensures shown { OnOk result
             (state_in (⟦<MemStore as InMemory>⟧.shown self.new) file ≡ stable_file file bytes.now) }
         ensures schedule { ⟦<MemStore as InMemory>⟧.schedule self.new

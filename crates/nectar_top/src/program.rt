@@ -141,7 +141,8 @@ fn begin<D: Store>(alloc: Global, folder: &str, store: &mut D) -> Result<(Server
     ensures not_a_store { IsTrue D.tells → (file at : ℕ) → IsErrOf result (Exit.NotAStore file at)
         → StopsReading (D.view store.old).files file at × Narrows (D.view store.old) (D.view store.new) }
     ensures stopped { IsTrue D.tells → (file at : ℕ) → StopsReading (D.view store.old).files file at
-        → IsErrOf result (Exit.NotAStore file at) ⊎ (IsErrOf result Exit.StoreFault ⊎ IsErrOf result Exit.Memory) }
+        → IsErrOf result (Exit.NotAStore file at) ⊎ (IsErrOf result Exit.StoreFault
+        ⊎ IsErrOf result Exit.Memory) }
     ensures cause { IfErr result (λ exit. HasLoadingCause exit (D.counts store.old) (D.counts store.new)) }
     ensures counts { Rises (D.counts store.old) (D.counts store.new) }
 {
@@ -178,7 +179,8 @@ fn load_folder<D: Store>(alloc: Global, folder: &str, store: &mut D) -> Result<S
     ensures not_a_store { IsTrue D.tells → (file at : ℕ) → IsErrOf result (Exit.NotAStore file at)
         → StopsReading (D.view store.old).files file at × Narrows (D.view store.old) (D.view store.new) }
     ensures stopped { IsTrue D.tells → (file at : ℕ) → StopsReading (D.view store.old).files file at
-        → IsErrOf result (Exit.NotAStore file at) ⊎ (IsErrOf result Exit.StoreFault ⊎ IsErrOf result Exit.Memory) }
+        → IsErrOf result (Exit.NotAStore file at) ⊎ (IsErrOf result Exit.StoreFault
+        ⊎ IsErrOf result Exit.Memory) }
     ensures cause { IfErr result (λ exit. HasLoadingCause exit (D.counts store.old) (D.counts store.new)) }
     ensures counts { Rises (D.counts store.old) (D.counts store.new) }
 {

@@ -91,7 +91,8 @@ impl Server {
 
     /// The script ends here: answers the command that it leaves unfinished.
     pub fn end<K: Sink, D: Store>(self, sink: &mut K, store: &mut D) -> Exit
-        ensures ends { IsTrue D.tells → (found : Found) (origin : D) (served : List ℕ) (begun before : Outside)
+        ensures ends { IsTrue D.tells → (found : Found) (origin : D) (served : List ℕ)
+            (begun before : Outside)
             → Serving found (D.view origin) (D.view store.old) self.reader self.session served [] begun
             (with_answer before (K.written sink.old) (D.counts store.old))
             → IsAtEnd before.left → length served ≤ longest_script

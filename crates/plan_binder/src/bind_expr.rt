@@ -138,7 +138,7 @@ fn choose(alloc: Global, test: Expr, first: Expr, last: Expr) -> Result<Expr, Me
 }
 
 /// The expressions of the columns.
-#[tactic(auto, using(plan_core::specs::AllThere::found_start, plan_core::specs::AllThere::found_more, plan_core::specs::AllThere::found_none, plan_core::specs::AllThere::found_end))]
+#[tactic(auto, using(plan_core::specs::AllThere::found))]
 pub fn bind_exprs(
     alloc: Global,
     names: &[Name],

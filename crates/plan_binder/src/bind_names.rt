@@ -52,7 +52,7 @@ pub fn has_repeat(names: &[Name]) -> bool
 }
 
 /// The places of these names.
-#[tactic(auto, using(plan_core::specs::AllThere::found_start, plan_core::specs::AllThere::found_more, plan_core::specs::AllThere::found_none, plan_core::specs::AllThere::found_end))]
+#[tactic(auto, using(plan_core::specs::AllThere::found))]
 pub fn bind_columns(
     alloc: Global,
     names: &[Name],
@@ -69,7 +69,7 @@ pub fn bind_columns(
 }
 
 /// The pairs with numbers, of a left and of a right name.
-#[tactic(auto, using(plan_core::specs::AllThere::found_start, plan_core::specs::AllThere::found_more, plan_core::specs::AllThere::found_none, plan_core::specs::AllThere::found_end))]
+#[tactic(auto, using(plan_core::specs::AllThere::found))]
 pub fn bind_pairs(
     alloc: Global,
     lefts: &[Name],
@@ -95,7 +95,7 @@ fn bind_pair(lefts: &[Name], rights: &[Name], pair: &NamedPair) -> Result<(u32, 
 }
 
 /// The keys with numbers.
-#[tactic(auto, using(plan_core::specs::AllThere::found_start, plan_core::specs::AllThere::found_more, plan_core::specs::AllThere::found_none, plan_core::specs::AllThere::found_end))]
+#[tactic(auto, using(plan_core::specs::AllThere::found))]
 pub fn bind_keys(alloc: Global, names: &[Name], keys: &[NamedKey]) -> Result<Vec<Key>, BindRefusal>
     ensures { Resolves items_of result (all_there (map (bound_key names.now) keys.now)) }
 {
@@ -116,7 +116,7 @@ fn bind_key(names: &[Name], key: &NamedKey) -> Result<Key, BindRefusal>
 }
 
 /// The aggregates of the results with numbers.
-#[tactic(auto, using(plan_core::specs::AllThere::found_start, plan_core::specs::AllThere::found_more, plan_core::specs::AllThere::found_none, plan_core::specs::AllThere::found_end))]
+#[tactic(auto, using(plan_core::specs::AllThere::found))]
 pub fn bind_aggs(
     alloc: Global,
     names: &[Name],

@@ -1,5 +1,6 @@
 //! Which appends are accepted.
-ghost use Rattle.std.specs.Prelude.{◌≡◌, ◌⊎◌, ◌<◌, ℕ, List, Ok, Err, IfOk, IfErr, IsErrOf, IsTrue, not, length};
+ghost use Rattle.std.specs.Prelude.{◌≡◌, ◌⊎◌, ◌<◌, ℕ, List, Ok, Err, IfOk, IfErr, IsErrOf, IsTrue};
+ghost use Rattle.std.specs.Prelude.{not, length};
 ghost use Rattle.rows_core.specs.Schema.{kinds_of};
 ghost use Rattle.row_blob.specs.declared.kept.Kept.TheVariants as form;
 ghost use Rattle.catalog_core.specs.Catalogs.{table_of};

@@ -71,7 +71,8 @@ fn record_append(
         (extent_with (file_of (table_of catalog.now).next_file (kept_spelling accepted.kept)) accepted.count)
         (table_of catalog.now) }
     ensures change { IfOk result (λ plan. plan.recording.change ≡ change.Append accepted.place
-        (extent_with (file_of (table_of catalog.now).next_file (kept_spelling accepted.kept)) accepted.count)) }
+        (extent_with (file_of (table_of catalog.now).next_file
+        (kept_spelling accepted.kept)) accepted.count)) }
     ensures recorded { IfOk result (λ plan.
         IsRecordOf (table_of catalog.now) plan.recording.change plan.recording.body.items) }
     ensures bytes { IfOk result (λ plan. plan.bytes.items ≡ kept_spelling accepted.kept) }

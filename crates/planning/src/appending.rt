@@ -1,6 +1,6 @@
 //! Appends.
-ghost use Rattle.std.specs.Prelude.{◌≡◌, ◌⊎◌, ◌<◌, ◌≤◌, ℕ, List, Ok, Err, IfOk, IfErr, IfSome, IfNone, IsTrue};
-ghost use Rattle.std.specs.Prelude.{not, length};
+ghost use Rattle.std.specs.Prelude.{◌≡◌, ◌⊎◌, ◌<◌, ◌≤◌, ℕ, List, Ok, Err, IfOk, IfErr, IfSome, IfNone};
+ghost use Rattle.std.specs.Prelude.{IsTrue, not, length};
 ghost use Rattle.row_blob.specs.declared.kept.Kept.TheVariants as form;
 ghost use Rattle.rows_core.specs.declared.value.Value.{Value};
 ghost use Rattle.catalog_core.specs.Catalogs.{table_of};

@@ -44,7 +44,8 @@ pub(crate) fn program_of(
     ensures name { IfOk result (λ program. program.name ≡ name) }
     ensures text { IfOk result (λ program. program.text ≡ canonical_text plan.now) }
     ensures spells { IfOk result (λ program. SpellsText plan.now program.text) }
-    ensures cuts { IfOk result (λ program. program.cuts ≡ map (whole_cut (states_of streams.now)) leaves.now) }
+    ensures cuts { IfOk result (λ program. program.cuts
+        ≡ map (whole_cut (states_of streams.now)) leaves.now) }
 {
     let text = print_plan(alloc, plan)?;
     let cuts = whole_cuts(alloc, streams, leaves)?;

@@ -21,14 +21,15 @@ use std::alloc::Global;
 
 /// The change that the bytes spell: `NotChange` exactly where there is none, with the place where reading
 /// stops. Within a plan's bytes it is where reading of the plan stops. The keys of a checkpoint's entries
-/// aren't spelled, and 32 zero bytes stand in their place. Memory is asked for what was read, never for what a
-/// count or a length only announces.
+/// aren't spelled, and 32 zero bytes stand in their place. Memory is asked for what was read, never for what
+/// a count or a length only announces.
 pub fn read_change(alloc: Global, bytes: &[u8]) -> Result<Change, ChangeRefusal>
     // What is read is spelled so.
     ensures found { IfOk result
         (λ change. HasChangeSpelling change × (keyless change ≡ change)
         × (bytes.now ≡ change_spelling change)) }
-    // It has no more parts than there are bytes: items of lists, bytes of names and texts, and parts of plans.
+    // It has no more parts than there are bytes: items of lists, bytes of names and texts, and parts of
+    // plans.
     ensures few { IfOk result (λ change. change_parts change ≤ length bytes.now) }
     // What is spelled so is read, but for the keys, unless memory runs out.
     ensures only { (change : Change) → HasChangeSpelling change → bytes.now ≡ change_spelling change

@@ -4,7 +4,7 @@ use Rattle.std.specs.List.{flat_map}
 use Rattle.byte_formats.specs.Reading.{◌>>=◌, Read}
 use Rattle.row_blob.specs.Reading.{each_at}
 use Rattle.row_blob.specs.Kept.{AreEach}
-use Rattle.byte_formats.proofs.Readers.{IsBytes, IsReader, Takes, bind_ok, ok_is}
+use Rattle.byte_formats.proofs.Readers.{IsBytes, IsReader, HasFront, bind_ok, ok_is}
 use Rattle.byte_formats.proofs.Same.{Same}
 use Rattle.byte_formats.proofs.Stopping.{bind_err, GoesTo, IsExact, goes_longer, behind_within, behind_left_goes, behind_left_stops}
 
@@ -138,14 +138,14 @@ module _ {A B : Type 0} (r1 : List ℕ → Read A) (s1 : A → List ℕ) (P1 : A
   abbrev second_of : A → Read B → Read (A × B)
   second_of a m = m >>= λ y. Ok ((a, y.0), y.1)
 
-  both_take : (bytes : List ℕ) (x : (A × B) × List ℕ) → IsBytes bytes → pair_of (r1 bytes) ≡ Ok x → Takes (λ (p : A × B). s1 p.0 ++ s2 p.1) (λ (p : A × B). P1 p.0 × P2 p.1) bytes x
+  both_take : (bytes : List ℕ) (x : (A × B) × List ℕ) → IsBytes bytes → pair_of (r1 bytes) ≡ Ok x → HasFront (λ (p : A × B). s1 p.0 ++ s2 p.1) (λ (p : A × B). P1 p.0 × P2 p.1) bytes x
   both_take bytes x fits e =
       let a = bind_ok (r1 bytes) (λ x. second_of x.0 (r2 x.1)) x e in
       let b = bind_ok (r2 a.0.1) (λ y. Ok ((a.0.0, y.0), y.1)) x a.2 in
       let s = law1.takes bytes a.0 fits a.1 in
       let t = law2.takes a.0.1 b.0 s.rest b.1 in
       let made : (A × B) × List ℕ = ((a.0.0, b.0.0), b.0.1) in
-      subst (λ y. Takes (λ (p : A × B). s1 p.0 ++ s2 p.1) (λ (p : A × B). P1 p.0 × P2 p.1) bytes y) (ok_is made x b.2)
+      subst (λ y. HasFront (λ (p : A × B). s1 p.0 ++ s2 p.1) (λ (p : A × B). P1 p.0 × P2 p.1) bytes y) (ok_is made x b.2)
       (record { parts = s.parts ∙ ap (λ (l : List ℕ). s1 a.0.0 ++ l) t.parts ∙ sym (append_assoc (s1 a.0.0) (s2 b.0.0) b.0.1); rest = t.rest; fits = (s.fits, t.fits) })
 
   both_again : (p : A × B) (rest : List ℕ) → P1 p.0 × P2 p.1 → pair_of (r1 ((s1 p.0 ++ s2 p.1) ++ rest)) ≡ Ok (p, rest)

@@ -8,7 +8,7 @@ use Rattle.row_blob.specs.Spelling.{opening}
 use Rattle.byte_formats.specs.Reading.{◌>>=◌, Read, literal_at, ended}
 use Rattle.row_blob.specs.Reading.{items_at}
 use Rattle.row_blob.specs.Kept.{AreInOrder}
-use Rattle.byte_formats.proofs.Readers.{IsBytes, bind_ok, Takes, IsReader}
+use Rattle.byte_formats.proofs.Readers.{IsBytes, bind_ok, HasFront, IsReader}
 use Rattle.row_blob.proofs.KeptLaws.{literal_takes, IsBytes-after}
 use Rattle.byte_formats.proofs.Same.{Same, same_longer, same_behind, same_cancel}
 use Rattle.byte_formats.proofs.Stopping.{IsExact, bind_err, proper, goes_longer, behind_goes, behind_stops}
@@ -126,7 +126,7 @@ module _ {X A : Type 0} (form : ℕ) (header : List ℕ → Read X) (hs : X → 
   rest_fits : (bytes rest : List ℕ) → IsBytes bytes → literal_at (opening form) bytes ≡ Ok rest → IsBytes rest
   rest_fits bytes rest fits e = IsBytes-after (opening form) rest (subst IsBytes (literal_takes (opening form) bytes rest e) fits)
 
-  items_len : (rest : List ℕ) (h : X × List ℕ) → Takes hs PX rest h → length rest ≡ length (hs h.0) + length h.1
+  items_len : (rest : List ℕ) (h : X × List ℕ) → HasFront hs PX rest h → length rest ≡ length (hs h.0) + length h.1
   items_len rest h t = ap length t.parts ∙ length-append (hs h.0) h.1
 
   pub file_goes : (bytes : List ℕ) (left : ℕ) → IsBytes bytes → FileFails bytes left → FileGoes bytes left

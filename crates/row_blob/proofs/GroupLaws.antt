@@ -17,7 +17,7 @@ use Rattle.byte_formats.specs.Reading.{◌>>=◌, number_at}
 use Rattle.row_blob.specs.Reading.{value_at, row_at, count_at, sum_at, acc_at, accs_at, group_at, group_after, tagged_at}
 use Rattle.rows_core.specs.Value.{row_eq}
 use Rattle.row_blob.specs.Kept.{keys_of, last_left, AreEach, IsCount, IsSum, IsAcc, IsNextGroup, IsNextTagged}
-use Rattle.byte_formats.proofs.Readers.{IsBytes, bind_ok, guard_ok, ok_is, Takes, IsReader}
+use Rattle.byte_formats.proofs.Readers.{IsBytes, bind_ok, guard_ok, ok_is, HasFront, IsReader}
 use Rattle.row_blob.proofs.Readers.{each_reader}
 use Rattle.byte_formats.proofs.Fields.{wide64, number_reader, bounded_reader, or_parts}
 use Rattle.row_blob.proofs.RowLaws.{value_reader, row_reader}
@@ -27,27 +27,27 @@ unfolding count_at
 count_reader = bounded_reader w64 (2 ^ 64) wide64 1 4294967295 (omega arith)
 
 module _ (sums : IsReader sum_at (signed w128) IsSum) where
-  acc_takes : (kind : AccKind) (bytes : List ℕ) (x : Acc × List ℕ) → IsBytes bytes → acc_at kind bytes ≡ Ok x → Takes acc_spelling (IsAcc kind) bytes x
+  acc_takes : (kind : AccKind) (bytes : List ℕ) (x : Acc × List ℕ) → IsBytes bytes → acc_at kind bytes ≡ Ok x → HasFront acc_spelling (IsAcc kind) bytes x
   unfolding acc_at
   acc_takes acc_kind.Count bytes x fits e =
       let b = bind_ok (count_at bytes) (λ n. Ok (acc.Count n.0, n.1)) x e in
       let t = count_reader.takes bytes b.0 fits b.1 in
-      subst (λ y. Takes acc_spelling (IsAcc acc_kind.Count) bytes y) (ok_is (acc.Count b.0.0, b.0.1) x b.2) (record { parts = t.parts; rest = t.rest; fits = t.fits })
+      subst (λ y. HasFront acc_spelling (IsAcc acc_kind.Count) bytes y) (ok_is (acc.Count b.0.0, b.0.1) x b.2) (record { parts = t.parts; rest = t.rest; fits = t.fits })
   acc_takes acc_kind.Sum bytes x fits e =
       let b = bind_ok (sum_at bytes) (λ s. Ok (acc.Sum s.0, s.1)) x e in
       let t = sums.takes bytes b.0 fits b.1 in
-      subst (λ y. Takes acc_spelling (IsAcc acc_kind.Sum) bytes y) (ok_is (acc.Sum b.0.0, b.0.1) x b.2) (record { parts = t.parts; rest = t.rest; fits = t.fits })
+      subst (λ y. HasFront acc_spelling (IsAcc acc_kind.Sum) bytes y) (ok_is (acc.Sum b.0.0, b.0.1) x b.2) (record { parts = t.parts; rest = t.rest; fits = t.fits })
   acc_takes acc_kind.Avg bytes x fits e =
       let a = bind_ok (sum_at bytes) (λ s. count_at s.1 >>= λ n. Ok (acc.Avg s.0 n.0, n.1)) x e in
       let b = bind_ok (count_at a.0.1) (λ n. Ok (acc.Avg a.0.0 n.0, n.1)) x a.2 in
       let s = sums.takes bytes a.0 fits a.1 in
       let t = count_reader.takes a.0.1 b.0 s.rest b.1 in
-      subst (λ y. Takes acc_spelling (IsAcc acc_kind.Avg) bytes y) (ok_is (acc.Avg a.0.0 b.0.0, b.0.1) x b.2)
+      subst (λ y. HasFront acc_spelling (IsAcc acc_kind.Avg) bytes y) (ok_is (acc.Avg a.0.0 b.0.0, b.0.1) x b.2)
       (record { parts = s.parts ∙ ap (λ (l : List ℕ). signed w128 a.0.0 ++ l) t.parts ∙ sym (append_assoc (signed w128 a.0.0) (to_be_bytes w64 b.0.0) b.0.1); rest = t.rest; fits = (s.fits, t.fits) })
   acc_takes (acc_kind.Pick kind) bytes x fits e =
       let b = bind_ok (value_at kind bytes) (λ v. Ok (acc.Pick v.0, v.1)) x e in
       let t = (value_reader kind).takes bytes b.0 fits b.1 in
-      subst (λ y. Takes acc_spelling (IsAcc (acc_kind.Pick kind)) bytes y) (ok_is (acc.Pick b.0.0, b.0.1) x b.2) (record { parts = t.parts; rest = t.rest; fits = t.fits })
+      subst (λ y. HasFront acc_spelling (IsAcc (acc_kind.Pick kind)) bytes y) (ok_is (acc.Pick b.0.0, b.0.1) x b.2) (record { parts = t.parts; rest = t.rest; fits = t.fits })
 
   acc_again : (kind : AccKind) (a : Acc) (rest : List ℕ) → IsAcc kind a → acc_at kind (acc_spelling a ++ rest) ≡ Ok (a, rest)
   unfolding acc_at
@@ -69,7 +69,7 @@ module _ (sums : IsReader sum_at (signed w128) IsSum) where
   accs_reader kinds = each_reader acc_at acc_spelling IsAcc acc_reader kinds
 
   group_takes : (keys : List kind.Kind) (kinds : List AccKind) (before : List GroupRow) (bytes : List ℕ) (x : GroupRow × List ℕ) → IsBytes bytes → group_after keys kinds before bytes ≡ Ok x
-      → Takes group_spelling (IsNextGroup keys kinds before) bytes x
+      → HasFront group_spelling (IsNextGroup keys kinds before) bytes x
   unfolding group_at
   group_takes keys kinds before bytes x fits e =
       let a = bind_ok (row_at keys bytes) (λ key. cond (list_any (row_eq key.0) (keys_of before)) (Err (suc (length key.1))) (accs_at kinds key.1 >>= λ accs. Ok (record { key = key.0; accs = accs.0 }, accs.1))) x e in
@@ -78,7 +78,7 @@ module _ (sums : IsReader sum_at (signed w128) IsSum) where
       let s = (row_reader keys).takes bytes a.0 fits a.1 in
       let t = (accs_reader kinds).takes a.0.1 b.0 s.rest b.1 in
       let made : GroupRow × List ℕ = (record { key = a.0.0; accs = b.0.0 }, b.0.1) in
-      subst (λ y. Takes group_spelling (IsNextGroup keys kinds before) bytes y) (ok_is made x b.2)
+      subst (λ y. HasFront group_spelling (IsNextGroup keys kinds before) bytes y) (ok_is made x b.2)
       (record { parts = s.parts ∙ ap (λ (l : List ℕ). row_spelling a.0.0 ++ l) t.parts ∙ sym (append_assoc (row_spelling a.0.0) (flat_map acc_spelling b.0.0) b.0.1); rest = t.rest; fits = (s.fits, t.fits, g.0) })
 
   group_again : (keys : List kind.Kind) (kinds : List AccKind) (before : List GroupRow) (g : GroupRow) (rest : List ℕ) → IsNextGroup keys kinds before g → group_after keys kinds before (group_spelling g ++ rest) ≡ Ok (g, rest)
@@ -97,7 +97,7 @@ module _ (sums : IsReader sum_at (signed w128) IsSum) where
 -- ---- rows of a join
 
 tagged_takes : (left : ℕ) (kinds : List kind.Kind) (before : List TaggedRow) (bytes : List ℕ) (x : TaggedRow × List ℕ) → IsBytes bytes → tagged_at left kinds before bytes ≡ Ok x
-    → Takes tagged_spelling (IsNextTagged left kinds before) bytes x
+    → HasFront tagged_spelling (IsNextTagged left kinds before) bytes x
 unfolding tagged_at
 tagged_takes left kinds before bytes x fits e =
     let a = bind_ok (number_at w64 bytes) (λ n. cond (ltb n.0 (last_left before) || nat_le left n.0) (Err (suc (length n.1))) (row_at kinds n.1 >>= λ row. Ok (record { left = n.0; row = row.0 }, row.1))) x e in
@@ -107,7 +107,7 @@ tagged_takes left kinds before bytes x fits e =
     let s = (number_reader w64 (2 ^ 64) wide64).takes bytes a.0 fits a.1 in
     let t = (row_reader kinds).takes a.0.1 b.0 s.rest b.1 in
     let made : TaggedRow × List ℕ = (record { left = a.0.0; row = b.0.0 }, b.0.1) in
-    subst (λ y. Takes tagged_spelling (IsNextTagged left kinds before) bytes y) (ok_is made x b.2)
+    subst (λ y. HasFront tagged_spelling (IsNextTagged left kinds before) bytes y) (ok_is made x b.2)
     (record { parts = s.parts ∙ ap (λ (l : List ℕ). to_be_bytes w64 a.0.0 ++ l) t.parts ∙ sym (append_assoc (to_be_bytes w64 a.0.0) (row_spelling b.0.0) b.0.1); rest = t.rest; fits = (ltb-false _ _ tests.0, leb-false _ _ tests.1, t.fits) })
 
 tagged_again : (left : ℕ) (small : left ≤ 4294967295) (kinds : List kind.Kind) (before : List TaggedRow) (row : TaggedRow) (rest : List ℕ) → IsNextTagged left kinds before row → tagged_at left kinds before (tagged_spelling row ++ rest) ≡ Ok (row, rest)

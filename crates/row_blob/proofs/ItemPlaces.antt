@@ -6,7 +6,7 @@ use Rattle.std.proofs.lemmas.Grind.{flat_map-append}
 use Rattle.byte_formats.specs.Reading.{◌>>=◌, Read, ended}
 use Rattle.row_blob.specs.Reading.{items_at}
 use Rattle.row_blob.specs.Kept.{AreInOrder}
-use Rattle.byte_formats.proofs.Readers.{IsBytes, bind_ok, Takes, IsReader}
+use Rattle.byte_formats.proofs.Readers.{IsBytes, bind_ok, HasFront, IsReader}
 use Rattle.byte_formats.proofs.Same.{Same, same_behind}
 use Rattle.byte_formats.proofs.Stopping.{IsExact, bind_err, proper, goes_longer, behind_stops}
 
@@ -30,7 +30,7 @@ module _ {A : Type 0} (spell : A → List ℕ) (off : ℕ) where
 
   -- what an item owes, P being what is said of one by the first n bytes of the file
   pub record IsPlaced (item : List A → List ℕ → Read A) (P : ℕ → List A → A → Type 0) : Type 0 where
-    pub takes : (n : ℕ) (before : List A) (bytes : List ℕ) (x : A × List ℕ) → IsBytes bytes → item before bytes ≡ Ok x → Takes spell (P n before) bytes x
+    pub takes : (n : ℕ) (before : List A) (bytes : List ℕ) (x : A × List ℕ) → IsBytes bytes → item before bytes ≡ Ok x → HasFront spell (P n before) bytes x
     pub filler : A
     pub filler_fits : (n : ℕ) (before : List A) → n < begin before → P n before filler
     pub within : (before : List A) (bytes : List ℕ) (left : ℕ) → IsBytes bytes → item before bytes ≡ Err left → left ≤ suc (length bytes)

@@ -18,7 +18,7 @@ use Rattle.row_blob.specs.Spelling.{row_spelling, group_spelling, tagged_spellin
 use Rattle.byte_formats.specs.Reading.{◌>>=◌, Read, literal_at, number_at, bounded_at, ended}
 use Rattle.row_blob.specs.Reading.{Reads, items_at, row_at, rows_at, group_after, groups_at, tagged_at, tagged_rows_at, kept_at}
 use Rattle.row_blob.specs.Kept.{AreInOrder, IsRow, IsNextGroup, IsNextTagged, IsKept}
-use Rattle.byte_formats.proofs.Readers.{IsBytes, bind_ok, ok_is, done, Takes, IsReader}
+use Rattle.byte_formats.proofs.Readers.{IsBytes, bind_ok, ok_is, done, HasFront, IsReader}
 use Rattle.row_blob.proofs.Readers.{items_reader}
 use Rattle.byte_formats.proofs.Fields.{wide64, number_reader, bounded_reader}
 use Rattle.row_blob.proofs.RowLaws.{row_reader}
@@ -59,7 +59,7 @@ module _ {A : Type 0} (read : List A → List ℕ → Read A) (spell : A → Lis
   abbrev counted_at : List ℕ → Read (List A)
   counted_at bytes = number_at w64 bytes >>= λ n. items_at read n.0 [] n.1
 
-  counted_takes : (bytes : List ℕ) (x : List A × List ℕ) → IsBytes bytes → counted_at bytes ≡ Ok x → Takes counted_spelling AreCounted bytes x
+  counted_takes : (bytes : List ℕ) (x : List A × List ℕ) → IsBytes bytes → counted_at bytes ≡ Ok x → HasFront counted_spelling AreCounted bytes x
   counted_takes bytes x fits e =
       let a = bind_ok (number_at w64 bytes) (λ n. items_at read n.0 [] n.1) x e in
       let s = (number_reader w64 (2 ^ 64) wide64).takes bytes a.0 fits a.1 in
@@ -98,7 +98,7 @@ joined_spelling x = (to_be_bytes w64 (length x.1) ++ to_be_bytes w64 x.0) ++ fla
 abbrev AreJoined : List kind.Kind → ℕ × List TaggedRow → Type 0
 AreJoined kinds x = (length x.1 < 2 ^ 64) × (x.0 ≤ 4294967295) × AreInOrder (IsNextTagged x.0 kinds) [] x.1
 
-joined_takes : (kinds : List kind.Kind) (bytes : List ℕ) (x : (ℕ × List TaggedRow) × List ℕ) → IsBytes bytes → tagged_rows_at kinds bytes ≡ Ok x → Takes joined_spelling (AreJoined kinds) bytes x
+joined_takes : (kinds : List kind.Kind) (bytes : List ℕ) (x : (ℕ × List TaggedRow) × List ℕ) → IsBytes bytes → tagged_rows_at kinds bytes ≡ Ok x → HasFront joined_spelling (AreJoined kinds) bytes x
 unfolding tagged_rows_at
 joined_takes kinds bytes x fits e =
     let a = bind_ok (number_at w64 bytes) (λ n. bounded_at w64 0 4294967295 n.1 >>= λ left. items_at (tagged_at left.0 kinds) n.0 [] left.1 >>= λ rows. Ok ((left.0, rows.0), rows.1)) x e in
@@ -111,7 +111,7 @@ joined_takes kinds bytes x fits e =
     let left = to_be_bytes w64 b.0.0 in
     let rows = flat_map tagged_spelling c.0.0 in
     let made : (ℕ × List TaggedRow) × List ℕ = ((b.0.0, c.0.0), c.0.1) in
-    subst (λ y. Takes joined_spelling (AreJoined kinds) bytes y) (ok_is made x c.2)
+    subst (λ y. HasFront joined_spelling (AreJoined kinds) bytes y) (ok_is made x c.2)
     (record {
       parts = s.parts ∙ ap (λ (l : List ℕ). count ++ l) (t.parts ∙ ap (λ (l : List ℕ). left ++ l) u.parts) ∙ sym (append_assoc count left (rows ++ c.0.1)) ∙ sym (append_assoc (count ++ left) rows c.0.1)
           ∙ ap (λ (n : ℕ). ((to_be_bytes w64 n ++ left) ++ rows) ++ c.0.1) (sym u.fits.0);
@@ -140,7 +140,7 @@ ended_ok : {X : Type 0} (make : X → Kept) (x : X) (rest : List ℕ) (k : Kept)
 ended_ok make x [] k e = (refl, cc)
 ended_ok make x (b ∷ bs) k e = absurd cc
 
-wrapped_takes : {X : Type 0} (make : X → Kept) (form : ℕ) (read : List ℕ → Read X) (spell : X → List ℕ) (P : X → Type 0) → ((bytes : List ℕ) (x : X × List ℕ) → IsBytes bytes → read bytes ≡ Ok x → Takes spell P bytes x)
+wrapped_takes : {X : Type 0} (make : X → Kept) (form : ℕ) (read : List ℕ → Read X) (spell : X → List ℕ) (P : X → Type 0) → ((bytes : List ℕ) (x : X × List ℕ) → IsBytes bytes → read bytes ≡ Ok x → HasFront spell P bytes x)
     → (bytes : List ℕ) (k : Kept) → IsBytes bytes → wrapped make form read bytes ≡ Ok k → (x : X) × (make x ≡ k) × P x × (bytes ≡ opening form ++ spell x)
 wrapped_takes make form read spell P law bytes k fits e =
     let a = bind_ok (literal_at (opening form) bytes) (λ rest. read rest >>= λ x. ended (make x.0, x.1)) k e in

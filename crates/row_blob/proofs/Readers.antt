@@ -5,7 +5,7 @@ use Rattle.std.proofs.lemmas.List.{append-nil}
 use Rattle.byte_formats.specs.Reading.{◌>>=◌, Read}
 use Rattle.row_blob.specs.Reading.{each_at, items_at}
 use Rattle.row_blob.specs.Kept.{AreEach, AreInOrder}
-use Rattle.byte_formats.proofs.Readers.{IsBytes, bind_ok, done, ok_is, Takes, IsReader}
+use Rattle.byte_formats.proofs.Readers.{IsBytes, bind_ok, done, ok_is, HasFront, IsReader}
 
 -- ---- one item for each kind
 
@@ -22,7 +22,7 @@ nothing_more spell Q front bytes x h q e =
     subst (λ y. TakesMore spell Q front bytes y) (ok_is (front, bytes) x e)
     (record { more = []; items = sym (append-nil front); parts = refl; rest = h; fits = q })
 
-one_more : {A : Type 0} (spell : A → List ℕ) (P : A → Type 0) (Q R : List A → Type 0) (front : List A) (bytes : List ℕ) (a : A × List ℕ) (x : List A × List ℕ) → Takes spell P bytes a
+one_more : {A : Type 0} (spell : A → List ℕ) (P : A → Type 0) (Q R : List A → Type 0) (front : List A) (bytes : List ℕ) (a : A × List ℕ) (x : List A × List ℕ) → HasFront spell P bytes a
     → (t : TakesMore spell Q (front ++ a.0 ∷ []) a.1 x) → R (a.0 ∷ t.more) → TakesMore spell R front bytes x
 one_more spell P Q R front bytes a x first t r = record {
   more = a.0 ∷ t.more;

@@ -11,23 +11,23 @@ use Rattle.row_blob.specs.Spelling.{value_spelling, row_spelling}
 use Rattle.byte_formats.specs.Reading.{◌>>=◌, number_at, text_at}
 use Rattle.row_blob.specs.Reading.{value_at, row_at}
 use Rattle.row_blob.specs.Kept.{IsValue, IsRow}
-use Rattle.byte_formats.proofs.Readers.{IsBytes, bind_ok, ok_is, Takes, IsReader}
+use Rattle.byte_formats.proofs.Readers.{IsBytes, bind_ok, ok_is, HasFront, IsReader}
 use Rattle.row_blob.proofs.Readers.{each_reader}
 use Rattle.byte_formats.proofs.Fields.{wide64, number_reader}
 use Rattle.byte_formats.proofs.TextLaws.{text_takes, text_again}
 
-value_takes : (kind : kind.Kind) (bytes : List ℕ) (x : Value × List ℕ) → IsBytes bytes → value_at kind bytes ≡ Ok x → Takes value_spelling (IsValue kind) bytes x
+value_takes : (kind : kind.Kind) (bytes : List ℕ) (x : Value × List ℕ) → IsBytes bytes → value_at kind bytes ≡ Ok x → HasFront value_spelling (IsValue kind) bytes x
 unfolding value_at
 value_takes the_kind.Int bytes x fits e =
     let b = bind_ok (number_at w64 bytes) (λ n. Ok (value.Int (cast_signed w64 n.0), n.1)) x e in
     let t = (number_reader w64 (2 ^ 64) wide64).takes bytes b.0 fits b.1 in
     let back : cast_unsigned w64 (cast_signed w64 b.0.0) ≡ b.0.0 = of_z-to_z w64 b.0.0 t.fits in
-    subst (λ y. Takes value_spelling (IsValue the_kind.Int) bytes y) (ok_is (value.Int (cast_signed w64 b.0.0), b.0.1) x b.2)
+    subst (λ y. HasFront value_spelling (IsValue the_kind.Int) bytes y) (ok_is (value.Int (cast_signed w64 b.0.0), b.0.1) x b.2)
     (record { parts = t.parts ∙ ap (λ (m : ℕ). to_be_bytes w64 m ++ b.0.1) (sym back); rest = t.rest; fits = to_z-Fits w64 b.0.0 (record { fits = t.fits }) })
 value_takes the_kind.Text bytes x fits e =
     let b = bind_ok (text_at bytes) (λ t. Ok (value.Text t.0, t.1)) x e in
     let t = text_takes bytes b.0 fits b.1 in
-    subst (λ y. Takes value_spelling (IsValue the_kind.Text) bytes y) (ok_is (value.Text b.0.0, b.0.1) x b.2)
+    subst (λ y. HasFront value_spelling (IsValue the_kind.Text) bytes y) (ok_is (value.Text b.0.0, b.0.1) x b.2)
     (record { parts = t.parts; rest = t.rest; fits = t.fits })
 
 value_again : (kind : kind.Kind) (v : Value) (rest : List ℕ) → IsValue kind v → value_at kind (value_spelling v ++ rest) ≡ Ok (v, rest)

@@ -3,7 +3,7 @@ use Rattle.std.proofs.Common.{◌≡◌, ℕ, suc, ◌+◌, ◌-◌, ◌<◌, �
 use Rattle.std.proofs.lemmas.Bool.{both_ways}
 use Rattle.std.proofs.lemmas.List.{length-append}
 use Rattle.byte_formats.specs.Reading.{◌>>=◌, Read}
-use Rattle.byte_formats.proofs.Readers.{IsBytes, bind_ok, guard_ok, ok_is, Takes, IsReader}
+use Rattle.byte_formats.proofs.Readers.{IsBytes, bind_ok, guard_ok, ok_is, HasFront, IsReader}
 use Rattle.byte_formats.proofs.Same.{Same, same_front}
 use Rattle.byte_formats.proofs.Stopping.{IsExact, bind_err, proper, goes_longer, behind_goes, behind_stops}
 use Rattle.byte_formats.proofs.Ranges.{err_cases}
@@ -35,9 +35,9 @@ module _ {H T A : Type 0} (head : List ℕ → Read H) (hs : H → List ℕ) (PH
     record Found (before : List A) (bytes : List ℕ) (x : A × List ℕ) : Type 0 where
       pub h : H × List ℕ
       pub t : T × List ℕ
-      pub first : Takes hs PH bytes h
+      pub first : HasFront hs PH bytes h
       pub good : bad before h.0 ≡ false
-      pub second : Takes ts PT h.1 t
+      pub second : HasFront ts PT h.1 t
       pub is : x ≡ (make h.0 t.0, t.1)
 
     found : (before : List A) (bytes : List ℕ) (x : A × List ℕ) → IsBytes bytes → rule_at before bytes ≡ Ok x → Found before bytes x
@@ -48,13 +48,13 @@ module _ {H T A : Type 0} (head : List ℕ → Read H) (hs : H → List ℕ) (PH
         let b = bind_ok (tail a.0.1) (λ t. Ok (make a.0.0 t.0, t.1)) x g.1 in
         record { h = a.0; t = b.0; first = first; good = g.0; second = law2.takes a.0.1 b.0 first.rest b.1; is = sym (ok_is (make a.0.0 b.0.0, b.0.1) x b.2) }
 
-    takes : (n : ℕ) (before : List A) (bytes : List ℕ) (x : A × List ℕ) → IsBytes bytes → rule_at before bytes ≡ Ok x → Takes spell (P n before) bytes x
+    takes : (n : ℕ) (before : List A) (bytes : List ℕ) (x : A × List ℕ) → IsBytes bytes → rule_at before bytes ≡ Ok x → HasFront spell (P n before) bytes x
     takes n before bytes x fits e =
         let f = found before bytes x fits e in
         let parts_are : bytes ≡ spell (make f.h.0 f.t.0) ++ f.t.1 =
         f.first.parts ∙ ap (λ (l : List ℕ). hs f.h.0 ++ l) f.second.parts ∙ sym (append_assoc (hs f.h.0) (ts f.t.0) f.t.1) ∙ ap (λ (l : List ℕ). l ++ f.t.1) (sym (spelled f.h.0 f.t.0)) in
         let fit : P n before (make f.h.0 f.t.0) = made n before (make f.h.0 f.t.0) (record { key = f.h.0; val = f.t.0; is = refl; key_fits = f.first.fits; val_fits = f.second.fits; rule = λ le. f.good }) in
-        subst (λ y. Takes spell (P n before) bytes y) (sym f.is) (record { parts = parts_are; rest = f.second.rest; fits = fit })
+        subst (λ y. HasFront spell (P n before) bytes y) (sym f.is) (record { parts = parts_are; rest = f.second.rest; fits = fit })
 
     regrouped : (h : H) (t : T) (more : List ℕ) → spell (make h t) ++ more ≡ hs h ++ (ts t ++ more)
     regrouped h t more = ap (λ (l : List ℕ). l ++ more) (spelled h t) ∙ append_assoc (hs h) (ts t) more
@@ -62,7 +62,7 @@ module _ {H T A : Type 0} (head : List ℕ → Read H) (hs : H → List ℕ) (PH
     spelled_len : (h : H) (t : T) → length (spell (make h t)) ≡ length (hs h) + length (ts t)
     spelled_len h t = ap length (spelled h t) ∙ length-append (hs h) (ts t)
 
-    head_len : (bytes : List ℕ) (h : H × List ℕ) → Takes hs PH bytes h → length bytes ≡ length (hs h.0) + length h.1
+    head_len : (bytes : List ℕ) (h : H × List ℕ) → HasFront hs PH bytes h → length bytes ≡ length (hs h.0) + length h.1
     head_len bytes h t = ap length t.parts ∙ length-append (hs h.0) h.1
 
     filler : A
@@ -105,7 +105,7 @@ module _ {H T A : Type 0} (head : List ℕ → Read H) (hs : H → List ℕ) (PH
           past = omega arith;
         }
 
-    goes_bad : (before : List A) (bytes : List ℕ) (left n : ℕ) (h : H × List ℕ) → Takes hs PH bytes h → suc (length h.1) ≡ left → n + left ≡ begin spell off before + length bytes → ItemGoes spell off P before bytes n
+    goes_bad : (before : List A) (bytes : List ℕ) (left n : ℕ) (h : H × List ℕ) → HasFront hs PH bytes h → suc (length h.1) ≡ left → n + left ≡ begin spell off before + length bytes → ItemGoes spell off P before bytes n
     goes_bad before bytes left n h t is sum =
         let len = head_len bytes h t in
         let y = make h.0 exact2.some in
@@ -119,7 +119,7 @@ module _ {H T A : Type 0} (head : List ℕ → Read H) (hs : H → List ℕ) (PH
           past = omega arith;
         }
 
-    goes_tail : (before : List A) (bytes : List ℕ) (left n : ℕ) (h : H × List ℕ) → Takes hs PH bytes h → bad before h.0 ≡ false → tail h.1 ≡ Err left → n + left ≡ begin spell off before + length bytes → ItemGoes spell off P before bytes n
+    goes_tail : (before : List A) (bytes : List ℕ) (left n : ℕ) (h : H × List ℕ) → HasFront hs PH bytes h → bad before h.0 ≡ false → tail h.1 ≡ Err left → n + left ≡ begin spell off before + length bytes → ItemGoes spell off P before bytes n
     goes_tail before bytes left n h t good e sum =
         let g = exact2.goes h.1 left t.rest e in
         let le = g.within in

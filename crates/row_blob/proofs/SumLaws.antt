@@ -9,7 +9,7 @@ use Rattle.byte_formats.specs.Format.{signed}
 use Rattle.byte_formats.specs.Reading.{◌>>=◌, bounded_at}
 use Rattle.row_blob.specs.Reading.{sum_at, sum_bound, sum_low, sum_high}
 use Rattle.row_blob.specs.Kept.{IsSum}
-use Rattle.byte_formats.proofs.Readers.{IsBytes, bind_ok, ok_is, Takes, IsReader}
+use Rattle.byte_formats.proofs.Readers.{IsBytes, bind_ok, ok_is, HasFront, IsReader}
 use Rattle.byte_formats.proofs.Fields.{IsBetween, bounded_reader}
 use Rattle.byte_formats.proofs.Wide.{wide128}
 
@@ -37,15 +37,15 @@ pub chosen : {A : Type 0} (b : Bool) (x y z : A) (P : Type 0) → cond b x y ≡
 chosen true x y z P e f g = f e
 chosen false x y z P e f g = g e
 
-sum_takes : (bytes : List ℕ) (x : ℤ × List ℕ) → IsBytes bytes → sum_at bytes ≡ Ok x → Takes (signed w128) IsSum bytes x
+sum_takes : (bytes : List ℕ) (x : ℤ × List ℕ) → IsBytes bytes → sum_at bytes ≡ Ok x → HasFront (signed w128) IsSum bytes x
 unfolding sum_at
 sum_takes bytes x fits e =
     let b = bind_ok (cond (ltb (slice_index bytes 0) 128) (bounded_at w128 0 sum_bound bytes) (bounded_at w128 sum_low sum_high bytes)) (λ n. Ok (cast_signed w128 n.0, n.1)) x e in
     let n = b.0 in
-    let made = λ (t : Takes (to_be_bytes w128) (λ m. IsSum (cast_signed w128 m) × (cast_unsigned w128 (cast_signed w128 m) ≡ m)) bytes n).
-    subst (λ y. Takes (signed w128) IsSum bytes y) (ok_is (cast_signed w128 n.0, n.1) x b.2)
+    let made = λ (t : HasFront (to_be_bytes w128) (λ m. IsSum (cast_signed w128 m) × (cast_unsigned w128 (cast_signed w128 m) ≡ m)) bytes n).
+    subst (λ y. HasFront (signed w128) IsSum bytes y) (ok_is (cast_signed w128 n.0, n.1) x b.2)
     (record { parts = t.parts ∙ ap (λ (m : ℕ). to_be_bytes w128 m ++ n.1) (sym t.fits.1); rest = t.rest; fits = t.fits.0 }) in
-    chosen (ltb (slice_index bytes 0) 128) (bounded_at w128 0 sum_bound bytes) (bounded_at w128 sum_low sum_high bytes) (Ok n) (Takes (signed w128) IsSum bytes x) b.1
+    chosen (ltb (slice_index bytes 0) 128) (bounded_at w128 0 sum_bound bytes) (bounded_at w128 sum_low sum_high bytes) (Ok n) (HasFront (signed w128) IsSum bytes x) b.1
     (λ h. let t = positives.takes bytes n fits h in made (record { parts = t.parts; rest = t.rest; fits = from_positive n.0 t.fits.1 }))
     (λ h. let t = negatives.takes bytes n fits h in made (record { parts = t.parts; rest = t.rest; fits = from_negative n.0 t.fits }))
 

@@ -1,6 +1,8 @@
 pub mod FewColumns
 pub mod FileLemmas
 pub mod LoadLemmas
+pub mod OneReading
+pub mod OutcomeLemmas
 pub mod ReadLemmas
 pub mod RefusalLemmas
 pub mod RowLemmas

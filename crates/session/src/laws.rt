@@ -1,12 +1,13 @@
-//! What the machine never answers.
-ghost use Rattle.std.specs.Prelude.{ℕ};
+//! What holds of every step of the machine.
+ghost use Rattle.std.specs.Prelude.{◌≡◌, ◌⊎◌, ℕ};
 ghost use Rattle.rows_core.specs.declared.file_ref.Digest.{Digest};
 ghost use Rattle.script_text.specs.declared.answer.Answer.{Answer};
 ghost use Rattle.script_text.specs.declared.answer.Refusal.{Refusal};
 ghost use Rattle.script_text.specs.declared.item.Command.{Command};
 ghost use Rattle.folder.specs.Sound.{Care, Whole};
 ghost use Rattle.folder.specs.State.{State};
-ghost use Rattle.session.specs.Machine.{Step};
+ghost use Rattle.session.specs.Machine.{Outcome, outcome, refused, Performs, Step};
+ghost use Rattle.session.specs.Refusals.{HasNoChoice, IsRefusedFor, IsOtherEvent};
 
 /// Where the files hold their bytes no command is refused for damage, and where they are a state's none for
 /// unreadable bytes.
@@ -15,4 +16,24 @@ pub fn files_are_read()
         → Step Whole s given_to (Answer.Refused (Refusal.Damaged file kept found)) new → ⊥ }
     ensures unreadable { (care : Care) (s new : State) (given_to : Command) (file at : ℕ)
         → Step care s given_to (Answer.Refused (Refusal.Unreadable file at)) new → ⊥ }
+{}
+
+/// In each state a command that leaves no choice has one outcome: its answer and the state after it, where
+/// there is memory and each file is read. A run leaves a choice only where its plan meets an overflow and its
+/// machine time is above the limit.
+pub fn one_outcome()
+    ensures { (s : State) (given_to : Command) (a b : Outcome)
+        → HasNoChoice s given_to → Performs s given_to a → Performs s given_to b → a ≡ b }
+{}
+
+/// A command is refused only where the cause of that refusal holds; where one holds it is answered that
+/// refusal, or the other one of a run that has two; and no refusal changes the state.
+pub fn refusals_have_causes()
+    ensures cause { (s new : State) (given_to : Command) (why : Refusal)
+        → Performs s given_to (outcome (Answer.Refused why) new) → IsRefusedFor s given_to why }
+    ensures exactly { (s : State) (given_to : Command) (given : Outcome) (why : Refusal)
+        → Performs s given_to given → IsRefusedFor s given_to why → (given ≡ refused s why)
+        ⊎ ((other : Refusal) × IsOtherEvent why other × (given ≡ refused s other)) }
+    ensures unchanged { (care : Care) (s new : State) (given_to : Command) (why : Refusal)
+        → Step care s given_to (Answer.Refused why) new → new ≡ s }
 {}

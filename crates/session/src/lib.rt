@@ -6,5 +6,5 @@ mod running;
 pub mod session;
 
 pub use folder::LoadRefusal;
-pub use laws::files_are_read;
+pub use laws::{files_are_read, one_outcome, refusals_have_causes};
 pub use session::Session;

@@ -46,8 +46,8 @@ use rows_core::{Column, Memory, Name, Row, Seq, Text};
 use script_text::{Answer, Command, Refusal};
 use std::alloc::Global;
 
-/// A folder that was loaded. What it holds in memory is the folder's table: the rows of extents stand in their
-/// files alone.
+/// A folder that was loaded. What it holds in memory is the folder's table: the rows of extents stand in
+/// their files alone.
 #[derive(Drop)]
 pub struct Session {
     folder: Folder,
@@ -142,7 +142,8 @@ impl Session {
             → IfOk result (λ next. Performs care (D.view store.old) (D.view store.new) next.0 s
             (command.Stream name columns) next.1) }
         ensures err { IsTrue D.tells → (care : Care) (s : State) → Stands care (D.view store.old) self s
-            → OnErr result (Breaks care (D.view store.old) (D.view store.new) s (command.Stream name columns)) }
+            → OnErr result (Breaks care (D.view store.old) (D.view store.new) s
+            (command.Stream name columns)) }
         ensures narrow { IfOk result (λ next. IsNarrow next.1) }
         ensures cause { OnErr result (Rose (D.counts store.old).writes (D.counts store.new).writes) }
         ensures of_no_file { IfOk result (λ next. TellsOfNoFile next.1) }
