@@ -9,7 +9,7 @@ ghost use Rattle.gated_log.specs.Logs.{front, contents};
 ghost use Rattle.record_codec.specs.Spelling.{change_spelling, HasChangeSpelling};
 ghost use Rattle.catalog_core.specs.Table.{Table, empty_table, after, Fits};
 ghost use Rattle.catalog_core.specs.Catalogs.{table_of, IsReady};
-ghost use Rattle.journal_store.specs.Readings.{generation_file};
+ghost use Rattle.journal_store.specs.Readings.{generation_file, LogHasAtMost};
 ghost use Rattle.journal_store.specs.Journals.{end_of, generation_of};
 ghost use Rattle.folder.specs.State.{State, table, file_bytes};
 ghost use Rattle.folder.specs.Replay.{Replays, ReadsAs, StopsReading, StopsReplay, due_in, is_checkpoint};
@@ -72,6 +72,10 @@ impl Folder {
         ensures taken { IsTrue D.tells → IfOk result (λ folder. (D.counts store.new).taken
             ≤ (D.counts store.old).taken + length ((D.view store.old).files 0)
             + length ((D.view store.old).files (generation_file (generation_of (journal_of folder))))) }
+        // Never are more bytes taken than those of the root and of the log that it names.
+        ensures most_taken { IsTrue D.tells → (most : ℕ) → LogHasAtMost (D.view store.old).files most
+            → (D.counts store.new).taken
+            ≤ (D.counts store.old).taken + length ((D.view store.old).files 0) + most }
         ensures counts { Rises (D.counts store.old) (D.counts store.new) }
         ensures removes { (D.counts store.new).removes ≡ (D.counts store.old).removes }
     {

@@ -27,6 +27,10 @@ numbers_below (suc n) = numbers_below n ++ number_bytes n ∷ []
 abbrev pub generations : ℕ → List (List ℕ)
 generations generation = numbers_below (generation + 1)
 
+-- the log that the root names, if it names one, has at most so many bytes
+abbrev pub LogHasAtMost : (ℕ → List ℕ) → ℕ → Type 0
+LogHasAtMost files most = (generation : ℕ) → Reads (generations generation) (files 0) → length (files (generation_file generation)) ≤ most
+
 -- a root whose making isn't finished
 abbrev pub IsUnfinished : List ℕ → Type 0
 IsUnfinished root = (length root ≤ 9) ⊎ Reads [] root

@@ -12,6 +12,7 @@ ghost use Rattle.journal_store.specs.Readings.{
   generation_file,
   generations,
   IsJournalFile,
+  LogHasAtMost,
   IsUnfinished,
   IsMade,
   HaveBodies,
@@ -97,11 +98,9 @@ impl Journal {
         ensures none_taken { IsTrue D.tells → length ((D.view store.old).files 0) ≤ 9
             → (D.counts store.new).taken ≡ (D.counts store.old).taken }
         // Never are more bytes taken than those of the root and of the log that it names.
-        ensures most_taken { IsTrue D.tells → (n : ℕ)
-            → ((generation : ℕ) → Reads (generations generation) ((D.view store.old).files 0)
-            → length ((D.view store.old).files (generation_file generation)) ≤ n)
+        ensures most_taken { IsTrue D.tells → (most : ℕ) → LogHasAtMost (D.view store.old).files most
             → (D.counts store.new).taken
-            ≤ (D.counts store.old).taken + length ((D.view store.old).files 0) + n }
+            ≤ (D.counts store.old).taken + length ((D.view store.old).files 0) + most }
         ensures counts { Rises (D.counts store.old) (D.counts store.new) }
         ensures removes { (D.counts store.new).removes ≡ (D.counts store.old).removes }
     {
@@ -150,11 +149,9 @@ impl Journal {
         ensures root_taken { IsTrue D.tells → Reads [] ((D.view store.old).files 0)
             → OnOk result (CountsTaken (length ((D.view store.old).files 0))
             (D.counts store.old) (D.counts store.new)) }
-        ensures most_taken { IsTrue D.tells → (n : ℕ)
-            → ((generation : ℕ) → Reads (generations generation) ((D.view store.old).files 0)
-            → length ((D.view store.old).files (generation_file generation)) ≤ n)
+        ensures most_taken { IsTrue D.tells → (most : ℕ) → LogHasAtMost (D.view store.old).files most
             → (D.counts store.new).taken
-            ≤ (D.counts store.old).taken + length ((D.view store.old).files 0) + n }
+            ≤ (D.counts store.old).taken + length ((D.view store.old).files 0) + most }
         ensures counts { Rises (D.counts store.old) (D.counts store.new) }
         ensures removes { (D.counts store.new).removes ≡ (D.counts store.old).removes }
     {

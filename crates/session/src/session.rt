@@ -16,7 +16,7 @@ ghost use Rattle.folder.specs.Standing.{IsNext};
 ghost use Rattle.folder.specs.State.{State, table};
 ghost use Rattle.folder.specs.StreamRows.{CountsRead, TakesAtMost, bytes_at};
 ghost use Rattle.journal_store.specs.Journals.{generation_of};
-ghost use Rattle.journal_store.specs.Readings.{generation_file};
+ghost use Rattle.journal_store.specs.Readings.{generation_file, LogHasAtMost};
 ghost use Rattle.plan_core.specs.PlainPlan.{leaves};
 ghost use Rattle.plan_grammar.specs.Counts.{IsWithinLimits};
 ghost use Rattle.planning.specs.Appending.{Append, append_change, file_bytes};
@@ -86,6 +86,10 @@ impl Session {
             ≤ (D.counts store.old).taken + length ((D.view store.old).files 0)
             + length ((D.view store.old).files
             (generation_file (generation_of (journal_of (folder_of session)))))) }
+        // Never are more bytes taken than those of the root and of the log that it names.
+        ensures most_taken { IsTrue D.tells → (most : ℕ) → LogHasAtMost (D.view store.old).files most
+            → (D.counts store.new).taken
+            ≤ (D.counts store.old).taken + length ((D.view store.old).files 0) + most }
         ensures counts { Rises (D.counts store.old) (D.counts store.new) }
     {
         left_stores::<D>();
@@ -121,6 +125,9 @@ impl Session {
             → IfOk result (λ next. TakesAsTold next.1 (D.counts store.old) (D.counts store.new)) }
         ensures most { IsTrue D.tells → (care : Care) (s : State) → Stands care (D.view store.old) self s
             → TakesAtMost (bytes_to_read s command) (D.counts store.old) (D.counts store.new) }
+        // Also on a store that isn't left each crash leaves logs that read as the session's table.
+        ensures crash { IsTrue D.tells → FolderStands (D.view store.old) (folder_of self)
+            → IfOk result (λ next. FolderStands (D.view store.new) (folder_of next.0)) }
         ensures counts { Rises (D.counts store.old) (D.counts store.new) }
     {
         match command {
@@ -147,6 +154,8 @@ impl Session {
         ensures narrow { IfOk result (λ next. IsNarrow next.1) }
         ensures cause { OnErr result (Rose (D.counts store.old).writes (D.counts store.new).writes) }
         ensures of_no_file { IfOk result (λ next. TellsOfNoFile next.1) }
+        ensures crash { IsTrue D.tells → FolderStands (D.view store.old) (folder_of self)
+            → IfOk result (λ next. FolderStands (D.view store.new) (folder_of next.0)) }
         ensures counts { MayRaiseWrites (D.counts store.old) (D.counts store.new) }
     {
         next_states::<D>();
@@ -177,6 +186,8 @@ impl Session {
         ensures narrow { IfOk result (λ next. IsNarrow next.1) }
         ensures cause { OnErr result (Rose (D.counts store.old).writes (D.counts store.new).writes) }
         ensures of_no_file { IfOk result (λ next. TellsOfNoFile next.1) }
+        ensures crash { IsTrue D.tells → FolderStands (D.view store.old) (folder_of self)
+            → IfOk result (λ next. FolderStands (D.view store.new) (folder_of next.0)) }
         ensures counts { MayRaiseWrites (D.counts store.old) (D.counts store.new) }
     {
         let mut session = self;
@@ -219,6 +230,8 @@ impl Session {
         ensures most { IsTrue D.tells → (care : Care) (s : State) → Stands care (D.view store.old) self s
             → TakesAtMost (bytes_to_read s (command.Run name plan.now)) (D.counts store.old)
             (D.counts store.new) }
+        ensures crash { IsTrue D.tells → FolderStands (D.view store.old) (folder_of self)
+            → IfOk result (λ next. FolderStands (D.view store.new) (folder_of next.0)) }
         ensures counts { Rises (D.counts store.old) (D.counts store.new) }
     {
         next_states::<D>();
@@ -255,6 +268,8 @@ impl Session {
         ensures narrow { IsNarrow answer → IfOk result (λ next. IsNarrow next.1) }
         ensures given { IfOk result (λ next. (next.1 ≡ answer) ⊎ (next.1 ≡ Answer.Refused Refusal.Memory)) }
         ensures cause { OnErr result (Rose (D.counts store.old).writes (D.counts store.new).writes) }
+        ensures crash { IsTrue D.tells → FolderStands (D.view store.old) (folder_of self)
+            → IfOk result (λ next. FolderStands (D.view store.new) (folder_of next.0)) }
         ensures counts { MayRaiseWrites (D.counts store.old) (D.counts store.new) }
     {
         let mut session = self;
@@ -282,6 +297,8 @@ impl Session {
             → OnErr result (KeepsNot care (D.view store.old) (D.view store.new) s new) }
         ensures answer { IfOk result (λ next. next.1 ≡ answer) }
         ensures cause { OnErr result (Rose (D.counts store.old).writes (D.counts store.new).writes) }
+        ensures crash { IsTrue D.tells → FolderStands (D.view store.old) (folder_of self)
+            → IfOk result (λ next. FolderStands (D.view store.new) (folder_of next.0)) }
         ensures counts { MayRaiseWrites (D.counts store.old) (D.counts store.new) }
     {
         left_stores::<D>();
@@ -317,6 +334,8 @@ impl Session {
             (with_rows s a.place a.rows) ⊎ KeepsNot care (D.view store.old) (D.view store.new) s s) }
         ensures answer { IfOk result (λ next. next.1 ≡ Answer.Held plan.held) }
         ensures cause { OnErr result (Rose (D.counts store.old).writes (D.counts store.new).writes) }
+        ensures crash { IsTrue D.tells → FolderStands (D.view store.old) (folder_of self)
+            → IfOk result (λ next. FolderStands (D.view store.new) (folder_of next.0)) }
         ensures counts { MayRaiseWrites (D.counts store.old) (D.counts store.new) }
     {
         next_states::<D>();
