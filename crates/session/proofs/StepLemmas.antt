@@ -21,11 +21,12 @@ use Rattle.plan_core.specs.PlainPlan.{PlainPlan}
 use Rattle.plan_core.specs.MachineTime.{machine_time}
 use Rattle.plan_core.specs.PlanMeaning.{plan_meaning}
 use Rattle.plan_grammar.specs.PlainNamed.{PlainTree}
-use Rattle.folder.specs.Folders.{table_in, journal_of}
+use Rattle.folder.specs.Folders.{table_in, journal_of, FolderStands}
 use Rattle.folder.specs.Left.{IsLeft, Since, StaysSound, Everything, IsSoundForOneOf}
 use Rattle.folder.specs.Next.{with_stream, with_rows, with_run}
 use Rattle.folder.specs.Sound.{Care, IsSound}
 use Rattle.folder.specs.Standing.{Means}
+use Rattle.folder.specs.Standing as standing
 use Rattle.folder.specs.State.{State, table}
 use Rattle.session.specs.declared.session.Session.{Session}
 use Rattle.session.specs.Machine as machine
@@ -44,6 +45,11 @@ stands_prepared care v session session' s t j stands = record {
   means = subst (λ (x : Table). Means care v x (journal_of (folder_of session')) s) (sym t) (subst (λ (x : Journal). Means care v (table_in (folder_of session)) x s) (sym j) stands.means);
   left = stands.left;
 }
+
+-- nor has it other logs
+pub table_prepared : (v : View) (session session' : Session) → table_in (folder_of session') ≡ table_in (folder_of session) → journal_of (folder_of session') ≡ journal_of (folder_of session) → FolderStands v (folder_of session) → FolderStands v (folder_of session')
+table_prepared v session session' t j stands =
+    subst (λ (x : Table). standing.Stands v x (journal_of (folder_of session'))) (sym t) (subst (λ (x : Journal). standing.Stands v (table_in (folder_of session)) x) (sym j) stands)
 
 -- no time passes in a state
 pub since_none : (care : Care) (v : View) (session : Session) (s : State) → Stands care v session s → Since care s s v v

@@ -49,3 +49,6 @@ returns-clause-no_fault g c = load_ok _ c.load-read.result c.over_read.result c.
 
 pub returns-clause-taken : goal.returns-clause-taken
 returns-clause-taken g c = λ told. load_taken (g.D.Store.view c.args.store.now) (g.D.Store.counts c.args.store.now).taken (g.D.Store.counts c.load-read.new.store).taken c.load-read.result c.over_read.result c.over_read.ensures (c.load-read.ensures.reading told) (c.load-read.ensures.most_taken told)
+
+pub returns-clause-most_taken : goal.returns-clause-most_taken
+returns-clause-most_taken g c = c.load-read.ensures.most_taken

@@ -7,7 +7,7 @@ use Rattle.catalog_core.specs.Table.{Table}
 use Rattle.folder.specs.Next.{with_rows}
 use Rattle.planning.specs.Appending.{append_change}
 use Rattle.session.proofs.RowLemmas.{are_rows_of}
-use Rattle.session.proofs.StepLemmas.{refuses, stands_prepared, appended_ok, appended_err, kept_performs, either_breaks}
+use Rattle.session.proofs.StepLemmas.{refuses, stands_prepared, table_prepared, appended_ok, appended_err, kept_performs, either_breaks}
 use Rattle.session.proofs.RefusalLemmas.{appending_refuses}
 use Rattle.session.proofs.TakenLemmas.{of_no_file}
 use Rattle.session.proofs.session.Session.append.Goals as goal
@@ -43,3 +43,9 @@ returns-in-Ok-prepare-clause-of_no_file g c = of_no_file (answer.Held c.in-Ok.pl
 
 pub returns-in-Err-clause-of_no_file : goal.returns-in-Err-clause-of_no_file
 returns-in-Err-clause-of_no_file g c = appending_refuses (table_of c.catalog.result.now) c.args.name c.args.lines c.in-Err.refusal c.in-Err.ensures.err
+
+pub returns-in-Ok-prepare-clause-crash : goal.returns-in-Ok-prepare-clause-crash
+returns-in-Ok-prepare-clause-crash g c = λ told stands. c.record_file.ensures.crash told (table_prepared _ _ _ c.prepare.ensures.table c.prepare.ensures.journal stands)
+
+pub returns-in-Err-prepare-clause-crash : goal.returns-in-Err-prepare-clause-crash
+returns-in-Err-prepare-clause-crash g c = λ told stands. table_prepared _ c.args.self c.prepare.new.self c.prepare.ensures.table c.prepare.ensures.journal stands

@@ -21,3 +21,9 @@ returns-in-Ok-clause-crash g c = c.in-Ok.ensures.stands
 
 pub returns-in-Ok-clause-taken : goal.returns-in-Ok-clause-taken
 returns-in-Ok-clause-taken g c = c.in-Ok.ensures.taken
+
+pub returns-in-Ok-clause-most_taken : goal.returns-in-Ok-clause-most_taken
+returns-in-Ok-clause-most_taken g c = c.load.ensures.most_taken
+
+pub returns-in-Err-clause-most_taken : goal.returns-in-Err-clause-most_taken
+returns-in-Err-clause-most_taken g c = c.load.ensures.most_taken

@@ -8,7 +8,7 @@ use Rattle.catalog_core.specs.Table.{Fits}
 use Rattle.folder.specs.Next.{with_stream}
 use Rattle.folder.specs.Standing.{IsNext}
 use Rattle.folder.specs.State.{table}
-use Rattle.session.proofs.StepLemmas.{refuses, stands_prepared, made_ok, made_err, kept_performs, kept_breaks}
+use Rattle.session.proofs.StepLemmas.{refuses, stands_prepared, table_prepared, made_ok, made_err, kept_performs, kept_breaks}
 use Rattle.session.proofs.RefusalLemmas.{making_refuses}
 use Rattle.session.proofs.TakenLemmas.{of_no_file}
 use Rattle.session.proofs.session.Session.make.Goals as goal
@@ -45,3 +45,9 @@ returns-in-Ok-prepare-clause-of_no_file g c = of_no_file answer.Ok tt _ c.record
 
 pub returns-in-Err-clause-of_no_file : goal.returns-in-Err-clause-of_no_file
 returns-in-Err-clause-of_no_file g c = making_refuses (table_of c.catalog.result.now) c.args.name c.args.columns c.in-Err.refusal c.in-Err.ensures.err
+
+pub returns-in-Ok-prepare-clause-crash : goal.returns-in-Ok-prepare-clause-crash
+returns-in-Ok-prepare-clause-crash g c = λ told stands. c.record.ensures.crash told (table_prepared _ _ _ c.prepare.ensures.table c.prepare.ensures.journal stands)
+
+pub returns-in-Err-prepare-clause-crash : goal.returns-in-Err-prepare-clause-crash
+returns-in-Err-prepare-clause-crash g c = λ told stands. table_prepared _ c.args.self c.prepare.new.self c.prepare.ensures.table c.prepare.ensures.journal stands

@@ -44,3 +44,6 @@ pub returns-in-Err-clause-err : goal.returns-in-Err-clause-err
 returns-in-Err-clause-err g c = λ told care s a stands are change_is bytes_is.
     let means = c.write_extent.ensures.means told care s stands.means in
     inr (breaks_before care _ _ (g.D.Store.view c.write_extent.new.store) s s (c.write_extent.ensures.stays told care s stands.means) (c.left_stores.ensures.meant care c.write_extent.new.store _ _ s means))
+
+pub returns-in-Ok-clause-crash : goal.returns-in-Ok-clause-crash
+returns-in-Ok-clause-crash g c = λ told stands. c.record.ensures.crash told (c.write_extent.ensures.stands stands)

@@ -103,3 +103,9 @@ pub returns-in-Err-clause-found : goal.returns-in-Err-clause-found
 returns-in-Err-clause-found g c = λ told.
     run_refused (table_in (folder_of c.args.self)) (g.D.Store.view c.args.store.now).files c.args.name c.args.plan.now c.in-Err.refusal
     (subst (λ (t : Table). (running t c.args.name c.args.plan.now ≡ Err c.in-Err.refusal) ⊎ (c.in-Err.refusal ≡ refusal.Memory)) (ap table_of c.catalog.ensures) c.in-Err.ensures.err)
+
+pub returns-in-Ok-rows_of-clause-crash : goal.returns-in-Ok-rows_of-clause-crash
+returns-in-Ok-rows_of-clause-crash g c = λ told stands. c.keep.ensures.crash told (c.left_stores.ensures.stands c.args.store.now c.rows_of.new.store _ _ c.rows_of.ensures.narrows stands)
+
+pub returns-in-Err-rows_of-clause-crash : goal.returns-in-Err-rows_of-clause-crash
+returns-in-Err-rows_of-clause-crash g c = λ told stands. c.left_stores.ensures.stands c.args.store.now c.rows_of.new.store _ _ c.rows_of.ensures.narrows stands
