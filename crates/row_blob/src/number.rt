@@ -32,14 +32,7 @@ pub fn sum_at(bytes: &[u8]) -> Result<(i128, &[u8]), Unread>
     Ok((bits.cast_signed(), rest))
 }
 
-#[tactic(
-    auto,
-    unfolding(
-        crate::specs::Reading::sum_bound,
-        crate::specs::Reading::sum_low,
-        crate::specs::Reading::sum_high
-    )
-)]
+#[tactic(auto, unfolding(crate::specs::Reading::sum_bound, crate::specs::Reading::sum_low, crate::specs::Reading::sum_high))]
 fn sum_bits_at(bytes: &[u8]) -> Result<(u128, &[u8]), Unread>
     ensures { Gives (λ x. (x.0, x.1.now)) result
         (if nat_lt (slice_index bytes.now 0) 128 then bounded_at w128 0 sum_bound bytes.now
