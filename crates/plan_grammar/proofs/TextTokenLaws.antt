@@ -103,7 +103,7 @@ mark_no_longer c rest m q = by (c == 33) (c == 60) (c == 62) (c == 45) q
 word_has_bytes : (c : ℕ) (cs : List ℕ) → is_name_byte c ≡ true → word_len (c ∷ cs) ≡ 1 + word_len cs
 word_has_bytes c cs e = ap (λ b. cond (not (not b)) (1 + word_len cs) 0) e
 
-pub token_shorter : (c : ℕ) (cs : List ℕ) (t : Token) (rest : List ℕ) → token_at (c ∷ cs) ≡ Some (t, rest) → length rest < length (c ∷ cs)
+token_shorter : (c : ℕ) (cs : List ℕ) (t : Token) (rest : List ℕ) → token_at (c ∷ cs) ≡ Some (t, rest) → length rest < length (c ∷ cs)
 unfolding token_at word_at
 token_shorter c cs t rest q = by (is_name_byte c) refl (c == 34) q
   where
@@ -133,6 +133,19 @@ trimmed_no_longer (c ∷ cs) = by (c == 32) (trimmed_no_longer cs)
     by true less = omega (arith, less)
     by false less = omega arith
 
+-- nothing but spaces is no token
+no_token : (t : Token) (rest : List ℕ) → token_at [] ≡ Some (t, rest) → ⊥
+unfolding token_at
+no_token t rest e = cc e
+
+-- what stands behind a token is shorter, and so without its spaces too
+pub behind_shorter : (text : List ℕ) (t : Token) (rest : List ℕ) → token_at text ≡ Some (t, rest) → length (trimmed rest) < length text
+behind_shorter [] t rest e = absurd (no_token t rest e)
+behind_shorter (c ∷ cs) t rest e =
+    let shorter = token_shorter c cs t rest e in
+    let few = trimmed_no_longer rest in
+    omega (arith, shorter, few)
+
 -- what it gives are the text's tokens
 pub tokens_are : (n : ℕ) (text : List ℕ) (tokens : List Token) → tokens_by n text ≡ Some tokens → AreTokens tokens text
 unfolding tokens_by
@@ -153,11 +166,6 @@ tokens_are (suc n) text tokens q = by (trimmed text) refl q (tokens_are n)
                 let s = map_some (λ ts. found.0 ∷ ts) (tokens_by n found.1) tokens q in
                 subst (λ ts. AreTokens ts text) s.2 (found.1, ap token_at e ∙ f, IsToken-from found.0 is, again found.1 s.0 s.1)
             test false is q = absurd (cc q)
-
--- nothing but spaces is no token
-no_token : (t : Token) (rest : List ℕ) → token_at [] ≡ Some (t, rest) → ⊥
-unfolding token_at
-no_token t rest e = cc e
 
 -- the text's tokens are what it gives
 pub tokens_are_given : (n : ℕ) (text : List ℕ) (tokens : List Token) → length text < n → AreTokens tokens text → tokens_by n text ≡ Some tokens

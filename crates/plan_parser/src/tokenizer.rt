@@ -1,5 +1,5 @@
 //! How a text is read as tokens.
-ghost use Rattle.std.specs.Prelude.{◌≡◌, ◌<◌, ◌≤◌, length, List, ℕ, take, drop, position, IfOk, IfSome};
+ghost use Rattle.std.specs.Prelude.{◌≡◌, ◌<◌, length, List, ℕ, take, drop, position, IfOk, IfSome};
 ghost use Rattle.std.specs.Prelude.{IfNone, Some, IsTrue, false};
 ghost use Rattle.std.specs.Option.{option_map};
 ghost use Rattle.rows_core.specs.Name.{is_name_byte};
@@ -114,8 +114,7 @@ fn is_name_byte(byte: u8) -> bool
 /// The word at the front.
 #[tactic(auto, unfolding(plan_grammar::specs::Token::word_at))]
 fn word_at(alloc: Global, text: &[u8]) -> Result<Option<(Token, &[u8])>, Memory>
-    ensures token { IfOk result (λ found. lent found ≡ word_at text.now) }
-    ensures behind { IfOk result (λ found. IfSome found (λ f. f.1.now ≡ drop (word_len text.now) text.now)) }
+    ensures { IfOk result (λ found. lent found ≡ word_at text.now) }
 {
     let (word, rest) = split_word(text);
     match word_token(alloc, word) {
@@ -125,8 +124,7 @@ fn word_at(alloc: Global, text: &[u8]) -> Result<Option<(Token, &[u8])>, Memory>
 }
 
 fn before<T: Drop>(rest: &[u8], found: Option<T>) -> Option<(T, &[u8])>
-    ensures found { lent result ≡ option_map (λ f. (f, rest.now)) found }
-    ensures same { IfSome result (λ f. f.1.now ≡ rest.now) }
+    ensures { lent result ≡ option_map (λ f. (f, rest.now)) found }
 {
     match found {
         Some(found) => Some((found, rest)),
@@ -146,8 +144,7 @@ fn begins_with_digit(text: &[u8]) -> bool
 /// The mark at the front.
 #[tactic(auto, unfolding(plan_grammar::specs::Token::mark_at))]
 fn mark_at(first: u8, rest: &[u8]) -> Option<(Mark, &[u8])>
-    ensures mark { lent result ≡ mark_at first rest.now }
-    ensures no_longer { IfSome result (λ f. length f.1.now ≤ length rest.now) }
+    ensures { lent result ≡ mark_at first rest.now }
 {
     match first {
         b'!' => with_equal(Some(Mark::NotEqual), None, rest),
@@ -161,8 +158,7 @@ fn mark_at(first: u8, rest: &[u8]) -> Option<(Mark, &[u8])>
 
 /// The first mark where a `=` follows, which belongs to it, and else the second.
 fn with_equal(two: Option<Mark>, one: Option<Mark>, rest: &[u8]) -> Option<(Mark, &[u8])>
-    ensures mark { lent result ≡ with_equal two one rest.now }
-    ensures no_longer { IfSome result (λ f. length f.1.now ≤ length rest.now) }
+    ensures { lent result ≡ with_equal two one rest.now }
 {
     match rest {
         [b'=', behind @ ..] => before(behind, two),
@@ -194,7 +190,6 @@ fn text_at(alloc: Global, bytes: &[u8]) -> Result<Option<(Token, &[u8])>, Memory
         (text_at bytes.now ≡ Some (f.0, f.1.now)) × IsToken f.0)) }
     ensures none { IfOk result (λ found. IfNone found ((token : Token) (rest : List ℕ) →
         text_at bytes.now ≡ Some (token, rest) → IsToken token → ⊥)) }
-    ensures no_longer { IfOk result (λ found. IfSome found (λ f. length f.1.now ≤ length bytes.now)) }
 {
     let Some((text, rest)) = text_behind(alloc, bytes)? else {
         return Ok(None);
@@ -208,8 +203,7 @@ fn text_at(alloc: Global, bytes: &[u8]) -> Result<Option<(Token, &[u8])>, Memory
 
 /// The text up to its end, and what stands behind that.
 fn text_behind(alloc: Global, bytes: &[u8]) -> Result<Option<(Vec<u8>, &[u8])>, Memory>
-    ensures text { IfOk result (λ found. lent_text found ≡ text_behind false bytes.now) }
-    ensures no_longer { IfOk result (λ found. IfSome found (λ f. length f.1.now ≤ length bytes.now)) }
+    ensures { IfOk result (λ found. lent_text found ≡ text_behind false bytes.now) }
 {
     let mut text = Vec::new(alloc);
     let mut rest = bytes;
@@ -246,7 +240,6 @@ fn token_at(alloc: Global, text: &[u8]) -> Result<Option<(Token, &[u8])>, Memory
         (token_at text.now ≡ Some (f.0, f.1.now)) × IsToken f.0)) }
     ensures none { IfOk result (λ found. IfNone found ((token : Token) (rest : List ℕ) →
         token_at text.now ≡ Some (token, rest) → IsToken token → ⊥)) }
-    ensures shorter { IfOk result (λ found. IfSome found (λ f. length f.1.now < length text.now)) }
 {
     let [first, rest @ ..] = text else {
         return Ok(None);
@@ -261,8 +254,7 @@ fn token_at(alloc: Global, text: &[u8]) -> Result<Option<(Token, &[u8])>, Memory
 }
 
 fn mark_token(first: u8, rest: &[u8]) -> Option<(Token, &[u8])>
-    ensures token { lent result ≡ mark_token first rest.now }
-    ensures no_longer { IfSome result (λ f. length f.1.now ≤ length rest.now) }
+    ensures { lent result ≡ mark_token first rest.now }
 {
     match mark_at(first, rest) {
         Some((mark, behind)) => Some((Token::Mark(mark), behind)),
@@ -272,8 +264,7 @@ fn mark_token(first: u8, rest: &[u8]) -> Option<(Token, &[u8])>
 
 /// The text without the spaces at its front.
 fn trim_start(text: &[u8]) -> &[u8]
-    ensures trimmed { result.now ≡ trimmed text.now }
-    ensures shorter { length result.now ≤ length text.now }
+    ensures { result.now ≡ trimmed text.now }
 {
     let mut rest = text;
     while let [first, behind @ ..] = rest {
