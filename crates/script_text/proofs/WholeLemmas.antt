@@ -1,5 +1,6 @@
--- Each command that a script spells has a column, a row line, or a plan within the limits.
-use Rattle.std.proofs.Common.{◌≡◌, ℕ, ◌<◌, true, false, cond, ◌||◌, List, [], ◌∷◌, ◌++◌, length, codes, Option, Some, None, Ok, Err, IfOk, option_to_list, option_and_then, refl, subst, arith}
+-- Each command that a script spells has a column, a row line, or a plan within the limits, and each refusal is for its bytes
+-- alone.
+use Rattle.std.proofs.Common.{◌≡◌, ℕ, ◌<◌, true, false, cond, ◌||◌, List, [], ◌∷◌, ◌++◌, length, codes, Option, Some, None, Ok, Err, option_to_list, option_and_then, refl, subst, arith}
 use Rattle.std.specs.List.{slice_split, AllByRecursion}
 use Rattle.std.specs.Prelude.{⊤}
 use Rattle.std.proofs.lemmas.List.Splits.{length-slice_split}
@@ -12,7 +13,7 @@ use Rattle.script_text.specs.Spelled.{Spelled, or_syntax}
 use Rattle.plan_grammar.specs.Counts.{IsWithinLimits}
 use Rattle.plan_parser.specs.Answer.{TextReading, AsPlan, AsTooLarge, AsNone, text_reading}
 use Rattle.plan_parser.proofs.WholePlans.{reading_plan}
-use Rattle.script_text.specs.Script.{Block, block_limit, line_limit, spelled_item, append_with, command_item, is_end, line_item, line_block, unended_item, no_items, last_items, items_of_lines, is_newline, items_by, items, all_items, IsWhole, IsWholeItem}
+use Rattle.script_text.specs.Script.{Block, block_limit, line_limit, spelled_item, append_with, command_item, is_end, line_item, line_block, unended_item, no_items, last_items, items_of_lines, is_newline, items_by, items, all_items, IsWhole, IsWholeItem, IsForBytes, IsRefusedForBytes}
 use Rattle.script_text.specs.declared.answer.LimitKind.{LimitKind}
 use Rattle.script_text.specs.declared.answer.Refusal.TheVariants.{Syntax}
 use Rattle.script_text.specs.declared.item.Command.{Command}
@@ -63,9 +64,14 @@ IsWhole-append (Some name) (row ∷ rows) = omega arith
 IsWhole-append (Some name) [] = tt
 IsWhole-append None rows = tt
 
-IsWhole-or_syntax : (command : Option Command) → IsWholeIfAny command → IfOk (or_syntax command) IsWhole
-IsWhole-or_syntax (Some command) whole = whole
-IsWhole-or_syntax None whole = tt
+-- what a text spells: a whole command, or a refusal for the bytes
+abbrev IsSpelled : Spelled → Type 0
+IsSpelled (Ok command) = IsWhole command
+IsSpelled (Err why) = IsForBytes why
+
+IsSpelled-or_syntax : (command : Option Command) → IsWholeIfAny command → IsSpelled (or_syntax command)
+IsSpelled-or_syntax (Some command) whole = whole
+IsSpelled-or_syntax None whole = tt
 
 -- what a text is read as is within the limits
 abbrev IsWithin : TextReading → Type 0
@@ -78,77 +84,93 @@ IsWithin-text text (AsPlan plan) is = (reading_plan text plan is).1
 IsWithin-text text (AsTooLarge what) is = tt
 IsWithin-text text AsNone is = tt
 
-IsWhole-run_with : (name : List ℕ) (reading : TextReading) → IsWithin reading → IfOk (run_with name reading) IsWhole
-IsWhole-run_with name (AsPlan plan) within = within
-IsWhole-run_with name (AsTooLarge what) within = tt
-IsWhole-run_with name AsNone within = tt
+IsSpelled-run_with : (name : List ℕ) (reading : TextReading) → IsWithin reading → IsSpelled (run_with name reading)
+IsSpelled-run_with name (AsPlan plan) within = within
+IsSpelled-run_with name (AsTooLarge what) within = tt
+IsSpelled-run_with name AsNone within = tt
 
-IsWhole-run_of_text : (name text : List ℕ) → IfOk (run_of_text name text) IsWhole
+IsSpelled-run_of_text : (name text : List ℕ) → IsSpelled (run_of_text name text)
 unfolding run_of_text
-IsWhole-run_of_text name text = IsWhole-run_with name (text_reading text) (IsWithin-text text (text_reading text) refl)
+IsSpelled-run_of_text name text = IsSpelled-run_with name (text_reading text) (IsWithin-text text (text_reading text) refl)
 
-IsWhole-named : (name : Option (List ℕ)) (text : List ℕ) → IfOk (run_named name text) IsWhole
-IsWhole-named (Some name) text = IsWhole-run_of_text name text
-IsWhole-named None text = tt
+IsSpelled-named : (name : Option (List ℕ)) (text : List ℕ) → IsSpelled (run_named name text)
+IsSpelled-named (Some name) text = IsSpelled-run_of_text name text
+IsSpelled-named None text = tt
 
-IsWhole-run : (parts : Option Parts) → IfOk (run_of_parts parts) IsWhole
-IsWhole-run (Some parts) = IsWhole-named (only_name parts.before) parts.behind
-IsWhole-run None = tt
+IsSpelled-run : (parts : Option Parts) → IsSpelled (run_of_parts parts)
+IsSpelled-run (Some parts) = IsSpelled-named (only_name parts.before) parts.behind
+IsSpelled-run None = tt
 
-IsWhole-behind : (rest : Option (List ℕ)) (command : List ℕ → Spelled) (other : Spelled) → ((text : List ℕ) → IfOk (command text) IsWhole) → IfOk other IsWhole → IfOk (behind_or rest command other) IsWhole
-IsWhole-behind (Some rest) command other is others = is rest
-IsWhole-behind None command other is others = others
+IsSpelled-behind : (rest : Option (List ℕ)) (command : List ℕ → Spelled) (other : Spelled) → ((text : List ℕ) → IsSpelled (command text)) → IsSpelled other → IsSpelled (behind_or rest command other)
+IsSpelled-behind (Some rest) command other is others = is rest
+IsSpelled-behind None command other is others = others
 
-IsWhole-command : (text : List ℕ) → IfOk (command_of text) IsWhole
-IsWhole-command text =
-    IsWhole-behind (behind_word (codes "stream") text) stream_command (behind_or (behind_word (codes "run") text) run_of (Err Syntax)) (λ rest. IsWhole-or_syntax (stream_of rest) (IsWhole-line (Some rest)))
-    (IsWhole-behind (behind_word (codes "run") text) run_of (Err Syntax) (λ rest. IsWhole-run (parts_at 61 rest)) tt)
+IsSpelled-command : (text : List ℕ) → IsSpelled (command_of text)
+IsSpelled-command text =
+    IsSpelled-behind (behind_word (codes "stream") text) stream_command (behind_or (behind_word (codes "run") text) run_of (Err Syntax)) (λ rest. IsSpelled-or_syntax (stream_of rest) (IsWhole-line (Some rest)))
+    (IsSpelled-behind (behind_word (codes "run") text) run_of (Err Syntax) (λ rest. IsSpelled-run (parts_at 61 rest)) tt)
 
 -- what is read of a stream's line
 pub stream_is_whole : (rest : List ℕ) (command : Command) → option_and_then stream_of (Some rest) ≡ Some command → IsWhole command
 stream_is_whole rest command e = subst IsWholeIfAny e (IsWhole-line (Some rest))
 
-IsWhole-spelled : (limit : Option LimitKind) (spelled : Spelled) → IfOk spelled IsWhole → IsWholeItem (spelled_item limit spelled)
-IsWhole-spelled (Some kind) spelled whole = tt
-IsWhole-spelled None (Ok command) whole = whole
-IsWhole-spelled None (Err why) whole = tt
+-- what holds of the item of each text that spells something so holds of all items of a script
+module _ (P : Item → Type 0) (holds : (limit : Option LimitKind) (spelled : Spelled) → IsSpelled spelled → P (spelled_item limit spelled)) where
+  All-append : (front more : List Item) → AllByRecursion P front → AllByRecursion P more → AllByRecursion P (front ++ more)
+  All-append [] more is rest = rest
+  All-append (first ∷ front) more is rest = (is.0, All-append front more is.1 rest)
 
-abbrev AreWhole : List Item → Type 0
-AreWhole items = AllByRecursion IsWholeItem items
+  All-line : (block : Option Block) (line : List ℕ) → AllByRecursion P (option_to_list (line_item block line))
+  All-line None line =
+      elim (is_skipped line || begins_block line) as (λ b. AllByRecursion P (option_to_list (cond b None (Some (command_item line))))) [
+        | true ↦ tt
+        | false ↦ (holds (line_limit line) (line_command line) (IsSpelled-command (trimmed line)), tt)
+      ]
+  All-line (Some block) line =
+      elim (is_end line) as (λ b. AllByRecursion P (option_to_list (cond b (Some (spelled_item (block_limit block) (or_syntax (append_with (head_name block.head) block.rows)))) None))) [
+        | true ↦ (holds (block_limit block) (or_syntax (append_with (head_name block.head) block.rows)) (IsSpelled-or_syntax (append_with (head_name block.head) block.rows) (IsWhole-append (head_name block.head) block.rows)), tt)
+        | false ↦ tt
+      ]
 
-AreWhole-append : (front more : List Item) → AreWhole front → AreWhole more → AreWhole (front ++ more)
-AreWhole-append [] more whole rest = rest
-AreWhole-append (first ∷ front) more whole rest = (whole.0, AreWhole-append front more whole.1 rest)
+  All-unended : (block : Option Block) → AllByRecursion P (option_to_list (unended_item block))
+  All-unended None = tt
+  All-unended (Some block) = (holds (block_limit block) (Err Syntax) tt, tt)
 
-AreWhole-line : (block : Option Block) (line : List ℕ) → AreWhole (option_to_list (line_item block line))
-AreWhole-line None line =
-    elim (is_skipped line || begins_block line) as (λ b. AreWhole (option_to_list (cond b None (Some (command_item line))))) [
-      | true ↦ tt
-      | false ↦ (IsWhole-spelled (line_limit line) (line_command line) (IsWhole-command (trimmed line)), tt)
-    ]
-AreWhole-line (Some block) line =
-    elim (is_end line) as (λ b. AreWhole (option_to_list (cond b (Some (spelled_item (block_limit block) (or_syntax (append_with (head_name block.head) block.rows)))) None))) [
-      | true ↦ (IsWhole-spelled (block_limit block) (or_syntax (append_with (head_name block.head) block.rows)) (IsWhole-or_syntax (append_with (head_name block.head) block.rows) (IsWhole-append (head_name block.head) block.rows)), tt)
-      | false ↦ tt
-    ]
+  All-last : (block : Option Block) (line : List ℕ) → AllByRecursion P (last_items block line)
+  All-last block [] = All-unended block
+  All-last block (c ∷ cs) = All-append (option_to_list (line_item block (c ∷ cs))) _ (All-line block (c ∷ cs)) (All-unended (line_block block (c ∷ cs)))
 
-AreWhole-unended : (block : Option Block) → AreWhole (option_to_list (unended_item block))
-AreWhole-unended None = tt
-AreWhole-unended (Some block) = (IsWhole-spelled (block_limit block) (Err Syntax) tt, tt)
+  All-lines : (last : Option Block → List ℕ → List Item) → ((block : Option Block) (line : List ℕ) → AllByRecursion P (last block line)) → (block : Option Block) (lines : List (List ℕ)) → AllByRecursion P (items_of_lines last block lines)
+  All-lines last ends block [] = tt
+  All-lines last ends block (rest ∷ []) = ends block rest
+  All-lines last ends block (line ∷ next ∷ more) = All-append (option_to_list (line_item block line)) _ (All-line block line) (All-lines last ends (line_block block line) (next ∷ more))
 
-AreWhole-last : (block : Option Block) (line : List ℕ) → AreWhole (last_items block line)
-AreWhole-last block [] = AreWhole-unended block
-AreWhole-last block (c ∷ cs) = AreWhole-append (option_to_list (line_item block (c ∷ cs))) _ (AreWhole-line block (c ∷ cs)) (AreWhole-unended (line_block block (c ∷ cs)))
+  All-items : (bytes : List ℕ) → AllByRecursion P (items bytes)
+  unfolding items_by
+  All-items bytes = All-lines no_items (λ block line. tt) None (slice_split is_newline bytes)
 
-AreWhole-lines : (last : Option Block → List ℕ → List Item) → ((block : Option Block) (line : List ℕ) → AreWhole (last block line)) → (block : Option Block) (lines : List (List ℕ)) → AreWhole (items_of_lines last block lines)
-AreWhole-lines last ends block [] = tt
-AreWhole-lines last ends block (rest ∷ []) = ends block rest
-AreWhole-lines last ends block (line ∷ next ∷ more) = AreWhole-append (option_to_list (line_item block line)) _ (AreWhole-line block line) (AreWhole-lines last ends (line_block block line) (next ∷ more))
+  All-all_items : (bytes : List ℕ) → AllByRecursion P (all_items bytes)
+  unfolding items_by
+  All-all_items bytes = All-lines last_items All-last None (slice_split is_newline bytes)
+
+whole_spelled : (limit : Option LimitKind) (spelled : Spelled) → IsSpelled spelled → IsWholeItem (spelled_item limit spelled)
+whole_spelled (Some kind) spelled is = tt
+whole_spelled None (Ok command) is = is
+whole_spelled None (Err why) is = tt
+
+refused_spelled : (limit : Option LimitKind) (spelled : Spelled) → IsSpelled spelled → IsRefusedForBytes (spelled_item limit spelled)
+refused_spelled (Some kind) spelled is = tt
+refused_spelled None (Ok command) is = tt
+refused_spelled None (Err why) is = is
 
 pub items_are_whole : (bytes : List ℕ) → AllByRecursion IsWholeItem (items bytes)
-unfolding items_by
-items_are_whole bytes = AreWhole-lines no_items (λ block line. tt) None (slice_split is_newline bytes)
+items_are_whole bytes = All-items IsWholeItem whole_spelled bytes
 
 pub all_items_are_whole : (bytes : List ℕ) → AllByRecursion IsWholeItem (all_items bytes)
-unfolding items_by
-all_items_are_whole bytes = AreWhole-lines last_items AreWhole-last None (slice_split is_newline bytes)
+all_items_are_whole bytes = All-all_items IsWholeItem whole_spelled bytes
+
+pub items_refused : (bytes : List ℕ) → AllByRecursion IsRefusedForBytes (items bytes)
+items_refused bytes = All-items IsRefusedForBytes refused_spelled bytes
+
+pub all_items_refused : (bytes : List ℕ) → AllByRecursion IsRefusedForBytes (all_items bytes)
+all_items_refused bytes = All-all_items IsRefusedForBytes refused_spelled bytes

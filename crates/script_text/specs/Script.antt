@@ -7,6 +7,7 @@ use Rattle.script_text.specs.Dispatch.{line_command}
 use Rattle.script_text.specs.Spelled.{Spelled, or_syntax}
 use Rattle.script_text.specs.declared.answer.LimitKind.{LimitKind}
 use Rattle.script_text.specs.declared.answer.LimitKind.TheVariants as limit
+use Rattle.script_text.specs.declared.answer.Refusal.{Refusal}
 use Rattle.script_text.specs.declared.answer.Refusal.TheVariants.{Limit, Syntax, Memory}
 use Rattle.script_text.specs.declared.item.Command.{Command}
 use Rattle.script_text.specs.declared.item.Command.TheVariants.{Stream, Append, Run}
@@ -142,3 +143,13 @@ IsWhole (Run name plan) = IsWithinLimits plan
 abbrev pub IsWholeItem : Item → Type 0
 IsWholeItem (item.Command command) = IsWhole command
 IsWholeItem (item.Refused refusal) = ⊤
+
+-- the bytes alone are the cause: a limit, or that they spell no command
+abbrev pub IsForBytes : Refusal → Type 0
+IsForBytes (Limit kind) = ⊤
+IsForBytes Syntax = ⊤
+IsForBytes _ = ⊥
+
+abbrev pub IsRefusedForBytes : Item → Type 0
+IsRefusedForBytes (item.Command command) = ⊤
+IsRefusedForBytes (item.Refused refusal) = IsForBytes refusal

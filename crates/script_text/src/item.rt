@@ -1,7 +1,7 @@
 //! What a script consists of.
 ghost use Rattle.std.specs.Prelude.{ℕ, List};
 ghost use Rattle.std.specs.List.{AllByRecursion};
-ghost use Rattle.script_text.specs.Script.{items, all_items, IsWholeItem};
+ghost use Rattle.script_text.specs.Script.{items, all_items, IsWholeItem, IsRefusedForBytes};
 
 use crate::answer::Refusal;
 use plan_grammar::NamedPlan;
@@ -34,4 +34,11 @@ pub enum Item {
 pub fn commands_are_whole()
     ensures front { (bytes : List ℕ) → AllByRecursion IsWholeItem (items bytes) }
     ensures all { (bytes : List ℕ) → AllByRecursion IsWholeItem (all_items bytes) }
+{}
+
+/// Each refusal that a script spells is for its bytes alone: a limit that they pass, or that they spell no
+/// command.
+pub fn refusals_are_for_the_bytes()
+    ensures front { (bytes : List ℕ) → AllByRecursion IsRefusedForBytes (items bytes) }
+    ensures all { (bytes : List ℕ) → AllByRecursion IsRefusedForBytes (all_items bytes) }
 {}

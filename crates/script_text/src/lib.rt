@@ -18,7 +18,7 @@ mod stream_line;
 mod words;
 
 pub use answer::{Answer, LimitKind, Refusal, line_count, print_line};
-pub use item::{Command, Item, commands_are_whole};
+pub use item::{Command, Item, commands_are_whole, refusals_are_for_the_bytes};
 pub use laws::line_is_short;
 pub use lines::Lines;
 pub use spelling::{append_spelling, run_spelling, stream_spelling};
