@@ -22,7 +22,7 @@ use Rattle.plan_grammar.specs.declared.operator.Infix.{Infix}
 use Rattle.plan_grammar.specs.declared.operator.Prefix.{Prefix}
 use Rattle.plan_grammar.specs.Operators.{Rule, ATOM, UN, NOT, E, joined, comparing, summing, multiplying, conjunction, disjunction, mark_infix, infix_of, prefix_of, call1_op, call2_op}
 use Rattle.plan_grammar.specs.Grammar.{Spells, Listed, SpellsName, SpellsColumn, SpellsPair, SpellsKey, SpellsResult, SpellsPlan, agg_word}
-use Rattle.plan_printer.specs.Canonical.{Piece, Space, One, tokens_of, Form, Between, Function, form_of, form_rule, call1_rule, rule_of, in_parens, behind_comma, between, binary, bare, canonical_expr, listed, name_piece, named, column_pieces, pair_pieces, key_pieces, argument_pieces, result_pieces, stage, canonical}
+use Rattle.plan_printer.specs.Canonical.{Piece, Space, One, tokens_of, Form, Between, Function, form_of, call_form, form_rule, call1_rule, rule_of, in_parens, behind_comma, between, binary, bare, canonical_expr, listed, name_piece, named, column_pieces, pair_pieces, key_pieces, argument_pieces, result_pieces, stage, canonical}
 
 -- the tokens of the pieces, and then the rest
 abbrev pub onto : List Piece → List Token → List Token
@@ -65,6 +65,7 @@ call1_loosest op.Neg = omega arith
 call1_loosest _ = omega arith
 
 form_loosest : (o : Op) → form_rule (form_of (operator.Call o)) ≤ E
+unfolding call_form
 form_loosest op.Eq = omega arith
 form_loosest _ = omega arith
 
@@ -132,6 +133,7 @@ abbrev pub Found : Infix → Type 0
 Found o = (k : Token) × (infix_of k ≡ Some o) × (form_of o.operator ≡ Between k o)
 
 mark_found : (m : the_mark.Mark) (o : Infix) → mark_infix m ≡ Some o → Found o
+unfolding call_form
 mark_found mark.Equal o e = let same : comparing op.Eq ≡ o = cc in subst Found same (Mark mark.Equal, refl, refl)
 mark_found mark.NotEqual o e = let same : comparing op.Ne ≡ o = cc in subst Found same (Mark mark.NotEqual, refl, refl)
 mark_found mark.Less o e = let same : comparing op.Lt ≡ o = cc in subst Found same (Mark mark.Less, refl, refl)
@@ -153,6 +155,7 @@ operator_found (Mark m) o e = mark_found m o e
 operator_found _ o e = absurd (cc)
 
 pub call2_form : (w : the_word.Word) (o : Op) → call2_op w ≡ Some o → form_of (operator.Call o) ≡ Function w
+unfolding call_form
 call2_form word.Starts o e = let same : op.Starts ≡ o = cc in ap (λ o. form_of (operator.Call o)) (sym same)
 call2_form word.Least o e = let same : op.Least ≡ o = cc in ap (λ o. form_of (operator.Call o)) (sym same)
 call2_form word.Most o e = let same : op.Most ≡ o = cc in ap (λ o. form_of (operator.Call o)) (sym same)

@@ -26,7 +26,7 @@ use Rattle.plan_grammar.specs.declared.operator.Operator.TheVariants as operator
 use Rattle.plan_grammar.specs.Operators.{Rule, UN, NOT, E}
 use Rattle.plan_grammar.specs.Grammar.{Spells, Listed, SpellsName, SpellsColumn, SpellsPair, SpellsKey, SpellsResult, SpellsPlan, agg_word}
 use Rattle.plan_grammar.specs.Spelled.{SpellsExpr, SpellsText}
-use Rattle.plan_printer.specs.Canonical.{Piece, Space, One, spelling, text_of, piece_bytes, Form, Between, Function, NoForm, form_of, rule_of, in_parens, within, behind_comma, literal, between, function, call1, binary, bare, canonical_expr, listed, name_piece, named, column_pieces, pair_pieces, key_pieces, argument_pieces, result_pieces, stage, canonical, canonical_text}
+use Rattle.plan_printer.specs.Canonical.{Piece, Space, One, spelling, text_of, piece_bytes, Form, Between, Function, NoForm, form_of, call_form, rule_of, in_parens, within, behind_comma, literal, between, function, call1, binary, bare, canonical_expr, listed, name_piece, named, column_pieces, pair_pieces, key_pieces, argument_pieces, result_pieces, stage, canonical, canonical_text}
 use Rattle.plan_printer.proofs.CanonicalSpelled.{onto, onto-append, bare-joined, expr_respelled, plan_respelled}
 use Rattle.plan_printer.proofs.CanonicalRead.{Ends, GoodName, IsGood, is_good_token, is_sign, token_read, sign_read, decimal_digit_first}
 use Rattle.plan_grammar.proofs.TokenLemmas.{both}
@@ -134,6 +134,7 @@ is_apart (Between _ o) = true
 is_apart _ = false
 
 none_apart : (j : the_operator.Operator) → is_apart (form_of j) ≡ false
+unfolding call_form
 none_apart (operator.Call op.Eq) = refl
 none_apart _ = refl
 

@@ -1,13 +1,16 @@
 -- The canonical text of an expression and of a plan, which is the one that is printed.
 use Prim.Native.Nat.{suc}
-use Rattle.std.specs.Prelude.{◌≡◌, ℕ, nat_le, if◌then◌else◌, List, [], ◌∷◌, ◌++◌, pos, negsuc, decimal}
-use Rattle.std.specs.List.{flat_map}
+use Rattle.std.specs.Prelude.{◌≡◌, ℕ, Bool, false, Option, None, Some, nat_le, if◌then◌else◌, List, [], ◌∷◌, ◌++◌, pos, negsuc, decimal}
+use Rattle.std.specs.List.{flat_map, find}
+use Rattle.std.specs.Option.{option_map_or}
 use Rattle.scalar_ops.specs.declared.cell.Cell.{Cell}
 use Rattle.scalar_ops.specs.declared.cell.Cell.TheVariants as cell
 use Rattle.scalar_ops.specs.declared.table.Op.{Op}
 use Rattle.scalar_ops.specs.declared.table.Op.TheVariants as op
+use Rattle.scalar_ops.specs.Table.{same_op}
 use Rattle.plan_grammar.specs.declared.token.Token.{Token}
 use Rattle.plan_grammar.specs.declared.token.Token.TheVariants.{Name, Word, Number, Text, Mark}
+use Rattle.plan_grammar.specs.declared.token.Mark as the_mark
 use Rattle.plan_grammar.specs.declared.token.Mark.TheVariants as mark
 use Rattle.plan_grammar.specs.declared.token.Word as the_word
 use Rattle.plan_grammar.specs.declared.token.Word.TheVariants as word
@@ -23,7 +26,7 @@ use Rattle.plan_grammar.specs.declared.operator.Operator.TheVariants as operator
 use Rattle.plan_grammar.specs.declared.operator.Infix.{Infix}
 use Rattle.plan_printer.specs.declared.rule.Form as the_form
 use Rattle.plan_printer.specs.declared.rule.Form.TheVariants as form
-use Rattle.plan_grammar.specs.Operators.{Rule, ATOM, UN, NOT, AND, E, comparing, summing, multiplying, conjunction, disjunction}
+use Rattle.plan_grammar.specs.Operators.{Rule, ATOM, UN, NOT, AND, E, mark_infix, conjunction, disjunction}
 use Rattle.plan_grammar.specs.Grammar.{Spells, agg_word}
 
 -- A text is made of tokens, and of the spaces between some of them.
@@ -66,22 +69,43 @@ pub data Form : Type 0 where
   Function : the_word.Word → Form
   NoForm : Form
 
+-- each mark; where two are one operator, the first is the printed one
+abbrev pub all_marks : List the_mark.Mark
+all_marks =
+    mark.Bar ∷ mark.Comma ∷ mark.Open ∷ mark.Close ∷ mark.Equal ∷ mark.NotEqual ∷ mark.Less ∷ mark.LessEqual
+    ∷ mark.Greater ∷ mark.GreaterEqual ∷ mark.Plus ∷ mark.Minus ∷ mark.Sign ∷ mark.Times ∷ mark.Divide ∷ mark.Rest ∷ []
+
+-- the operator calls this operation
+abbrev pub calls : Op → Operator → Bool
+calls o (operator.Call other) = same_op other o
+calls o _ = false
+
+-- a reader takes the mark for this operation
+abbrev pub is_mark_of : Op → the_mark.Mark → Bool
+is_mark_of o m = option_map_or (λ (found : Infix). calls o found.operator) (mark_infix m) false
+
+-- the mark between operands of its rules
+abbrev pub between_mark : the_mark.Mark → Option Infix → Form
+between_mark m (Some o) = Between (Mark m) o
+between_mark m None = NoForm
+
+abbrev pub mark_or : Option the_mark.Mark → Form → Form
+mark_or (Some m) other = between_mark m (mark_infix m)
+mark_or None other = other
+
+-- no text has another operation of two arguments that isn't an operator
+abbrev pub function_form : Op → Form
+function_form op.Starts = Function word.Starts
+function_form op.Least = Function word.Least
+function_form op.Most = Function word.Most
+function_form _ = NoForm
+
+-- between its operands by the mark that is read as the operation, or else as a function
+unfoldable pub call_form : Op → Form
+call_form o = mark_or (find (is_mark_of o) all_marks) (function_form o)
+
 abbrev pub form_of : Operator → Form
-form_of (operator.Call op.Eq) = Between (Mark mark.Equal) (comparing op.Eq)
-form_of (operator.Call op.Ne) = Between (Mark mark.NotEqual) (comparing op.Ne)
-form_of (operator.Call op.Lt) = Between (Mark mark.Less) (comparing op.Lt)
-form_of (operator.Call op.Le) = Between (Mark mark.LessEqual) (comparing op.Le)
-form_of (operator.Call op.Gt) = Between (Mark mark.Greater) (comparing op.Gt)
-form_of (operator.Call op.Ge) = Between (Mark mark.GreaterEqual) (comparing op.Ge)
-form_of (operator.Call op.Add) = Between (Mark mark.Plus) (summing op.Add)
-form_of (operator.Call op.Sub) = Between (Mark mark.Minus) (summing op.Sub)
-form_of (operator.Call op.Mul) = Between (Mark mark.Times) (multiplying op.Mul)
-form_of (operator.Call op.Div) = Between (Mark mark.Divide) (multiplying op.Div)
-form_of (operator.Call op.Mod) = Between (Mark mark.Rest) (multiplying op.Mod)
-form_of (operator.Call op.Starts) = Function word.Starts
-form_of (operator.Call op.Least) = Function word.Least
-form_of (operator.Call op.Most) = Function word.Most
-form_of (operator.Call _) = NoForm
+form_of (operator.Call o) = call_form o
 form_of operator.And = Between (Word word.And) conjunction
 form_of operator.Or = Between (Word word.Or) disjunction
 

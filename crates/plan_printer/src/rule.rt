@@ -1,12 +1,37 @@
 //! How operations are written, and the rules that spell them.
 ghost use Rattle.std.specs.Prelude.{◌≡◌};
+ghost use Rattle.std.specs.List.{find};
+ghost use Rattle.scalar_ops.specs.Table.{same_op};
 ghost use Rattle.plan_grammar.specs.declared.operator.Operator.TheVariants as operator;
+ghost use Rattle.plan_grammar.specs.Operators.{mark_infix};
 ghost use Rattle.plan_grammar.specs.PlainNamed.{expr_of};
-ghost use Rattle.plan_printer.specs.Canonical.{rule_of, call1_rule, form_of, form_in, form_rule};
+ghost use Rattle.plan_printer.specs.Canonical.{rule_of, call1_rule, form_of, form_in, form_rule, all_marks};
+ghost use Rattle.plan_printer.specs.Canonical.{between_mark, function_form, is_mark_of, calls};
 
-use plan_grammar::operator::{comparing, multiplying, summing};
-use plan_grammar::{ATOM, CONJUNCTION, EXPRESSION, Infix, Mark, NEGATION, NamedExpr, SIGNED, Word};
+use plan_grammar::{
+    ATOM, CONJUNCTION, EXPRESSION, Infix, Mark, NEGATION, NamedExpr, Operator, SIGNED, Token, Word,
+};
 use scalar_ops::Op;
+
+/// Each mark. Of `Minus` and `Sign`, which are one operator, `Minus` comes first.
+const MARKS: [Mark; 16] = [
+    Mark::Bar,
+    Mark::Comma,
+    Mark::Open,
+    Mark::Close,
+    Mark::Equal,
+    Mark::NotEqual,
+    Mark::Less,
+    Mark::LessEqual,
+    Mark::Greater,
+    Mark::GreaterEqual,
+    Mark::Plus,
+    Mark::Minus,
+    Mark::Sign,
+    Mark::Times,
+    Mark::Divide,
+    Mark::Rest,
+];
 
 /// How an operation of two arguments is written: between them, before them as a function, or in no text.
 #[derive(Clone, Copy, Debug, PartialEq, Eq)]
@@ -44,26 +69,14 @@ fn call1_rule(op: Op) -> u8
 }
 
 impl Form {
-    /// How an operation of two arguments is written.
+    /// How an operation of two arguments is written: by the mark that is read as it, or else as a function.
+    #[tactic(auto, unfolding(crate::specs::Canonical::call_form))]
     pub fn of(op: Op) -> Form
         ensures { form_in result ≡ form_of (operator.Call op) }
     {
-        match op {
-            Op::Eq => Form::Between(Mark::Equal, comparing(op)),
-            Op::Ne => Form::Between(Mark::NotEqual, comparing(op)),
-            Op::Lt => Form::Between(Mark::Less, comparing(op)),
-            Op::Le => Form::Between(Mark::LessEqual, comparing(op)),
-            Op::Gt => Form::Between(Mark::Greater, comparing(op)),
-            Op::Ge => Form::Between(Mark::GreaterEqual, comparing(op)),
-            Op::Add => Form::Between(Mark::Plus, summing(op)),
-            Op::Sub => Form::Between(Mark::Minus, summing(op)),
-            Op::Mul => Form::Between(Mark::Times, multiplying(op)),
-            Op::Div => Form::Between(Mark::Divide, multiplying(op)),
-            Op::Mod => Form::Between(Mark::Rest, multiplying(op)),
-            Op::Starts => Form::Function(Word::Starts),
-            Op::Least => Form::Function(Word::Least),
-            Op::Most => Form::Function(Word::Most),
-            _ => Form::Nowhere,
+        match mark_of(op) {
+            Some(mark) => between(mark),
+            None => function_form(op),
         }
     }
 
@@ -75,4 +88,62 @@ impl Form {
             Form::Function(_) | Form::Nowhere => ATOM,
         }
     }
+}
+
+fn between(mark: Mark) -> Form
+    ensures { form_in result ≡ between_mark mark (mark_infix mark) }
+{
+    match Token::Mark(mark).infix() {
+        Some(infix) => Form::Between(mark, infix),
+        None => Form::Nowhere,
+    }
+}
+
+fn function_form(op: Op) -> Form
+    ensures { form_in result ≡ function_form op }
+{
+    match op {
+        Op::Starts => Form::Function(Word::Starts),
+        Op::Least => Form::Function(Word::Least),
+        Op::Most => Form::Function(Word::Most),
+        _ => Form::Nowhere,
+    }
+}
+
+/// The first mark that is read as the operation.
+fn mark_of(op: Op) -> Option<Mark>
+    ensures { result ≡ find (is_mark_of op) all_marks }
+{
+    let marks: [Mark; 16] = MARKS;
+    first_mark(marks.as_slice(), op)
+}
+
+fn first_mark(marks: &[Mark], op: Op) -> Option<Mark>
+    ensures { result ≡ find (is_mark_of op) marks.now }
+{
+    marks.iter().copied().find(|mark| is_mark_of(op, *mark))
+}
+
+fn is_mark_of(op: Op, mark: Mark) -> bool
+    ensures { result ≡ is_mark_of op mark }
+{
+    match Token::Mark(mark).infix() {
+        Some(infix) => calls(op, infix.operator),
+        None => false,
+    }
+}
+
+fn calls(op: Op, operator: Operator) -> bool
+    ensures { result ≡ calls op operator }
+{
+    match operator {
+        Operator::Call(other) => same_op(other, op),
+        Operator::And | Operator::Or => false,
+    }
+}
+
+fn same_op(a: Op, b: Op) -> bool
+    ensures { result ≡ same_op a b }
+{
+    a == b
 }
