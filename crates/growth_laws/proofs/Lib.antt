@@ -1,0 +1,3 @@
+pub mod AddedRows
+pub mod ComputedNodes
+pub mod LeafLists

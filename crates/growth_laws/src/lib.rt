@@ -1,0 +1,11 @@
+//! What a plan's result is on a longer cut, made of the earlier result and of what came since; and what a
+//! rewriting makes. Each law is a function that does nothing, whose contract is the law.
+#![tactic(auto)]
+
+pub mod added;
+pub mod computed;
+pub mod lists;
+
+pub use added::{rows_added_to_joins, rows_added_to_leaves, rows_added_to_one_input};
+pub use computed::results_that_are_computed;
+pub use lists::{lists_of_two_inputs, rows_of_longer_intervals};
