@@ -101,10 +101,10 @@ passed_extends (Order child keys) before after given is = absurd is
 
 -- ---- the first of equal rows
 
-ok_is : {A : Type 0} (m : Result A Overflow) (x y : A) → m ≡ Ok x → m ≡ Ok y → x ≡ y
+pub ok_is : {A : Type 0} (m : Result A Overflow) (x y : A) → m ≡ Ok x → m ≡ Ok y → x ≡ y
 ok_is m x y is so = let e = sym is ∙ so in cc
 
-not_both : {A B : Type 0} (m : Result A Overflow) (x : A) (e : Overflow) → m ≡ Ok x → m ≡ Err e → B
+pub not_both : {A B : Type 0} (m : Result A Overflow) (x : A) (e : Overflow) → m ≡ Ok x → m ≡ Err e → B
 not_both m x e is so = let h = sym is ∙ so in absurd (cc)
 
 module _ (child : PlainPlan) (before after : List Rows) where

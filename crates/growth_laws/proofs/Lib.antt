@@ -1,3 +1,4 @@
 pub mod AddedRows
 pub mod ComputedNodes
+pub mod GrownResults
 pub mod LeafLists
