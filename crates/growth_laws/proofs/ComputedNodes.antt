@@ -72,7 +72,7 @@ one_made (Concat left right) lists given is = absurd is
 -- ---- two inputs
 
 -- an overflow of the second, whatever the first is
-second_fails : {A : Type 0} (m n : Result Rows Overflow) (f : Rows → Rows → Result A Overflow) (e : Overflow) → n ≡ Err e → (m >>= λ x. n >>= f x) ≡ Err e
+pub second_fails : {A : Type 0} (m n : Result Rows Overflow) (f : Rows → Rows → Result A Overflow) (e : Overflow) → n ≡ Err e → (m >>= λ x. n >>= f x) ≡ Err e
 second_fails (Ok x) n f e is = ap (λ n. n >>= f x) is
 second_fails (Err g) n f e is = refl
 

@@ -1,4 +1,5 @@
 pub mod AddedRows
 pub mod ComputedNodes
+pub mod GrownJoins
 pub mod GrownResults
 pub mod LeafLists

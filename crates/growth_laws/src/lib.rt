@@ -9,5 +9,5 @@ pub mod lists;
 
 pub use added::{rows_added_to_joins, rows_added_to_leaves, rows_added_to_one_input};
 pub use computed::results_that_are_computed;
-pub use grown::results_that_grow;
+pub use grown::{joins_that_grow, results_that_grow};
 pub use lists::{lists_of_two_inputs, rows_of_longer_intervals};
