@@ -3,3 +3,6 @@ pub mod ComputedNodes
 pub mod GrownJoins
 pub mod GrownResults
 pub mod LeafLists
+pub mod MadeTrees
+pub mod NamedResults
+pub mod TreeParts

@@ -1,23 +1,33 @@
 -- What a plan gives behind the rows that it gave, where its lists have grown; and what is made of its result.
-use Rattle.std.specs.Prelude.{◌≡◌, ℕ, List, take, drop, Result, Ok, Err}
+use Rattle.std.specs.Prelude.{◌≡◌, ℕ, ◌+◌, List, take, drop, Result, Ok, Err}
 use Rattle.row_blob.specs.declared.kept.Kept.{Kept}
 use Rattle.rows_core.specs.declared.overflow.Overflow.{Overflow}
 use Rattle.plan_core.specs.Columns.{Rows}
+use Rattle.plan_core.specs.ExpressionValue.{◌>>=◌}
 use Rattle.plan_core.specs.MachineTime.{rows_taken_in}
 use Rattle.plan_core.specs.PlainPlan.{PlainPlan, Filter, Project, Distinct, Group, Concat, Order, leaf_count}
 use Rattle.plan_core.specs.PlanMeaning.{plan_meaning}
 use Rattle.plan_laws.specs.GrowthOfRows.{Grows}
-use Rattle.plan_laws.specs.KeptForm.{kept_form}
+use Rattle.plan_laws.specs.KeptForm.{kept_form, rows_of_kept}
 
 -- the rows that come behind the old ones, and how many rows more the operators take in
 pub record Added : Type 0 where
   pub rows : Rows
   pub taken_in : ℕ
 
--- a result as it is kept, and how many rows the operators of its plan take in; its machine time is 1 more
+-- a result as it is kept, and how many rows the operators of its plan take in
 pub record Made : Type 0 where
   pub kept : Kept
   pub taken_in : ℕ
+
+abbrev pub machine_of : Made → ℕ
+machine_of made = 1 + made.taken_in
+
+-- the rows of what was made, or the overflow
+abbrev pub rows_of_made : Result Made Overflow → Result Rows Overflow
+rows_of_made given = do
+  made ← given
+  rows_of_kept made.kept
 
 -- Where the plan gave rows before, it gives them after, and then the added ones: or it is an overflow after, where that is
 -- what was added.

@@ -22,12 +22,6 @@ pub record IsResultOf (extents : Extents) (plan : PlainPlan) (cuts : Cuts) (resu
   pub form : kept_form plan (plan_lists extents plan cuts) ≡ Ok result.form
   pub machine : result.machine ≡ machine_time plan (plan_lists extents plan cuts)
 
--- each result that a tree may name for a plan is that of this plan at its own cut
-pub record AreResults (extents : Extents) (results : KeptResults) (names : Naming) : Type 0 where
-  pub whole : (plan : PlainPlan) (cuts : Cuts) (hit : Hit) → names.whole plan cuts hit → IsResultOf extents plan cuts (results hit.id)
-  pub earlier : (plan : PlainPlan) (cuts : Cuts) (hit : Hit) → names.earlier plan cuts hit → IsResultOf extents plan hit.cuts (results hit.id)
-  pub intervals : (plan : PlainPlan) (cuts : Cuts) (hit : Hit) → names.earlier plan cuts hit → AreIntervals hit.cuts
-
 -- each entry of the list is kept
 abbrev pub AreKept : Extents → KeptResults → Entries → Type 0
 AreKept extents results entries = (e : Entry) → Contains entries e → IsResultOf extents e.plan e.cuts (results e.id)

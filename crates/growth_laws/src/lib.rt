@@ -6,8 +6,10 @@ pub mod added;
 pub mod computed;
 pub mod grown;
 pub mod lists;
+pub mod trees;
 
 pub use added::{rows_added_to_joins, rows_added_to_leaves, rows_added_to_one_input};
 pub use computed::results_that_are_computed;
 pub use grown::{joins_that_grow, results_that_grow};
 pub use lists::{lists_of_two_inputs, rows_of_longer_intervals};
+pub use trees::{results_of_deltas, results_of_entries, results_of_rewritings};
