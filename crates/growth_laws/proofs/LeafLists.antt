@@ -1,12 +1,12 @@
 -- The lists of the leaves of two inputs, and the rows in longer intervals.
-use Rattle.std.proofs.Common.{◌≡◌, refl, sym, ap, ◌∙◌, ℕ, zero, suc, ◌+◌, ◌-◌, ◌≤◌, List, [], ◌∷◌, ◌++◌, length, take, drop, take-add, drop-drop, arith}
+use Rattle.std.proofs.Common.{◌≡◌, refl, sym, ap, ◌∙◌, ℕ, zero, suc, ◌+◌, ◌-◌, ◌≤◌, List, [], ◌∷◌, ◌++◌, length, take, drop, take-add, drop-drop, append-nil, arith}
 use Rattle.std.specs.List.{flat_map}
 use Rattle.std.proofs.lemmas.Grind.{flat_map-append}
-use Rattle.std.specs.Prelude.{slice_range}
+use Rattle.std.specs.Prelude.{slice_range, slice_get, unwrap_or}
 use Rattle.rows_core.specs.declared.cut.Cut.{Cut}
 use Rattle.plan_core.specs.Columns.{Rows}
 use Rattle.estimator.specs.Cuts.{Cuts, added_cut}
-use Rattle.growth_laws.specs.Lists.{Extents, extents_of, interval_rows, lists_at}
+use Rattle.growth_laws.specs.Lists.{Extents, extents_of, interval_rows, lists_at, no_extent, one_extent}
 
 pub left_lists : (extents : Extents) (xs ys : List ℕ) (cuts : Cuts) → take (length xs) (lists_at extents (xs ++ ys) cuts) ≡ lists_at extents xs (take (length xs) cuts)
 left_lists extents [] ys cuts = refl
@@ -35,3 +35,19 @@ longer_interval extents old new same first second =
     ap (λ n. flat_map (λ rows. rows) (slice_range extents n new.to)) (sym same)
     ∙ ap (flat_map (λ rows. rows)) (longer_range extents old.from old.to new.to first second)
     ∙ flat_map-append (λ rows. rows) (slice_range extents old.from old.to) (slice_range extents old.to new.to)
+
+-- ---- each extent
+
+pub no_rows : (extents : List Rows) (number : ℕ) → interval_rows extents (no_extent number) ≡ []
+no_rows extents number = let none : number - number ≡ 0 = omega arith in ap (λ n. flat_map (λ rows. rows) (take n (drop number extents))) none
+
+first_rows : (extents : List Rows) (number : ℕ) → flat_map (λ rows. rows) (take 1 (drop number extents)) ≡ unwrap_or (slice_get extents number) []
+first_rows [] zero = refl
+first_rows [] (suc number) = refl
+first_rows (rows ∷ others) zero = append-nil rows
+first_rows (rows ∷ others) (suc number) = first_rows others number
+
+pub one_extent_rows : (extents : List Rows) (number : ℕ) → interval_rows extents (one_extent number) ≡ unwrap_or (slice_get extents number) []
+one_extent_rows extents number =
+    let one : number + 1 - number ≡ 1 = omega arith in
+    ap (λ n. flat_map (λ rows. rows) (take n (drop number extents))) one ∙ first_rows extents number

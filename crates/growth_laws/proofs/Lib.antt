@@ -1,8 +1,10 @@
 pub mod AddedRows
 pub mod ComputedNodes
+pub mod GivenRows
 pub mod GrownJoins
 pub mod GrownResults
 pub mod LeafLists
 pub mod MadeTrees
 pub mod NamedResults
+pub mod TreeOwners
 pub mod TreeParts

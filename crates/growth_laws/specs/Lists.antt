@@ -1,5 +1,5 @@
 -- The rows of the streams, extent by extent, and the lists that the leaves of a plan have of them at a cut.
-use Rattle.std.specs.Prelude.{ℕ, List, [], ◌∷◌, slice_range, slice_get, unwrap_or}
+use Rattle.std.specs.Prelude.{ℕ, ◌+◌, List, [], ◌∷◌, slice_range, slice_get, unwrap_or}
 use Rattle.std.specs.List.{flat_map}
 use Rattle.rows_core.specs.declared.cut.Cut.{Cut}
 use Rattle.plan_core.specs.Columns.{Rows}
@@ -25,3 +25,10 @@ lists_at extents _ _ = []
 -- those of a plan's leaves
 abbrev pub plan_lists : Extents → PlainPlan → Cuts → List Rows
 plan_lists extents plan cuts = lists_at extents (leaves plan) cuts
+
+-- no extent, and the one of this number
+abbrev pub no_extent : ℕ → Cut
+no_extent number = record { from = number; to = number }
+
+abbrev pub one_extent : ℕ → Cut
+one_extent number = record { from = number; to = number + 1 }
