@@ -1,12 +1,11 @@
 -- What comes behind the rows of a plan's result, where its lists have grown.
-use Rattle.std.proofs.Common.{◌≡◌, refl, sym, ap, ◌∙◌, subst, ℕ, ◌+◌, List, [], ◌∷◌, ◌++◌, length, take, drop, Result, Ok, Err, arith}
+use Rattle.std.proofs.Common.{◌≡◌, refl, sym, ap, ◌∙◌, subst, ℕ, List, [], ◌∷◌, ◌++◌, take, drop, Result, Ok, Err, arith}
 use Rattle.rows_core.specs.declared.overflow.Overflow.{Overflow}
 use Rattle.plan_core.specs.Columns.{Rows}
 use Rattle.plan_core.specs.Distinct.{distinct_rows}
 use Rattle.plan_core.specs.ExpressionValue.{◌>>=◌}
 use Rattle.plan_core.specs.Filter.{filter_rows}
 use Rattle.plan_core.specs.Join.{join_rows}
-use Rattle.plan_core.specs.MachineTime.{rows_taken_in}
 use Rattle.plan_core.specs.PlainExpr.{PlainExpr}
 use Rattle.plan_core.specs.PlainPlan.{PlainPlan, Scan, Filter, Project, Distinct, Group, Join, Concat, Order, leaf_count}
 use Rattle.plan_core.specs.PlanMeaning.{plan_meaning}

@@ -1,5 +1,5 @@
 -- What a computed node makes is what is kept of its plan's result.
-use Rattle.std.proofs.Common.{◌≡◌, refl, sym, ap, ◌∙◌, ℕ, ◌+◌, List, ◌++◌, length, take, drop, Result, Ok, Err, arith}
+use Rattle.std.proofs.Common.{◌≡◌, refl, sym, ap, ◌∙◌, ◌+◌, List, ◌++◌, length, take, drop, Result, Ok, Err, arith}
 use Rattle.rows_core.specs.declared.overflow.Overflow.{Overflow}
 use Rattle.row_blob.specs.declared.kept.Kept.{Kept}
 use Rattle.row_blob.specs.declared.kept.Kept.TheVariants as kept

@@ -1,8 +1,7 @@
 -- The rows of rewritings without a grown part.
-use Rattle.std.proofs.Common.{◌≡◌, refl, sym, ap, ◌∙◌, ℕ, ◌+◌, List, [], ◌∷◌, ◌++◌, length, Result, Ok, Err}
+use Rattle.std.proofs.Common.{◌≡◌, refl, ap, ◌∙◌, ℕ, ◌+◌, length, Result, Ok, Err}
 use Rattle.rows_core.specs.declared.overflow.Overflow.{Overflow}
 use Rattle.row_blob.specs.declared.kept.Kept.{Kept}
-use Rattle.row_blob.specs.declared.kept.Kept.TheVariants as kept
 use Rattle.plan_core.specs.Columns.{Rows}
 use Rattle.plan_core.specs.ExpressionValue.{◌>>=◌}
 use Rattle.plan_core.specs.Filter.{filter_rows}
@@ -17,7 +16,7 @@ use Rattle.growth_laws.specs.Given.{rows_of_one, rows_of_two, IsUngrown, IsUngro
 use Rattle.growth_laws.specs.Growth.{Made, rows_of_made}
 use Rattle.growth_laws.specs.KeptResults.{KeptResults}
 use Rattle.growth_laws.specs.Lists.{Extents}
-use Rattle.growth_laws.specs.Making.{as_rows, with_taken_in, kept_of_one, made_of_one, computed_one, kept_of_two, made_of_two, computed_two}
+use Rattle.growth_laws.specs.Making.{as_rows, with_taken_in, kept_of_one, computed_one, kept_of_two, computed_two}
 use Rattle.growth_laws.specs.Trees.{made_by, made_in}
 
 rows_back : (given : Result Rows Overflow) → (as_rows given >>= rows_of_kept) ≡ given

@@ -3,7 +3,6 @@ use Rattle.std.proofs.Common.{◌≡◌, refl, sym, ap, ◌∙◌, ℕ, ◌+◌,
 use Rattle.rows_core.specs.declared.overflow.Overflow.{Overflow}
 use Rattle.row_blob.specs.declared.kept.Kept.{Kept}
 use Rattle.row_blob.specs.declared.kept.Kept.TheVariants as kept
-use Rattle.row_blob.specs.declared.kept.TaggedRow.{TaggedRow}
 use Rattle.plan_core.specs.Columns.{Rows}
 use Rattle.plan_core.specs.ExpressionValue.{◌>>=◌}
 use Rattle.plan_core.specs.MachineTime.{rows_taken_in}
@@ -65,13 +64,12 @@ module _ (left right : PlainPlan) (on : List (ℕ × ℕ)) where
           let r = inputs.1 in
           let grown = grows l inputs.2 in
           let other : r ≡ rights = ok_is (plan_meaning right (drop n after)) r rights right_is gives in
-          let more = takes_in added.rows [] added.taken_in 0 grown (stays right (drop n before) (drop n after) r same inputs.3) in
-          (
+          let more = takes_in added.rows [] added.taken_in 0 grown (stays right (drop n before) (drop n after) r same inputs.3) in (
             form_is after (l ++ added.rows) rights grown.gives gives
-            ∙ ap (λ k. Ok (kept.Tagged k (tagged_from 0 on (l ++ added.rows) rights))) (length-append l added.rows)
-            ∙ ap (λ rows. Ok (kept.Tagged (length l + length added.rows) rows)) (left_grows 0 on l added.rows rights ∙ ap (λ rows. tagged_from 0 on l rights ++ rows) (counted_on on l added.rows rights)
-            ∙ ap (λ other. tagged_from 0 on l other ++ tagged_from (length l) on added.rows rights) (sym other))
-            ∙ ap (λ form. Ok (with_new_lefts on (left_length form) (kept_tagged form) added.rows rights)) inputs.4,
+                ∙ ap (λ k. Ok (kept.Tagged k (tagged_from 0 on (l ++ added.rows) rights))) (length-append l added.rows)
+                ∙ ap (λ rows. Ok (kept.Tagged (length l + length added.rows) rows)) (left_grows 0 on l added.rows rights ∙ ap (λ rows. tagged_from 0 on l rights ++ rows) (counted_on on l added.rows rights)
+                ∙ ap (λ other. tagged_from 0 on l other ++ tagged_from (length l) on added.rows rights) (sym other))
+                ∙ ap (λ form. Ok (with_new_lefts on (left_length form) (kept_tagged form) added.rows rights)) inputs.4,
             more ∙ ap (λ k. old.taken_in + k) (omega arith),
           )
       left_so added grows (Err e) gives = not_both (plan_meaning right (drop (leaf_count left) after)) inputs.1 e right_is gives
@@ -96,12 +94,11 @@ module _ (left right : PlainPlan) (on : List (ℕ × ℕ)) where
           let r = inputs.1 in
           let grown = grows r inputs.3 in
           let other : l ≡ lefts = ok_is (plan_meaning left (take n after)) l lefts left_is gives in
-          let more = takes_in [] added.rows 0 added.taken_in (stays left (take n before) (take n after) l same inputs.2) grown in
-          (
+          let more = takes_in [] added.rows 0 added.taken_in (stays left (take n before) (take n after) l same inputs.2) grown in (
             form_is after l (r ++ added.rows) left_is grown.gives
-            ∙ ap (λ rows. Ok (kept.Tagged (length l) rows)) (right_grows 0 on l r added.rows)
-            ∙ ap (λ form. Ok (kept.Tagged (left_length form) (with_new_rights on (kept_tagged form) l added.rows))) inputs.4
-            ∙ ap (λ other. Ok (kept.Tagged (left_length old.kept) (with_new_rights on (kept_tagged old.kept) other added.rows))) other,
+                ∙ ap (λ rows. Ok (kept.Tagged (length l) rows)) (right_grows 0 on l r added.rows)
+                ∙ ap (λ form. Ok (kept.Tagged (left_length form) (with_new_rights on (kept_tagged form) l added.rows))) inputs.4
+                ∙ ap (λ other. Ok (kept.Tagged (left_length old.kept) (with_new_rights on (kept_tagged old.kept) other added.rows))) other,
             more ∙ ap (λ k. old.taken_in + k) (omega arith),
           )
       right_so added grows (Err e) gives = not_both (plan_meaning left (take (leaf_count left) after)) inputs.0 e left_is gives
@@ -118,9 +115,9 @@ module _ (left right : PlainPlan) (on : List (ℕ × ℕ)) where
         (lefts_grow : Extends left (take (leaf_count left) before) (take (leaf_count left) after) (Ok left_added)) where
       both_so : (lefts rights : Rows) → plan_meaning left (take (leaf_count left) before) ≡ Ok lefts → plan_meaning right (drop (leaf_count left) after) ≡ Ok rights
           → IsMade (Join left right on) after (Ok (record {
-        kept = with_new_lefts on (left_length old.kept) (with_new_rights on (kept_tagged old.kept) lefts right_added.rows) left_added.rows rights;
-        taken_in = old.taken_in + (taken_in_of left_added + taken_in_of right_added);
-      }))
+            kept = with_new_lefts on (left_length old.kept) (with_new_rights on (kept_tagged old.kept) lefts right_added.rows) left_added.rows rights;
+            taken_in = old.taken_in + (taken_in_of left_added + taken_in_of right_added);
+          }))
       both_so lefts rights gave gives =
           let n = leaf_count left in
           let l = inputs.0 in
@@ -130,23 +127,22 @@ module _ (left right : PlainPlan) (on : List (ℕ × ℕ)) where
           let left_grown = lefts_grow l inputs.2 in
           let right_grown = rights_grow r inputs.3 in
           let one : l ≡ lefts = ok_is (plan_meaning left (take n before)) l lefts inputs.2 gave in
-          let other : r ++ rn ≡ rights = ok_is (plan_meaning right (drop n after)) (r ++ rn) rights right_grown.gives gives in
-          (
+          let other : r ++ rn ≡ rights = ok_is (plan_meaning right (drop n after)) (r ++ rn) rights right_grown.gives gives in (
             form_is after (l ++ ln) (r ++ rn) left_grown.gives right_grown.gives
-            ∙ ap (λ k. Ok (kept.Tagged k (tagged_from 0 on (l ++ ln) (r ++ rn)))) (length-append l ln)
-            ∙ ap (λ rows. Ok (kept.Tagged (length l + length ln) rows)) (both_grow 0 on l ln r rn
-            ∙ ap (λ rows. merge_by_position (tagged_from 0 on l r) (tagged_from 0 on l rn) ++ rows) (counted_on on l ln (r ++ rn)))
-            ∙ ap (λ form. Ok (with_new_lefts on (left_length form) (with_new_rights on (kept_tagged form) l rn) ln (r ++ rn))) inputs.4
-            ∙ ap (λ one. Ok (with_new_lefts on (left_length old.kept) (with_new_rights on (kept_tagged old.kept) one rn) ln (r ++ rn))) one
-            ∙ ap (λ other. Ok (with_new_lefts on (left_length old.kept) (with_new_rights on (kept_tagged old.kept) lefts rn) ln other)) other,
+                ∙ ap (λ k. Ok (kept.Tagged k (tagged_from 0 on (l ++ ln) (r ++ rn)))) (length-append l ln)
+                ∙ ap (λ rows. Ok (kept.Tagged (length l + length ln) rows)) (both_grow 0 on l ln r rn
+                ∙ ap (λ rows. merge_by_position (tagged_from 0 on l r) (tagged_from 0 on l rn) ++ rows) (counted_on on l ln (r ++ rn)))
+                ∙ ap (λ form. Ok (with_new_lefts on (left_length form) (with_new_rights on (kept_tagged form) l rn) ln (r ++ rn))) inputs.4
+                ∙ ap (λ one. Ok (with_new_lefts on (left_length old.kept) (with_new_rights on (kept_tagged old.kept) one rn) ln (r ++ rn))) one
+                ∙ ap (λ other. Ok (with_new_lefts on (left_length old.kept) (with_new_rights on (kept_tagged old.kept) lefts rn) ln other)) other,
             takes_in ln rn left_added.taken_in right_added.taken_in left_grown right_grown,
           )
 
       both_given : (lefts rights : Result Rows Overflow) → plan_meaning left (take (leaf_count left) before) ≡ lefts → plan_meaning right (drop (leaf_count left) after) ≡ rights
           → IsMade (Join left right on) after (lefts >>= λ lefts. rights >>= λ rights. Ok (record {
-        kept = with_new_lefts on (left_length old.kept) (with_new_rights on (kept_tagged old.kept) lefts right_added.rows) left_added.rows rights;
-        taken_in = old.taken_in + (taken_in_of left_added + taken_in_of right_added);
-      }))
+            kept = with_new_lefts on (left_length old.kept) (with_new_rights on (kept_tagged old.kept) lefts right_added.rows) left_added.rows rights;
+            taken_in = old.taken_in + (taken_in_of left_added + taken_in_of right_added);
+          }))
       both_given (Ok lefts) (Ok rights) gave gives = both_so lefts rights gave gives
       both_given (Ok lefts) (Err e) gave gives = right_fails after e gives
       both_given (Err e) rights gave gives = not_both (plan_meaning left (take (leaf_count left) before)) inputs.0 e inputs.2 gave

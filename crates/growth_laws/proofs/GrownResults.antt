@@ -1,5 +1,5 @@
 -- What is made of the earlier result of a plan and of the rows that have come.
-use Rattle.std.proofs.Common.{◌≡◌, refl, sym, ap, ◌∙◌, subst, ℕ, ◌+◌, List, [], ◌∷◌, ◌++◌, length, take, drop, Result, Ok, Err, arith}
+use Rattle.std.proofs.Common.{◌≡◌, refl, sym, ap, ◌∙◌, subst, ℕ, ◌+◌, List, ◌++◌, Result, Ok, Err}
 use Rattle.std.specs.Cmp.{IsTotalOrder}
 use Rattle.rows_core.specs.declared.order.Key.{Key}
 use Rattle.rows_core.specs.declared.overflow.Overflow.{Overflow}
@@ -8,16 +8,15 @@ use Rattle.row_blob.specs.declared.kept.Kept.{Kept}
 use Rattle.row_blob.specs.declared.kept.Kept.TheVariants as kept
 use Rattle.plan_core.specs.declared.agg.Agg.{Agg}
 use Rattle.plan_core.specs.Columns.{Rows}
-use Rattle.plan_core.specs.Distinct.{distinct_rows}
 use Rattle.plan_core.specs.ExpressionValue.{◌>>=◌}
 use Rattle.plan_core.specs.Filter.{filter_rows}
 use Rattle.plan_core.specs.PlainExpr.{PlainExpr}
-use Rattle.plan_core.specs.PlainPlan.{PlainPlan, Scan, Filter, Project, Distinct, Group, Join, Concat, Order, leaf_count}
+use Rattle.plan_core.specs.PlainPlan.{PlainPlan, Scan, Filter, Project, Distinct, Group, Join, Concat, Order}
 use Rattle.plan_core.specs.PlanMeaning.{plan_meaning}
 use Rattle.plan_core.specs.Project.{project_rows}
 use Rattle.plan_core.specs.StableOrder.{order_rows}
 use Rattle.plan_laws.specs.GrowthOfGroups.{groups_of, merged_groups}
-use Rattle.plan_laws.specs.GrowthOfRows.{Grows, new_rows}
+use Rattle.plan_laws.specs.GrowthOfRows.{new_rows}
 use Rattle.plan_laws.specs.KeptForm.{kept_form, rows_of_kept}
 use Rattle.plan_laws.proofs.Growing.{order_gives, takes_in_new}
 use Rattle.plan_laws.proofs.MergedGroups.{joined_lists, more_taken_in}
@@ -42,8 +41,7 @@ module _ (plan : PlainPlan) (before after : List Rows) (form_before : kept_form 
   pub made_behind : (given : Result Added Overflow) → Extends plan before after given → IsMade plan after (given >>= added_behind old)
   made_behind (Ok more) grows =
       let here = are_kept in
-      let grown = grows here.0 here.1 in
-      (
+      let grown = grows here.0 here.1 in (
         form_after ∙ ap as_rows grown.gives ∙ ap (λ form. Ok (kept.Rows (kept_rows form ++ more.rows))) here.2,
         grown.takes_in ∙ ap (λ taken. taken + more.taken_in) is.1,
       )
@@ -85,10 +83,9 @@ module _ (child : PlainPlan) (keys : List ℕ) (aggs : List Agg) (before after :
   groups_made old (Ok added) is grows =
       let below = gave_first (plan_meaning child before) (λ rows. Ok (kept.Groups (groups_of keys aggs rows))) old.kept is.0 in
       let grown = grows below.0 below.1 in
-      let here : kept.Groups (groups_of keys aggs below.0) ≡ old.kept = ok_is (Ok (kept.Groups (groups_of keys aggs below.0))) (kept.Groups (groups_of keys aggs below.0)) old.kept refl below.2 in
-      (
+      let here : kept.Groups (groups_of keys aggs below.0) ≡ old.kept = ok_is (Ok (kept.Groups (groups_of keys aggs below.0))) (kept.Groups (groups_of keys aggs below.0)) old.kept refl below.2 in (
         ap (λ m. m >>= λ rows. Ok (kept.Groups (groups_of keys aggs rows))) grown.gives ∙ ap (λ groups. Ok (kept.Groups groups)) (joined_lists keys aggs below.0 added.rows)
-        ∙ ap (λ form. Ok (kept.Groups (merged_groups aggs (kept_groups form) (groups_of keys aggs added.rows)))) here,
+            ∙ ap (λ form. Ok (kept.Groups (merged_groups aggs (kept_groups form) (groups_of keys aggs added.rows)))) here,
         more_taken_in child keys aggs before after below.0 added.rows added.taken_in grown.gave grown.gives grown.takes_in ∙ ap (λ taken. taken + taken_in_of added) is.1,
       )
   groups_made old (Err e) is grows =
@@ -103,11 +100,10 @@ module _ (child : PlainPlan) (keys : List Key) (total : IsTotalOrder (row_cmp ke
   order_made old (Ok added) is grows =
       let here = are_kept (Order child keys) before after refl refl old is in
       let below = gave_first (plan_meaning child before) (λ rows. Ok (order_rows keys rows)) here.0 here.1 in
-      let grown = grows below.0 below.1 in
-      (
+      let grown = grows below.0 below.1 in (
         ap as_rows (order_gives child before after below.0 added.rows added.taken_in grown keys total)
-        ∙ ap (λ olds. olds >>= λ olds. Ok (kept.Rows (order_rows keys (olds ++ order_rows keys added.rows)))) below.2
-        ∙ ap (λ form. Ok (kept.Rows (order_rows keys (kept_rows form ++ order_rows keys added.rows)))) here.2,
+            ∙ ap (λ olds. olds >>= λ olds. Ok (kept.Rows (order_rows keys (olds ++ order_rows keys added.rows)))) below.2
+            ∙ ap (λ form. Ok (kept.Rows (order_rows keys (kept_rows form ++ order_rows keys added.rows)))) here.2,
         takes_in_new child before after below.0 added.rows added.taken_in grown ∙ ap (λ taken. taken + taken_in_of added) is.1,
       )
   order_made old (Err e) is grows =

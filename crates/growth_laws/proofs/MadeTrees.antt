@@ -1,19 +1,18 @@
 -- What a rewriting makes is what is kept of its plan's result.
-use Rattle.std.proofs.Common.{◌≡◌, refl, sym, ap, ◌∙◌, subst, ℕ, ◌+◌, ◌-◌, List, [], ◌∷◌, take, drop, Result, Ok, Err, arith}
+use Rattle.std.proofs.Common.{sym, subst, List, Ok, arith}
 use Rattle.std.specs.Cmp.{IsTotalOrder}
 use Rattle.rows_core.specs.declared.order.Key.{Key}
-use Rattle.rows_core.specs.declared.overflow.Overflow.{Overflow}
 use Rattle.rows_core.specs.RowOrder.{row_cmp}
 use Rattle.plan_core.specs.PlainPlan.{PlainPlan, Scan, Filter, Project, Distinct, Group, Join, Concat, Order, leaf_count}
 use Rattle.estimator.specs.Cuts.{Cuts, AreIntervals}
 use Rattle.rewrite_core.specs.declared.rewriting.Hit.{Hit}
 use Rattle.rewrite_core.specs.PlainRewriting.{PlainRewriting, Node, PlainWay, One, Two, Read, Tail, LeftGrew, RightGrew, BothGrew, PlainDelta, Change, PlainDeltaWay, Unchanged, NewRows, OfChild, OfDistinct, OfJoin}
 use Rattle.rewrite_core.specs.PlainRewriting as tree
-use Rattle.rewrite_core.specs.IsRewriting.{Naming, IsRewriting, IsWay, IsDelta, IsDeltaWay, OfSides, lefts, rights}
-use Rattle.growth_laws.specs.Growth.{Added, Made, Extends, IsMade}
+use Rattle.rewrite_core.specs.IsRewriting.{Naming, IsRewriting, IsWay, IsDelta, IsDeltaWay, lefts, rights}
+use Rattle.growth_laws.specs.Growth.{Extends, IsMade}
 use Rattle.growth_laws.specs.KeptResults.{KeptResults, KeptResult, IsResultOf}
 use Rattle.growth_laws.specs.Lists.{Extents, plan_lists}
-use Rattle.growth_laws.specs.Making.{made_before, grown_left, grown_right, grown_both, join_delta}
+use Rattle.growth_laws.specs.Making.{made_before}
 use Rattle.growth_laws.specs.Trees.{made_by, made_in, added_by, added_in}
 use Rattle.growth_laws.proofs.AddedRows.{unchanged, passed_extends, distinct_added, join_extends}
 use Rattle.growth_laws.proofs.ComputedNodes.{scan_made, one_made, two_made}

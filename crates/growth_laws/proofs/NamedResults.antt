@@ -1,5 +1,5 @@
 -- Which results a tree may name.
-use Rattle.std.proofs.Common.{◌≡◌, refl, sym, ap, ◌∙◌, subst, ℕ, ◌+◌, List, Result, Ok, Err}
+use Rattle.std.proofs.Common.{◌≡◌, sym, ap, subst, ◌+◌, List, Result, Ok, Err}
 use Rattle.std.specs.Prelude.{IfOk}
 use Rattle.rows_core.specs.declared.overflow.Overflow.{Overflow}
 use Rattle.plan_core.specs.Columns.{Rows}
@@ -8,13 +8,13 @@ use Rattle.plan_core.specs.PlainPlan.{PlainPlan, Scan, Filter, Project, Distinct
 use Rattle.plan_core.specs.PlanMeaning.{plan_meaning}
 use Rattle.estimator.specs.Cuts.{Cuts}
 use Rattle.rewrite_core.specs.declared.rewriting.Hit.{Hit}
-use Rattle.rewrite_core.specs.Entries.{Entries, AreSound, IsWhole, IsEarlier, entry_of}
+use Rattle.rewrite_core.specs.Entries.{Entries, AreSound, entry_of}
 use Rattle.rewrite_core.specs.IsRewriting.{Naming, IsRewriting, IsWay, IsDelta, IsDeltaWay, among, OfOne, OfTwo, OfSides, OfTail, OfDeltaTail, OfDistinctChild, lefts, rights}
 use Rattle.rewrite_core.specs.PlainRewriting.{PlainRewriting, Node, PlainWay, One, Two, Read, Tail, LeftGrew, RightGrew, BothGrew, PlainDelta, Change, PlainDeltaWay, Unchanged, NewRows, OfChild, OfDistinct, OfJoin}
 use Rattle.rewrite_core.specs.PlainRewriting as tree
 use Rattle.growth_laws.specs.Growth.{Made, IsMade, machine_of, rows_of_made}
 use Rattle.growth_laws.specs.KeptResults.{KeptResults, IsResultOf, AreKept, kept_among}
-use Rattle.growth_laws.specs.Lists.{Extents, plan_lists}
+use Rattle.growth_laws.specs.Lists.{Extents}
 use Rattle.growth_laws.proofs.ComputedNodes.{means, fails}
 use Rattle.growth_laws.proofs.MadeTrees.{AreResults}
 
@@ -122,8 +122,12 @@ module _ (names others : Naming) (whole : (plan : PlainPlan) (cuts : Cuts) (hit 
     way_renamed (BothGrew hit l rd ld r) plan cuts is = (
       earlier plan cuts hit is.0,
       of_sides _ _ (λ left right all. (
-        all.0, all.1, renamed l left (lefts left hit.cuts) all.2, delta_renamed rd right (rights left hit.cuts) (rights left cuts) all.3,
-        delta_renamed ld left (lefts left hit.cuts) (lefts left cuts) all.4, renamed r right (rights left cuts) all.5,
+        all.0,
+        all.1,
+        renamed l left (lefts left hit.cuts) all.2,
+        delta_renamed rd right (rights left hit.cuts) (rights left cuts) all.3,
+        delta_renamed ld left (lefts left hit.cuts) (lefts left cuts) all.4,
+        renamed r right (rights left cuts) all.5,
       )) plan is.1,
     )
 
@@ -136,7 +140,8 @@ module _ (names others : Naming) (whole : (plan : PlainPlan) (cuts : Cuts) (hit 
     delta_way_renamed (OfChild d) plan old new is = (is.0, of_delta_tail _ _ (λ child o n. delta_renamed d child o n) old new plan is.1)
     delta_way_renamed (OfDistinct r d) plan old new is = (is.0, renamed r plan old is.1, of_distinct _ _ (λ child. delta_renamed d child old new) plan is.2)
     delta_way_renamed (OfJoin d r) plan old new is = (
-      is.0, of_sides _ _ (λ left right all. (all.0, delta_renamed d left (lefts left old) (lefts left new) all.1, renamed r right (rights left new) all.2)) plan is.1,
+      is.0,
+      of_sides _ _ (λ left right all. (all.0, delta_renamed d left (lefts left old) (lefts left new) all.1, renamed r right (rights left new) all.2)) plan is.1,
     )
 
 -- ---- entries

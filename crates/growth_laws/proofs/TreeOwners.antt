@@ -1,5 +1,5 @@
 -- Each rewriting that stands in a rewriting is one of its own plan at its own cut.
-use Rattle.std.proofs.Common.{◌≡◌, sym, subst, List, [], ◌∷◌, ◌++◌}
+use Rattle.std.proofs.Common.{sym, subst, List, [], ◌∷◌, ◌++◌}
 use Rattle.std.specs.Cmp.{IsTotalOrder}
 use Rattle.std.specs.List.{AllByRecursion}
 use Rattle.rows_core.specs.declared.order.Key.{Key}
@@ -11,7 +11,7 @@ use Rattle.rewrite_core.specs.PlainRewriting.{PlainRewriting, Node, PlainWay, On
 use Rattle.rewrite_core.specs.PlainRewriting as tree
 use Rattle.growth_laws.specs.KeptResults.{KeptResults, kept_among}
 use Rattle.growth_laws.specs.Lists.{Extents}
-use Rattle.growth_laws.specs.Parts.{plan_at, cuts_at, parts_of, parts_in, parts_of_delta, parts_in_delta, IsOwn}
+use Rattle.growth_laws.specs.Parts.{parts_of, parts_in, parts_of_delta, parts_in_delta, IsOwn}
 use Rattle.growth_laws.proofs.MadeTrees.{tree_made}
 use Rattle.growth_laws.proofs.NamedResults.{as_named}
 

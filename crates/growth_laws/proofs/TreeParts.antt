@@ -1,10 +1,10 @@
 -- The parts of a tree, and the lists on which they are made.
-use Rattle.std.proofs.Common.{◌≡◌, ◌≢◌, refl, sym, ap, ◌∙◌, subst, ℕ, zero, suc, ◌≤◌, ◌<◌, List, [], ◌∷◌, take, drop, Result, Ok, Err, arith}
+use Rattle.std.proofs.Common.{◌≡◌, sym, ap, ◌∙◌, subst, ℕ, zero, suc, List, [], ◌∷◌, take, drop, Result, Ok, arith}
 use Rattle.rows_core.specs.declared.overflow.Overflow.{Overflow}
 use Rattle.plan_core.specs.Columns.{Rows}
 use Rattle.plan_core.specs.PlainPlan.{PlainPlan, Scan, Filter, Project, Distinct, Group, Join, Concat, Order, leaves, leaf_count}
 use Rattle.estimator.specs.Cuts.{Cuts, AreIntervals, added_cut, added_cuts}
-use Rattle.rewrite_core.specs.IsRewriting.{OfOne, OfTwo, OfSides, OfTail, OfDeltaTail, OfDistinctChild, IsScan, IsLonger, lefts, rights}
+use Rattle.rewrite_core.specs.IsRewriting.{OfOne, OfTwo, OfTail, OfDeltaTail, OfDistinctChild, IsScan, IsLonger, lefts, rights}
 use Rattle.growth_laws.specs.Growth.{Added, Made, Extends, IsMade, OfGrownInput, OfPassedInput}
 use Rattle.growth_laws.specs.Lists.{Extents, extents_of, interval_rows, plan_lists}
 use Rattle.growth_laws.specs.Making.{new_extents}

@@ -1,6 +1,6 @@
 -- Worked results, each grown by a rewriting from the earlier one: the definitions compute them, and the same of the whole
 -- lists.
-use Rattle.std.specs.Prelude.{◌≡◌, refl, ℕ, ◌+◌, pos, true, false, List, [], ◌∷◌, ◌++◌, Result, Ok, Err}
+use Rattle.std.specs.Prelude.{◌≡◌, refl, ℕ, pos, true, false, List, [], ◌∷◌, Result, Ok, Err}
 use Rattle.rows_core.specs.declared.cut.Cut.{Cut}
 use Rattle.rows_core.specs.declared.overflow.Overflow.{Overflow}
 use Rattle.rows_core.specs.declared.value.Value.TheVariants.{Int}
@@ -14,13 +14,13 @@ use Rattle.scalar_ops.specs.Meaning.{overflow}
 use Rattle.plan_core.specs.declared.agg.Agg.TheVariants.{Count, Sum}
 use Rattle.plan_core.specs.Columns.{Rows}
 use Rattle.plan_core.specs.MachineTime.{rows_taken_in}
-use Rattle.plan_core.specs.PlainExpr.{PlainExpr, Column, Literal, Call2}
+use Rattle.plan_core.specs.PlainExpr.{Column, Literal, Call2}
 use Rattle.plan_core.specs.PlainPlan.{PlainPlan}
 use Rattle.plan_core.specs.PlainPlan as plan
 use Rattle.plan_laws.specs.KeptForm.{kept_form}
 use Rattle.estimator.specs.Cuts.{Cuts}
 use Rattle.rewrite_core.specs.declared.rewriting.Hit.{Hit}
-use Rattle.rewrite_core.specs.PlainRewriting.{PlainRewriting, Node, Scan, One, Read, Tail, LeftGrew, RightGrew, BothGrew, PlainDelta, Change, Unchanged, NewRows, OfChild, OfDistinct, OfJoin}
+use Rattle.rewrite_core.specs.PlainRewriting.{PlainRewriting, Node, Scan, One, Tail, LeftGrew, RightGrew, BothGrew, PlainDelta, Change, NewRows, OfChild, OfDistinct, OfJoin}
 use Rattle.growth_laws.specs.Growth.{Made}
 use Rattle.growth_laws.specs.KeptResults.{KeptResults}
 use Rattle.growth_laws.specs.Lists.{Extents, plan_lists}

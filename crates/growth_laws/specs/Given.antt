@@ -1,6 +1,6 @@
 -- The rows that a rewriting without a grown part gives: those that the extents and the results that it reads have, and each
 -- operator's of the rows of its inputs.
-use Rattle.std.specs.Prelude.{List, [], ◌++◌, Result, Ok}
+use Rattle.std.specs.Prelude.{[], ◌++◌, Result, Ok}
 use Rattle.rows_core.specs.declared.overflow.Overflow.{Overflow}
 use Rattle.plan_core.specs.Columns.{Rows}
 use Rattle.plan_core.specs.Distinct.{distinct_rows}

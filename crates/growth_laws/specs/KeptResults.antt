@@ -5,7 +5,6 @@ use Rattle.plan_core.specs.MachineTime.{machine_time}
 use Rattle.plan_core.specs.PlainPlan.{PlainPlan}
 use Rattle.plan_laws.specs.KeptForm.{kept_form}
 use Rattle.estimator.specs.Cuts.{Cuts, AreIntervals}
-use Rattle.rewrite_core.specs.declared.rewriting.Hit.{Hit}
 use Rattle.rewrite_core.specs.Entries.{Entry, Entries}
 use Rattle.rewrite_core.specs.IsRewriting.{Naming}
 use Rattle.growth_laws.specs.Lists.{Extents, plan_lists}

@@ -194,6 +194,11 @@ with_new_lefts on first tagged news rights = kept.Tagged (first + length news) (
 abbrev pub with_new_rights : List (ℕ × ℕ) → List TaggedRow → Rows → Rows → List TaggedRow
 with_new_rights on tagged lefts news = merge_by_position tagged (tagged_from 0 on lefts news)
 
+-- the old left rows with the new right ones, and then the new left rows with all right ones
+abbrev pub with_both : List (ℕ × ℕ) → Kept → Rows → Rows → Rows → Rows → Kept
+with_both on old lefts new_rights new_lefts rights =
+    with_new_lefts on (left_length old) (with_new_rights on (kept_tagged old) lefts new_rights) new_lefts rights
+
 abbrev pub made_of_left : PlainPlan → Made → Added → Made → Result Made Overflow
 made_of_left plan old added other = do
   rights ← rows_of_kept other.kept
@@ -222,17 +227,17 @@ grown_right plan old made given = do
   added ← given
   made_of_right plan old left added
 
--- the old left rows first, and then the new left ones with all right rows
 abbrev pub made_of_both : PlainPlan → Made → Made → Added → Added → Made → Result Made Overflow
 made_of_both plan old old_left right_added left_added other = do
   lefts ← rows_of_kept old_left.kept
   rights ← rows_of_kept other.kept
   Ok (record {
-    kept = with_new_lefts (pairs_of plan) (left_length old.kept) (with_new_rights (pairs_of plan) (kept_tagged old.kept) lefts right_added.rows) left_added.rows rights;
+    kept = with_both (pairs_of plan) old.kept lefts right_added.rows left_added.rows rights;
     taken_in = old.taken_in + (taken_in_of left_added + taken_in_of right_added);
   })
 
-abbrev pub grown_both : PlainPlan → Made → Result Made Overflow → Result Added Overflow → Result Added Overflow → Result Made Overflow → Result Made Overflow
+abbrev pub grown_both :
+    PlainPlan → Made → Result Made Overflow → Result Added Overflow → Result Added Overflow → Result Made Overflow → Result Made Overflow
 grown_both plan old first right_given left_given second = do
   old_left ← first
   right_added ← right_given

@@ -8,8 +8,8 @@ ghost use Rattle.growth_laws.specs.Growth.{Added, Made, Extends, IsMade, OfPasse
 ghost use Rattle.growth_laws.specs.Making.{nothing_added, new_extents};
 ghost use Rattle.growth_laws.specs.Making.{passed_delta, distinct_delta, join_delta};
 
-/// Nothing comes behind the result of a plan on the same lists, and the new rows of its stream behind that of
-/// a scan.
+/// Nothing comes behind the result of a plan on the same lists, and the new rows of its stream behind that
+/// of a scan.
 pub fn rows_added_to_leaves()
     ensures unchanged { (plan : PlainPlan) (lists : List Rows)
         → Extends plan lists lists (Ok nothing_added) }
@@ -19,9 +19,9 @@ pub fn rows_added_to_leaves()
 
 /// Behind the result of a filter and of a projection comes what their operator gives of the rows that come
 /// behind that of their input; behind that of a concatenation whose left lists are unchanged, what comes
-/// behind that of its right input; and behind that of a distinct what comes behind that of its input and isn't
-/// there yet. Each takes in these rows beside what its input takes in more, and is an overflow where its input
-/// or the operator on these rows is one.
+/// behind that of its right input; and behind that of a distinct what comes behind that of its input and
+/// isn't there yet. Each takes in these rows beside what its input takes in more, and is an overflow where
+/// its input or the operator on these rows is one.
 pub fn rows_added_to_one_input()
     ensures passed { (plan : PlainPlan) (before after : List Rows) (given : Result Added Overflow)
         → OfPassedInput (λ input old new. Extends input old new given) plan before after

@@ -7,8 +7,8 @@ ghost use Rattle.rewrite_core.specs.IsRewriting.{OfOne, OfTwo, IsScan};
 ghost use Rattle.growth_laws.specs.Growth.{Made, IsMade};
 ghost use Rattle.growth_laws.specs.Making.{scanned, computed_one, computed_two};
 
-/// What is made of a scan's list, of what was made of the one input of a plan, and of its two inputs, is what
-/// is kept of the plan's result, with the rows that it takes in; it is an overflow where that is one.
+/// What is made of a scan's list, of what was made of the one input of a plan, and of its two inputs, is
+/// what is kept of the plan's result, with the rows that it takes in; it is an overflow where that is one.
 pub fn results_that_are_computed()
     ensures scan { (plan : PlainPlan) (lists : List Rows)
         → IsScan plan → IsMade plan lists (Ok (scanned lists)) }

@@ -9,12 +9,12 @@ ghost use Rattle.growth_laws.specs.Making.{grown_one, grown_left, grown_right, g
 
 use rows_core::total_order;
 
-/// What is made of the earlier result of a plan and of the rows that came behind those of its input is what is
-/// kept of its result on the longer lists: of a filter and of a projection with what the operator gives of
-/// them, of a distinct with those that aren't there yet, of a grouping the merged groups, of an order the old
-/// rows and the ordered new ones in order, and of a concatenation whose left lists are unchanged with what
-/// came behind its right input. Its machine time is the earlier one and what was added, and it is an overflow
-/// where that of the longer lists is one.
+/// What is made of the earlier result of a plan and of the rows that came behind those of its input is what
+/// is kept of its result on the longer lists: of a filter and of a projection with what the operator gives
+/// of them, of a distinct with those that aren't there yet, of a grouping the merged groups, of an order
+/// the old rows and the ordered new ones in order, and of a concatenation whose left lists are unchanged
+/// with what came behind its right input. Its machine time is the earlier one and what was added, and it is
+/// an overflow where that of the longer lists is one.
 pub fn results_that_grow()
     ensures { (before after : List Rows) (old : Made) (given : Result Added Overflow) (plan : PlainPlan)
         → IsMade plan before (Ok old)
@@ -25,11 +25,12 @@ pub fn results_that_grow()
     total_order();
 }
 
-/// What is made of the earlier result of a join and of the rows that came behind those of its left input, of
-/// its right input or of both is what is kept of its result on the longer lists: the old rows and then those
-/// of the new left rows, counted on; the old rows and those of the new right rows, merged by the position of
-/// their left rows; and these and then those of the new left rows with all right ones. Its machine time is the
-/// earlier one and what was added on both sides, and it is an overflow where that of the longer lists is one.
+/// What is made of the earlier result of a join and of the rows that came behind those of its left input,
+/// of its right input or of both is what is kept of its result on the longer lists: the old rows and then
+/// those of the new left rows, counted on; the old rows and those of the new right rows, merged by the
+/// position of their left rows; and these and then those of the new left rows with all right ones. Its
+/// machine time is the earlier one and what was added on both sides, and it is an overflow where that of
+/// the longer lists is one.
 pub fn joins_that_grow()
     ensures left { (before after : List Rows) (old : Made) (plan : PlainPlan)
         (given : Result Added Overflow) (made : Result Made Overflow) → IsMade plan before (Ok old)

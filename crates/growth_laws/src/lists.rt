@@ -25,8 +25,8 @@ pub fn rows_of_longer_intervals()
         ≡ interval_rows extents old ++ interval_rows extents (added_cut old new) }
 {}
 
-/// No rows are in an interval without extents, and those of its extent in one of a single extent: so the rows
-/// in an interval are those of its extents, one after the other.
+/// No rows are in an interval without extents, and those of its extent in one of a single extent: so the
+/// rows in an interval are those of its extents, one after the other.
 pub fn rows_of_each_extent()
     ensures none { (extents : List Rows) (number : ℕ) → interval_rows extents (no_extent number) ≡ [] }
     ensures one { (extents : List Rows) (number : ℕ)

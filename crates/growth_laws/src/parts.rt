@@ -10,8 +10,8 @@ ghost use Rattle.growth_laws.specs.Parts.{parts_of, IsOwn};
 
 use rows_core::total_order;
 
-/// Each rewriting that stands in a rewriting, also within its deltas and at earlier cuts, makes what is kept
-/// of the result of its own plan at its own cut.
+/// Each rewriting that stands in a rewriting, also within its deltas and at earlier cuts, makes what is
+/// kept of the result of its own plan at its own cut.
 pub fn results_of_parts()
     ensures { (extents : Extents) (results : KeptResults) (plan : PlainPlan) (cuts : Cuts)
         (r : PlainRewriting) → IsRewriting (kept_among extents results) plan cuts r

@@ -14,9 +14,9 @@ ghost use Rattle.growth_laws.specs.Trees.{made_by, added_by};
 
 use rows_core::total_order;
 
-/// Whatever mixture of computed, read and grown parts a rewriting is, where each result that it names is that
-/// of its plan on its own cut, it makes what is kept of the plan's result at the cut, with the machine time of
-/// the plan; its rows are the plan's; and it is an overflow where the plan's kept form is one.
+/// Whatever mixture of computed, read and grown parts a rewriting is, where each result that it names is
+/// that of its plan on its own cut, it makes what is kept of the plan's result at the cut, with the machine
+/// time of the plan; its rows are the plan's; and it is an overflow where the plan's kept form is one.
 pub fn results_of_rewritings()
     ensures made { (extents : Extents) (results : KeptResults) (plan : PlainPlan) (cuts : Cuts)
         (r : PlainRewriting) → IsRewriting (kept_among extents results) plan cuts r
