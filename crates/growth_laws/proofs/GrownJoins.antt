@@ -23,7 +23,7 @@ counted_on : (on : List (ℕ × ℕ)) (l news rights : Rows) → tagged_from (0 
 counted_on on l news rights = ap (λ n. tagged_from n on news rights) (omega arith)
 
 module _ (left right : PlainPlan) (on : List (ℕ × ℕ)) where
-  abbrev form_of : Rows → Rows → Kept
+  abbrev pub form_of : Rows → Rows → Kept
   form_of l r = kept.Tagged (length l) (tagged_from 0 on l r)
 
   form_is : (lists : List Rows) (l r : Rows) → plan_meaning left (take (leaf_count left) lists) ≡ Ok l → plan_meaning right (drop (leaf_count left) lists) ≡ Ok r → kept_form (Join left right on) lists ≡ Ok (form_of l r)
@@ -38,7 +38,7 @@ module _ (left right : PlainPlan) (on : List (ℕ × ℕ)) where
 
   module _ (before after : List Rows) (old : Made) (is : IsMade (Join left right on) before (Ok old)) where
     -- what both inputs gave
-    inputs : (l : Rows) × (r : Rows) × (plan_meaning left (take (leaf_count left) before) ≡ Ok l) × (plan_meaning right (drop (leaf_count left) before) ≡ Ok r) × (form_of l r ≡ old.kept)
+    pub inputs : (l : Rows) × (r : Rows) × (plan_meaning left (take (leaf_count left) before) ≡ Ok l) × (plan_meaning right (drop (leaf_count left) before) ≡ Ok r) × (form_of l r ≡ old.kept)
     inputs =
         let n = leaf_count left in
         let first = gave_first (plan_meaning left (take n before)) (λ l. plan_meaning right (drop n before) >>= λ r. Ok (form_of l r)) old.kept is.0 in

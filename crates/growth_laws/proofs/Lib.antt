@@ -1,10 +1,12 @@
 pub mod AddedRows
 pub mod ComputedNodes
+pub mod FormsMade
 pub mod GivenRows
 pub mod GrownJoins
 pub mod GrownResults
 pub mod LeafLists
 pub mod MadeTrees
 pub mod NamedResults
+pub mod PartTimes
 pub mod TreeOwners
 pub mod TreeParts

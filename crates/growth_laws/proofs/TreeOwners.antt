@@ -15,14 +15,14 @@ use Rattle.growth_laws.specs.Parts.{parts_of, parts_in, parts_of_delta, parts_in
 use Rattle.growth_laws.proofs.MadeTrees.{tree_made}
 use Rattle.growth_laws.proofs.NamedResults.{as_named}
 
-both : {X : Type 0} (P : X → Type 0) (xs ys : List X) → AllByRecursion P xs → AllByRecursion P ys → AllByRecursion P (xs ++ ys)
+pub both : {X : Type 0} (P : X → Type 0) (xs ys : List X) → AllByRecursion P xs → AllByRecursion P ys → AllByRecursion P (xs ++ ys)
 both P [] ys first second = second
 both P (x ∷ xs) ys first second = (first.0, both P xs ys first.1 second)
 
 -- ---- what holds of some input
 
 module _ (P : PlainPlan → Type 0) (B : Type 0) (f : (plan : PlainPlan) → P plan → B) where
-  from_one : (plan : PlainPlan) → OfOne P plan → B
+  pub from_one : (plan : PlainPlan) → OfOne P plan → B
   from_one (Scan stream) is = absurd is
   from_one (Filter child test) is = f child is
   from_one (Project child columns) is = f child is
@@ -32,7 +32,7 @@ module _ (P : PlainPlan → Type 0) (B : Type 0) (f : (plan : PlainPlan) → P p
   from_one (Concat left right) is = absurd is
   from_one (Order child keys) is = f child is
 
-  from_distinct : (plan : PlainPlan) → OfDistinctChild P plan → B
+  pub from_distinct : (plan : PlainPlan) → OfDistinctChild P plan → B
   from_distinct (Scan stream) is = absurd is
   from_distinct (Filter child test) is = absurd is
   from_distinct (Project child columns) is = absurd is
@@ -43,7 +43,7 @@ module _ (P : PlainPlan → Type 0) (B : Type 0) (f : (plan : PlainPlan) → P p
   from_distinct (Order child keys) is = absurd is
 
 module _ (P : PlainPlan → PlainPlan → Type 0) (B : Type 0) (f : (left right : PlainPlan) → P left right → B) where
-  from_two : (plan : PlainPlan) → OfTwo P plan → B
+  pub from_two : (plan : PlainPlan) → OfTwo P plan → B
   from_two (Scan stream) is = absurd is
   from_two (Filter child test) is = absurd is
   from_two (Project child columns) is = absurd is
@@ -53,7 +53,7 @@ module _ (P : PlainPlan → PlainPlan → Type 0) (B : Type 0) (f : (left right 
   from_two (Concat left right) is = f left right is
   from_two (Order child keys) is = absurd is
 
-  from_sides : (plan : PlainPlan) → OfSides P plan → B
+  pub from_sides : (plan : PlainPlan) → OfSides P plan → B
   from_sides (Scan stream) is = absurd is
   from_sides (Filter child test) is = absurd is
   from_sides (Project child columns) is = absurd is
@@ -64,7 +64,7 @@ module _ (P : PlainPlan → PlainPlan → Type 0) (B : Type 0) (f : (left right 
   from_sides (Order child keys) is = absurd is
 
 module _ (P : PlainPlan → Cuts → Cuts → Type 0) (B : Type 0) (f : (plan : PlainPlan) (old new : Cuts) → P plan old new → B) (old new : Cuts) where
-  from_tail : (plan : PlainPlan) → OfTail P plan old new → B
+  pub from_tail : (plan : PlainPlan) → OfTail P plan old new → B
   from_tail (Scan stream) is = absurd is
   from_tail (Filter child test) is = f child old new is
   from_tail (Project child columns) is = f child old new is
@@ -74,7 +74,7 @@ module _ (P : PlainPlan → Cuts → Cuts → Type 0) (B : Type 0) (f : (plan : 
   from_tail (Concat left right) is = f right (rights left old) (rights left new) is.1
   from_tail (Order child keys) is = f child old new is
 
-  from_delta_tail : (plan : PlainPlan) → OfDeltaTail P plan old new → B
+  pub from_delta_tail : (plan : PlainPlan) → OfDeltaTail P plan old new → B
   from_delta_tail (Scan stream) is = absurd is
   from_delta_tail (Filter child test) is = f child old new is
   from_delta_tail (Project child columns) is = f child old new is

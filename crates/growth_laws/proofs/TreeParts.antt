@@ -29,10 +29,10 @@ module _ (extents : Extents) where
     abbrev both_lists : Cuts → List Rows
     both_lists cuts = plan_lists extents (Concat left right) cuts
 
-    left_part : (cuts : Cuts) → take (leaf_count left) (both_lists cuts) ≡ plan_lists extents left (lefts left cuts)
+    pub left_part : (cuts : Cuts) → take (leaf_count left) (both_lists cuts) ≡ plan_lists extents left (lefts left cuts)
     left_part = left_lists extents (leaves left) (leaves right)
 
-    right_part : (cuts : Cuts) → drop (leaf_count left) (both_lists cuts) ≡ plan_lists extents right (rights left cuts)
+    pub right_part : (cuts : Cuts) → drop (leaf_count left) (both_lists cuts) ≡ plan_lists extents right (rights left cuts)
     right_part = right_lists extents (leaves left) (leaves right)
 
     pub same_left : (old new : Cuts) → lefts left old ≡ lefts left new → take (leaf_count left) (both_lists old) ≡ take (leaf_count left) (both_lists new)

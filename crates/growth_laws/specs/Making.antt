@@ -39,6 +39,15 @@ abbrev pub left_length : Kept → ℕ
 left_length (kept.Tagged left rows) = left
 left_length _ = 0
 
+-- groups of a grouping, tagged rows of a join, and rows of every other plan
+abbrev pub IsFormOf : PlainPlan → Kept → Type 0
+IsFormOf (Group child keys aggs) (kept.Groups groups) = Unit {0}
+IsFormOf (Group child keys aggs) _ = ⊥
+IsFormOf (Join left right on) (kept.Tagged left_rows rows) = Unit {0}
+IsFormOf (Join left right on) _ = ⊥
+IsFormOf plan (kept.Rows rows) = Unit {0}
+IsFormOf plan _ = ⊥
+
 abbrev pub as_rows : Result Rows Overflow → Result Kept Overflow
 as_rows given = do
   rows ← given
