@@ -1,8 +1,9 @@
 -- What the binding of operators rests on.
 use Prim.Native.Nat.{suc}
-use Rattle.std.proofs.Common.{◌≡◌, refl, ap, ℕ, ◌+◌, ◌||◌, not, cond, nat_lt, List, [], ◌∷◌, length, map, bytes_eq, Option, None, Some, Err}
-use Rattle.std.specs.List.{list_any, position, position_or_len}
-use Rattle.std.specs.Option.{option_and_then}
+use Rattle.std.proofs.Common.{◌≡◌, ◌∙◌, refl, ap, ℕ, ◌+◌, ◌||◌, Bool, true, false, not, cond, nat_lt, List, [], ◌∷◌, length, map, bytes_eq, Option, None, Some, arith}
+use Rattle.std.proofs.lemmas.Bool.Decides.{nat_tests}
+use Rattle.std.specs.List.{position, position_or_len}
+use Rattle.std.specs.Option.{option_and_then, is_some}
 use Rattle.rows_core.specs.declared.kind.Kind as kind
 use Rattle.rows_core.specs.declared.kind.Kind.TheVariants.{Int, Text}
 use Rattle.plan_core.specs.declared.expr.Expr.{Expr}
@@ -10,10 +11,7 @@ use Rattle.plan_core.specs.PlainExpr as bound
 use Rattle.plan_core.specs.PlanTyping.{Kinds, all_there, number_kind, column_kind_of}
 use Rattle.plan_grammar.specs.declared.plan.NamedColumn.{NamedColumn}
 use Rattle.plan_grammar.specs.PlainNamed.{expr_of, column_of}
-use Rattle.plan_binder.specs.declared.refusal.BindRefusal.{BindRefusal}
-use Rattle.plan_binder.specs.declared.refusal.BindRefusal.TheVariants as refusal
 use Rattle.plan_binder.specs.Binding.{Names, Bound, place_of, is_there, bound_expr, kind_or_int, projected, bound_select}
-use Rattle.plan_binder.specs.Resolves.{Resolves}
 
 pub number_or_int : (k : Option kind.Kind) → kind_or_int (number_kind k) ≡ Int
 number_or_int None = refl
@@ -52,13 +50,18 @@ as_many f (x ∷ xs) = ap suc (as_many f xs)
 pub place_of_lent : {A : Type 0} (f : A → List ℕ) (xs : List A) (name : List ℕ) → position (λ x. bytes_eq (f x) name) xs ≡ place_of (map f xs) name
 place_of_lent f xs name = λ i. cond (nat_lt (place_in f xs name i) (as_many f xs i)) (Some (place_in f xs name i)) None
 
-pub is_there_lent : {A : Type 0} (f : A → List ℕ) (xs : List A) (name : List ℕ) → list_any (λ x. bytes_eq (f x) name) xs ≡ is_there (map f xs) name
-is_there_lent f [] name = refl
-is_there_lent f (x ∷ xs) name = ap (λ b. bytes_eq (f x) name || b) (is_there_lent f xs name)
+-- a name is there where it has a place
+place_below : (names : Names) (name : List ℕ) → nat_lt (position_or_len (λ other. bytes_eq other name) names) (length names) ≡ is_there names name
+place_below [] name = refl
+place_below (first ∷ names) name = by (bytes_eq first name) (position_or_len (λ other. bytes_eq other name) names) (length names) (is_there names name) (place_below names name)
+  where
+    by : (b : Bool) (at count : ℕ) (there : Bool) → nat_lt at count ≡ there → nat_lt (cond (not b) (1 + at) 0) (suc count) ≡ (b || there)
+    by true at count there e = grind (arith, nat_tests)
+    by false at count there e = grind (arith, nat_tests)
 
--- where one thing isn't there, another isn't
-pub Resolves-fail : {A B C D : Type 0} (e : BindRefusal) (view : A → B) (other_view : C → D) (one : Option B) (other : Option D)
-    → (one ≡ None → other ≡ None) → Resolves view (Err e) one → Resolves other_view (Err e) other
-Resolves-fail refusal.IllTyped view other_view one other fails r = fails r
-Resolves-fail (refusal.Unknown stream) view other_view one other fails r = r
-Resolves-fail refusal.Memory view other_view one other fails r = tt
+some_where : {A : Type 0} (b : Bool) (x : A) → is_some (cond b (Some x) None) ≡ b
+some_where true x = refl
+some_where false x = refl
+
+pub has_place : (names : Names) (name : List ℕ) → is_some (place_of names name) ≡ is_there names name
+has_place names name = some_where _ _ ∙ place_below names name

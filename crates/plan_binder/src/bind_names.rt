@@ -34,7 +34,7 @@ fn position_of(names: &[Name], name: &[u8]) -> Option<usize>
 fn is_there(names: &[Name], name: &[u8]) -> bool
     ensures { result ≡ is_there names.now name.now }
 {
-    names.iter().any(|other| other.bytes() == name)
+    position_of(names, name).is_some()
 }
 
 /// Whether two of them are one name.

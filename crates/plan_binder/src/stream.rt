@@ -1,6 +1,6 @@
 //! Streams as a plan names them.
 ghost use Rattle.std.specs.Prelude.{◌≡◌, ℕ, List, map, bytes_eq};
-ghost use Rattle.std.specs.List.{list_any, position};
+ghost use Rattle.std.specs.List.{position};
 ghost use Rattle.rows_core.specs.declared.schema.Column.{Column};
 ghost use Rattle.plan_binder.specs.Binding.{place_of, is_there};
 
@@ -37,11 +37,5 @@ fn place_in<S: Stream>(streams: &[S], name: &[u8]) -> Option<usize>
 pub fn stream_is_there<S: Stream>(streams: &[S], name: &[u8]) -> bool
     ensures { result ≡ is_there (map S.name_of streams.now) name.now }
 {
-    is_in(streams, name)
-}
-
-fn is_in<S: Stream>(streams: &[S], name: &[u8]) -> bool
-    ensures { result ≡ list_any (λ stream. bytes_eq (S.name_of stream) name.now) streams.now }
-{
-    streams.iter().any(|stream| stream.name().bytes() == name)
+    stream_place(streams, name).is_some()
 }
