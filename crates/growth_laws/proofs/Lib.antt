@@ -1,4 +1,5 @@
 pub mod AddedRows
+pub mod ChainRows
 pub mod ComputedNodes
 pub mod FormsMade
 pub mod GivenRows

@@ -1,20 +1,25 @@
 -- Which results a tree may name.
-use Rattle.std.proofs.Common.{◌≡◌, sym, ap, subst, ◌+◌, List, Result, Ok, Err}
+use Rattle.std.proofs.Common.{◌≡◌, refl, sym, ap, ◌∙◌, subst, ℕ, ◌+◌, List, ◌++◌, Result, Ok, Err, arith}
+use Rattle.std.proofs.lemmas.List.{append_cancel_left}
 use Rattle.std.specs.Prelude.{IfOk}
 use Rattle.rows_core.specs.declared.overflow.Overflow.{Overflow}
+use Rattle.row_blob.specs.declared.kept.Kept.{Kept}
 use Rattle.plan_core.specs.Columns.{Rows}
-use Rattle.plan_core.specs.MachineTime.{machine_time}
+use Rattle.plan_core.specs.ExpressionValue.{◌>>=◌}
+use Rattle.plan_core.specs.MachineTime.{rows_taken_in, machine_time}
 use Rattle.plan_core.specs.PlainPlan.{PlainPlan, Scan, Filter, Project, Distinct, Group, Join, Concat, Order}
 use Rattle.plan_core.specs.PlanMeaning.{plan_meaning}
+use Rattle.plan_laws.specs.KeptForm.{kept_form}
 use Rattle.estimator.specs.Cuts.{Cuts}
 use Rattle.rewrite_core.specs.declared.rewriting.Hit.{Hit}
 use Rattle.rewrite_core.specs.Entries.{Entries, AreSound, entry_of}
 use Rattle.rewrite_core.specs.IsRewriting.{Naming, IsRewriting, IsWay, IsDelta, IsDeltaWay, among, OfOne, OfTwo, OfSides, OfTail, OfDeltaTail, OfDistinctChild, lefts, rights}
 use Rattle.rewrite_core.specs.PlainRewriting.{PlainRewriting, Node, PlainWay, One, Two, Read, Tail, LeftGrew, RightGrew, BothGrew, PlainDelta, Change, PlainDeltaWay, Unchanged, NewRows, OfChild, OfDistinct, OfJoin}
 use Rattle.rewrite_core.specs.PlainRewriting as tree
-use Rattle.growth_laws.specs.Growth.{Made, IsMade, machine_of, rows_of_made}
+use Rattle.growth_laws.specs.Growth.{Added, Made, Extends, IsMade, whole_made, machine_of, rows_of_made}
 use Rattle.growth_laws.specs.KeptResults.{KeptResults, IsResultOf, AreKept, kept_among}
 use Rattle.growth_laws.specs.Lists.{Extents}
+use Rattle.growth_laws.proofs.AddedRows.{ok_is, not_both}
 use Rattle.growth_laws.proofs.ComputedNodes.{means, fails}
 use Rattle.growth_laws.proofs.MadeTrees.{AreResults}
 
@@ -32,6 +37,39 @@ rows_so plan lists (Err e) is = sym (fails plan lists e is)
 pub machine_so : (plan : PlainPlan) (lists : List Rows) (given : Result Made Overflow) → IsMade plan lists given → IfOk given (λ made. machine_of made ≡ machine_time plan lists)
 machine_so plan lists (Ok made) is = ap (λ taken. 1 + taken) (sym is.1)
 machine_so plan lists (Err e) is = tt
+
+-- ---- one result
+
+abbrev with_rows : PlainPlan → List Rows → Result Kept Overflow → Result Made Overflow
+with_rows plan lists given = given >>= λ form. Ok (record { kept = form; taken_in = rows_taken_in plan lists })
+
+pub is_whole : (plan : PlainPlan) (lists : List Rows) (given : Result Made Overflow) → IsMade plan lists given → given ≡ whole_made plan lists
+is_whole plan lists (Ok made) is = sym (ap (with_rows plan lists) is.0 ∙ ap (λ taken. Ok (record { kept = made.kept; taken_in = taken })) is.1)
+is_whole plan lists (Err e) is = sym (ap (with_rows plan lists) is)
+
+whole_is : (plan : PlainPlan) (lists : List Rows) (form : Result Kept Overflow) → kept_form plan lists ≡ form → IsMade plan lists (with_rows plan lists form)
+whole_is plan lists (Ok form) is = (is, refl)
+whole_is plan lists (Err e) is = is
+
+pub made_whole : (plan : PlainPlan) (lists : List Rows) (given : Result Made Overflow) → given ≡ whole_made plan lists → IsMade plan lists given
+made_whole plan lists given is = subst (IsMade plan lists) (sym is) (whole_is plan lists (kept_form plan lists) refl)
+
+-- ---- one addition
+
+ok_parts : (a b : Added) → a.rows ≡ b.rows → a.taken_in ≡ b.taken_in → ◌≡◌ {A = Result Added Overflow} (Ok a) (Ok b)
+ok_parts a b rows taken = λ i. Ok (record { rows = rows i; taken_in = taken i })
+
+pub one_added : (plan : PlainPlan) (before after : List Rows) (rows : Rows) (a b : Result Added Overflow) → plan_meaning plan before ≡ Ok rows
+    → Extends plan before after a → Extends plan before after b → a ≡ b
+one_added plan before after rows (Ok a) (Ok b) gave first second =
+    let one = first rows gave in
+    let other = second rows gave in
+    let taken = one.takes_in in
+    let same = other.takes_in in
+    ok_parts a b (append_cancel_left rows a.rows b.rows (ok_is (plan_meaning plan after) (rows ++ a.rows) (rows ++ b.rows) one.gives other.gives)) (omega (arith, taken, same))
+one_added plan before after rows (Ok a) (Err e) gave first second = not_both (plan_meaning plan after) (rows ++ a.rows) e (first rows gave).gives (second rows gave)
+one_added plan before after rows (Err e) (Ok b) gave first second = not_both (plan_meaning plan after) (rows ++ b.rows) e (second rows gave).gives (first rows gave)
+one_added plan before after rows (Err e) (Err f) gave first second = refl
 
 -- ---- other names
 

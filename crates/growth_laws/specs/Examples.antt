@@ -13,18 +13,15 @@ use Rattle.scalar_ops.specs.declared.cell.Cell.TheVariants as cell
 use Rattle.scalar_ops.specs.Meaning.{overflow}
 use Rattle.plan_core.specs.declared.agg.Agg.TheVariants.{Count, Sum}
 use Rattle.plan_core.specs.Columns.{Rows}
-use Rattle.plan_core.specs.MachineTime.{rows_taken_in}
 use Rattle.plan_core.specs.PlainExpr.{Column, Literal, Call2}
 use Rattle.plan_core.specs.PlainPlan.{PlainPlan}
 use Rattle.plan_core.specs.PlainPlan as plan
-use Rattle.plan_laws.specs.KeptForm.{kept_form}
 use Rattle.estimator.specs.Cuts.{Cuts}
 use Rattle.rewrite_core.specs.declared.rewriting.Hit.{Hit}
 use Rattle.rewrite_core.specs.PlainRewriting.{PlainRewriting, Node, Scan, One, Tail, LeftGrew, RightGrew, BothGrew, PlainDelta, Change, NewRows, OfChild, OfDistinct, OfJoin}
-use Rattle.growth_laws.specs.Growth.{Made}
+use Rattle.growth_laws.specs.Growth.{Made, whole_made}
 use Rattle.growth_laws.specs.KeptResults.{KeptResults}
 use Rattle.growth_laws.specs.Lists.{Extents, plan_lists}
-use Rattle.growth_laws.specs.Making.{with_taken_in}
 use Rattle.growth_laws.specs.Trees.{made_by}
 
 -- rows of one number each
@@ -51,7 +48,7 @@ scan = plan.Scan
 
 -- what the definitions give of the whole lists
 abbrev whole : PlainPlan → Cuts → Result Made Overflow
-whole p cuts = with_taken_in (rows_taken_in p (plan_lists extents p cuts)) (kept_form p (plan_lists extents p cuts))
+whole p cuts = whole_made p (plan_lists extents p cuts)
 
 -- one result is kept
 abbrev keeping : Kept → ℕ → KeptResults

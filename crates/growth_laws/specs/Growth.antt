@@ -41,6 +41,12 @@ abbrev pub IsMade : PlainPlan → List Rows → Result Made Overflow → Type 0
 IsMade plan lists (Ok made) = (kept_form plan lists ≡ Ok made.kept) × (rows_taken_in plan lists ≡ made.taken_in)
 IsMade plan lists (Err e) = kept_form plan lists ≡ Err e
 
+-- what the definitions give of the whole lists
+abbrev pub whole_made : PlainPlan → List Rows → Result Made Overflow
+whole_made plan lists = do
+  form ← kept_form plan lists
+  Ok (record { kept = form; taken_in = rows_taken_in plan lists })
+
 -- what holds of the only input, before and after, or of the right one of a concatenation whose left lists are unchanged
 abbrev pub OfGrownInput : (PlainPlan → List Rows → List Rows → Type 0) → PlainPlan → List Rows → List Rows → Type 0
 OfGrownInput P (Filter child test) before after = P child before after

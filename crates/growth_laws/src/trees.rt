@@ -1,5 +1,7 @@
 //! What rewritings make.
-ghost use Rattle.std.specs.Prelude.{◌≡◌, IfOk};
+ghost use Rattle.std.specs.Prelude.{◌≡◌, ◌↔◌, List, Result, Ok, IfOk};
+ghost use Rattle.rows_core.specs.declared.overflow.Overflow.{Overflow};
+ghost use Rattle.plan_core.specs.Columns.{Rows};
 ghost use Rattle.plan_core.specs.MachineTime.{machine_time};
 ghost use Rattle.plan_core.specs.PlainPlan.{PlainPlan};
 ghost use Rattle.plan_core.specs.PlanMeaning.{plan_meaning};
@@ -7,7 +9,7 @@ ghost use Rattle.estimator.specs.Cuts.{Cuts, AreIntervals};
 ghost use Rattle.rewrite_core.specs.Entries.{Entries, AreSound};
 ghost use Rattle.rewrite_core.specs.IsRewriting.{IsRewriting, IsDelta, among};
 ghost use Rattle.rewrite_core.specs.PlainRewriting.{PlainRewriting, PlainDelta};
-ghost use Rattle.growth_laws.specs.Growth.{Extends, IsMade, machine_of, rows_of_made};
+ghost use Rattle.growth_laws.specs.Growth.{Added, Made, Extends, IsMade, machine_of, rows_of_made, whole_made};
 ghost use Rattle.growth_laws.specs.KeptResults.{KeptResults, AreKept, kept_among};
 ghost use Rattle.growth_laws.specs.Lists.{Extents, plan_lists};
 ghost use Rattle.growth_laws.specs.Trees.{made_by, added_by};
@@ -31,6 +33,16 @@ pub fn results_of_rewritings()
 {
     total_order();
 }
+
+/// There is one result of a plan on its lists, which the definitions give, and one addition behind the rows
+/// that it gave: so two ways of making them give the same.
+pub fn one_result_of_lists()
+    ensures made { (plan : PlainPlan) (lists : List Rows) (given : Result Made Overflow)
+        → IsMade plan lists given ↔ (given ≡ whole_made plan lists) }
+    ensures added { (plan : PlainPlan) (before after : List Rows) (rows : Rows)
+        (first second : Result Added Overflow) → plan_meaning plan before ≡ Ok rows
+        → Extends plan before after first → Extends plan before after second → first ≡ second }
+{}
 
 /// What a delta adds is what comes behind the rows that its plan gave at the old cut.
 pub fn results_of_deltas()
