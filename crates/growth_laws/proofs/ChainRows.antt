@@ -1,5 +1,5 @@
 -- Chains on the rows of one list and then another one.
-use Rattle.std.proofs.Common.{◌≡◌, refl, sym, ap, ◌∙◌, ℕ, ◌+◌, List, [], ◌∷◌, ◌++◌, length, length-append, Result, Ok, Err, arith}
+use Rattle.std.proofs.Common.{◌≡◌, refl, sym, ap, ◌∙◌, ◌+◌, [], ◌∷◌, ◌++◌, length-append, Result, Ok, Err, arith}
 use Rattle.rows_core.specs.declared.overflow.Overflow.{Overflow}
 use Rattle.plan_core.specs.Columns.{Rows}
 use Rattle.plan_core.specs.ExpressionValue.{◌>>=◌}
@@ -47,7 +47,7 @@ module _ (child : PlainPlan) (a b : Rows) (joins : plan_meaning child ((a ++ b) 
       → rows_given child ((a ++ b) ∷ []) + rows_taken_in child ((a ++ b) ∷ []) ≡ rows_given child (a ∷ []) + rows_taken_in child (a ∷ []) + (rows_given child (b ∷ []) + rows_taken_in child (b ∷ []))
   over_child rows gave taken =
       let given : rows_given child ((a ++ b) ∷ []) ≡ rows_given child (a ∷ []) + rows_given child (b ∷ []) =
-          ap row_count joins ∙ counted (plan_meaning child (a ∷ [])) (plan_meaning child (b ∷ [])) rows (sym joins ∙ gave) in
+      ap row_count joins ∙ counted (plan_meaning child (a ∷ [])) (plan_meaning child (b ∷ [])) rows (sym joins ∙ gave) in
       omega (arith, given, taken)
 
 pub chain_takes_in : (plan : PlainPlan) → IsChain plan → (a b rows : Rows) → plan_meaning plan ((a ++ b) ∷ []) ≡ Ok rows

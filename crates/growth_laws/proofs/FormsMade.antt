@@ -1,5 +1,5 @@
 -- Of which form is what was made, and in which order its rows and groups stand.
-use Rattle.std.proofs.Common.{◌≡◌, ◌≢◌, refl, sym, ap, ◌∙◌, subst, ℕ, ◌+◌, List, length, map, Result, Ok, Err, arith}
+use Rattle.std.proofs.Common.{◌≡◌, ◌≢◌, refl, sym, ap, ◌∙◌, subst, ℕ, ◌+◌, List, length, map, Ok, arith}
 use Rattle.std.specs.Cmp.{IsTotalOrder}
 use Rattle.std.specs.List.{AllPairs}
 use Rattle.std.specs.List.Sorted.{IsSorted}
@@ -9,14 +9,13 @@ use Rattle.row_blob.specs.declared.kept.Kept.TheVariants as kept
 use Rattle.row_blob.specs.Kept.{keys_of as group_keys}
 use Rattle.plan_core.specs.declared.agg.Agg.{Agg}
 use Rattle.plan_core.specs.Columns.{Rows, columns_of}
-use Rattle.plan_core.specs.ExpressionValue.{◌>>=◌}
 use Rattle.plan_core.specs.Group.{keys_of}
 use Rattle.plan_core.specs.PlainPlan.{PlainPlan, Scan, Filter, Project, Distinct, Group, Join, Concat, Order}
 use Rattle.plan_core.specs.PlanMeaning.{plan_meaning}
 use Rattle.plan_core.specs.StableOrder.{order_rows}
 use Rattle.plan_laws.specs.GrowthOfGroups.{groups_of}
 use Rattle.plan_laws.specs.GrowthOfJoins.{AscendsByPosition, ArePositionsWithin}
-use Rattle.plan_laws.specs.KeptForm.{kept_form, kept_group, tagged_from}
+use Rattle.plan_laws.specs.KeptForm.{kept_form, tagged_from}
 use Rattle.plan_laws.proofs.FirstOfEqual.{differ}
 use Rattle.plan_laws.proofs.Insertion.{ordered}
 use Rattle.plan_laws.proofs.MergedGroups.{keys_kept}

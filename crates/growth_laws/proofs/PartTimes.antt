@@ -1,8 +1,7 @@
 -- The machine time of each rewriting that stands in a rewriting is within that of the whole plan and of the results that are
 -- read.
-use Rattle.std.proofs.Common.{◌≡◌, sym, ap, ◌∙◌, subst, ℕ, ◌+◌, ◌≤◌, List, [], ◌∷◌, ◌++◌, take, drop, arith}
+use Rattle.std.proofs.Common.{sym, ap, subst, ℕ, ◌+◌, ◌≤◌, List, ◌++◌, take, drop, arith}
 use Rattle.std.specs.List.{AllByRecursion}
-use Rattle.plan_core.specs.Columns.{Rows}
 use Rattle.plan_core.specs.MachineTime.{rows_given, rows_taken_in, machine_time}
 use Rattle.plan_core.specs.PlainPlan.{PlainPlan, Scan, Filter, Project, Distinct, Group, Join, Concat, Order, leaf_count}
 use Rattle.estimator.specs.Cuts.{Cuts}

@@ -23,7 +23,8 @@ pub fn results_of_parts()
 }
 
 /// Where neither the machine time of the plan nor that of a kept result is above a limit, none of a rewriting
-/// that stands in a rewriting is: so no count that is kept on the way passes what the limit allows.
+/// that stands in a rewriting is; and a machine time bounds the counts of what is kept, as the law of the
+/// shapes of kept forms says.
 pub fn machine_times_of_parts()
     ensures { (extents : Extents) (results : KeptResults) (plan : PlainPlan) (cuts : Cuts)
         (r : PlainRewriting) (limit : ℕ) → ((id : ℕ) → (results id).machine ≤ limit)
