@@ -6,6 +6,7 @@ pub mod GivenRows
 pub mod GrownJoins
 pub mod GrownResults
 pub mod LeafLists
+pub mod MadeOnes
 pub mod MadeTrees
 pub mod NamedResults
 pub mod PartTimes

@@ -93,7 +93,7 @@ module _ (extents : Extents) (results : KeptResults) (total : (keys : List Key) 
   joined : (xs ys : List PlainRewriting) → Owns xs → Owns ys → Owns (xs ++ ys)
   joined = both (IsOwn extents results)
 
-  own : (plan : PlainPlan) (cuts : Cuts) (way : PlainWay) → IsRewriting (kept_among extents results) plan cuts (Node plan cuts way) → IsOwn extents results (Node plan cuts way)
+  pub own : (plan : PlainPlan) (cuts : Cuts) (way : PlainWay) → IsRewriting (kept_among extents results) plan cuts (Node plan cuts way) → IsOwn extents results (Node plan cuts way)
   own plan cuts way is = record { is = is; made = tree_made extents results (kept_among extents results) (as_named extents results) total (Node plan cuts way) plan cuts is }
 
   mutual

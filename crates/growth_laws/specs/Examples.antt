@@ -18,10 +18,12 @@ use Rattle.plan_core.specs.PlainPlan.{PlainPlan}
 use Rattle.plan_core.specs.PlainPlan as plan
 use Rattle.estimator.specs.Cuts.{Cuts}
 use Rattle.rewrite_core.specs.declared.rewriting.Hit.{Hit}
-use Rattle.rewrite_core.specs.PlainRewriting.{PlainRewriting, Node, Scan, One, Tail, LeftGrew, RightGrew, BothGrew, PlainDelta, Change, NewRows, OfChild, OfDistinct, OfJoin}
+use Rattle.rewrite_core.specs.PlainRewriting.{PlainRewriting, Node, Scan, One, Two, Read, Tail, LeftGrew, RightGrew, BothGrew, PlainDelta, Change, NewRows, OfChild, OfDistinct, OfJoin}
+use Rattle.rewrite_core.specs.Computed.{computed}
 use Rattle.growth_laws.specs.Growth.{Made, whole_made}
 use Rattle.growth_laws.specs.KeptResults.{KeptResults}
 use Rattle.growth_laws.specs.Lists.{Extents, plan_lists}
+use Rattle.growth_laws.specs.MadePlaces.{place, made_places}
 use Rattle.growth_laws.specs.Trees.{made_by}
 
 -- rows of one number each
@@ -207,6 +209,51 @@ grown_over_filter = refl
 
 pub whole_over_filter : whole ordered_above new ≡ rows (column (3 ∷ 2 ∷ 2 ∷ [])) 8
 whole_over_filter = refl
+
+-- ---- the places that are made
+
+-- below the root a distinct counts, and a scan doesn't
+pub made_computed : made_places counted_once new (computed counted_once new) ≡ place once new ∷ place counted_once new ∷ []
+made_computed = refl
+
+-- at the root a filter counts
+pub made_filter : made_places above_one new (computed above_one new) ≡ place above_one new ∷ []
+made_filter = refl
+
+pub made_by_reading : made_places once new (Node once new (Read (hit new))) ≡ []
+made_by_reading = refl
+
+-- the distinct is computed at the earlier cut alone
+pub made_grown :
+    made_places counted_once new
+    (Node counted_once new (Tail (hit old) (Change once old new (OfDistinct (Node once old (One (scanned 0 1))) (scan_delta 0)))))
+    ≡ place counted_once new ∷ []
+made_grown = refl
+
+abbrev right_once : PlainPlan
+right_once = plan.Distinct (scan 1)
+
+abbrev with_right : PlainPlan
+with_right = plan.Join (scan 0) right_once ((0, 0) ∷ [])
+
+abbrev counted_join : PlainPlan
+counted_join = plan.Group (plan.Distinct with_right) (0 ∷ []) (Count ∷ [])
+
+abbrev left_cuts : Cuts
+left_cuts = up_to 2 ∷ up_to 1 ∷ []
+
+-- the distinct of the unchanged right stream is computed within a part at the earlier cut: for its place it is the own cut
+abbrev within_earlier : PlainRewriting
+within_earlier =
+    Node (plan.Distinct with_right) first_of_both
+    (One (Node with_right first_of_both (Two (scanned 0 1) (Node right_once (up_to 1 ∷ []) (One (scanned 1 1))))))
+
+pub made_within_earlier :
+    made_places counted_join left_cuts
+    (Node counted_join left_cuts (Tail (hit first_of_both) (Change (plan.Distinct with_right) first_of_both left_cuts
+    (OfDistinct within_earlier (Change with_right first_of_both left_cuts (OfJoin (scan_delta 0) (Node right_once (up_to 1 ∷ []) (Read (hit (up_to 1 ∷ []))))))))))
+    ≡ place right_once (up_to 1 ∷ []) ∷ place counted_join left_cuts ∷ []
+made_within_earlier = refl
 
 -- ---- overflow
 

@@ -4,6 +4,7 @@ pub mod Given
 pub mod Growth
 pub mod KeptResults
 pub mod Lists
+pub mod MadePlaces
 pub mod Making
 pub mod Parts
 pub mod Trees
