@@ -10,8 +10,8 @@ ghost use Rattle.growth_laws.specs.MadePlaces.{made_places, IsMadeBy};
 
 use rows_core::total_order;
 
-/// At each place that a rewriting makes, a rewriting of this plan at the place's part of the cut stands in it,
-/// and makes what is kept of its result.
+/// At each place that a rewriting makes, a rewriting of this plan at the place's part of the cut stands in
+/// it, and makes what is kept of its result.
 pub fn results_of_made_places()
     ensures { (extents : Extents) (results : KeptResults) (plan : PlainPlan) (cuts : Cuts)
         (r : PlainRewriting) → IsRewriting (kept_among extents results) plan cuts r
