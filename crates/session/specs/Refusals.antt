@@ -1,5 +1,5 @@
 -- For which cause each refusal of a command comes.
-use Rattle.std.specs.Prelude.{◌≡◌, List, Result, Ok, Err, ⊥, ⊤}
+use Rattle.std.specs.Prelude.{◌≡◌, List, Result, Ok, Err, ⊤}
 use Rattle.script_text.specs.declared.answer.Answer.TheVariants as answer
 use Rattle.script_text.specs.declared.answer.LimitKind.TheVariants as limit
 use Rattle.script_text.specs.declared.answer.Refusal.{Refusal}

@@ -10,7 +10,7 @@ pub returns-in-Err-clause-ok : goal.returns-in-Err-clause-ok
 returns-in-Err-clause-ok g c = λ told care s new stands next. inr (refl, records_none care _ c.args.self c.prepare.new.self s stands c.prepare.ensures.table c.prepare.ensures.journal)
 
 pub returns-in-Ok-clause-crash : goal.returns-in-Ok-clause-crash
-returns-in-Ok-clause-crash g c = λ told stands. c.record.ensures.crash told (table_prepared _ _ _ c.prepare.ensures.table c.prepare.ensures.journal stands)
+returns-in-Ok-clause-crash g c = λ told stands. c.record.ensures.crash told (table_prepared _ c.args.self c.prepare.new.self c.prepare.ensures.table c.prepare.ensures.journal stands)
 
 pub returns-in-Err-clause-crash : goal.returns-in-Err-clause-crash
 returns-in-Err-clause-crash g c = λ told stands. table_prepared _ c.args.self c.prepare.new.self c.prepare.ensures.table c.prepare.ensures.journal stands

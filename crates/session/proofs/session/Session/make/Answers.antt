@@ -47,7 +47,7 @@ pub returns-in-Err-clause-of_no_file : goal.returns-in-Err-clause-of_no_file
 returns-in-Err-clause-of_no_file g c = making_refuses (table_of c.catalog.result.now) c.args.name c.args.columns c.in-Err.refusal c.in-Err.ensures.err
 
 pub returns-in-Ok-prepare-clause-crash : goal.returns-in-Ok-prepare-clause-crash
-returns-in-Ok-prepare-clause-crash g c = λ told stands. c.record.ensures.crash told (table_prepared _ _ _ c.prepare.ensures.table c.prepare.ensures.journal stands)
+returns-in-Ok-prepare-clause-crash g c = λ told stands. c.record.ensures.crash told (table_prepared _ c.args.self c.prepare.new.self c.prepare.ensures.table c.prepare.ensures.journal stands)
 
 pub returns-in-Err-prepare-clause-crash : goal.returns-in-Err-prepare-clause-crash
 returns-in-Err-prepare-clause-crash g c = λ told stands. table_prepared _ c.args.self c.prepare.new.self c.prepare.ensures.table c.prepare.ensures.journal stands
