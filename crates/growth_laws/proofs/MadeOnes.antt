@@ -14,7 +14,8 @@ use Rattle.growth_laws.specs.KeptResults.{KeptResults, kept_among}
 use Rattle.growth_laws.specs.Lists.{Extents}
 use Rattle.growth_laws.specs.MadePlaces.{Place, places, Standing, nowhere, both_standing, before_tail, standing_of, standing_in, standing_of_delta, standing_in_delta, same_cuts, is_made_at, counts_below, counts_at_root, if_made, made_from, IsMadeBy}
 use Rattle.growth_laws.specs.Parts.{plan_at, cuts_at, IsOwn}
-use Rattle.growth_laws.proofs.TreeOwners.{both, own}
+use Rattle.plan_laws.proofs.ValidPlans.{all-append}
+use Rattle.growth_laws.proofs.TreeOwners.{own}
 
 module _ (extents : Extents) (results : KeptResults) where
   -- a tree that may stand at a place of this plan
@@ -42,7 +43,7 @@ module _ (extents : Extents) (results : KeptResults) where
   together [] [] (y ∷ ys) first second = absurd second
   together (p ∷ ps) [] ys first second = absurd first
   together (p ∷ ps) (x ∷ xs) [] first second = absurd second
-  together (p ∷ ps) (x ∷ xs) (y ∷ ys) first second = (both (Fits p.plan) x y first.0 second.0, together ps xs ys first.1 second.1)
+  together (p ∷ ps) (x ∷ xs) (y ∷ ys) first second = (all-append (Fits p.plan) x y first.0 second.0, together ps xs ys first.1 second.1)
 
   no_trees : (plan : PlainPlan) (cuts : Cuts) → Aligned (places plan cuts) (nowhere plan)
   no_trees (Scan stream) cuts = (tt, tt)

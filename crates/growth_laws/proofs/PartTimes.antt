@@ -12,7 +12,8 @@ use Rattle.rewrite_core.specs.PlainRewriting as tree
 use Rattle.growth_laws.specs.KeptResults.{KeptResults, IsResultOf, kept_among}
 use Rattle.growth_laws.specs.Lists.{Extents, plan_lists}
 use Rattle.growth_laws.specs.Parts.{plan_at, cuts_at, parts_of, parts_in, parts_of_delta, parts_in_delta}
-use Rattle.growth_laws.proofs.TreeOwners.{both, from_one, from_distinct, from_two, from_sides, from_tail, from_delta_tail}
+use Rattle.plan_laws.proofs.ValidPlans.{all-append}
+use Rattle.growth_laws.proofs.TreeOwners.{from_one, from_distinct, from_two, from_sides, from_tail, from_delta_tail}
 use Rattle.growth_laws.proofs.TreeParts.{left_part, right_part}
 
 module _ (extents : Extents) (limit : ℕ) where
@@ -111,7 +112,7 @@ module _ (extents : Extents) (limit : ℕ) where
   Are = AllByRecursion IsWithin
 
   joined : (xs ys : List PlainRewriting) → Are xs → Are ys → Are (xs ++ ys)
-  joined = both IsWithin
+  joined = all-append IsWithin
 
   module _ (results : KeptResults) (kept : (id : ℕ) → (results id).machine ≤ limit) where
     hit_within : (plan : PlainPlan) (hit : Hit) → IsResultOf extents plan hit.cuts (results hit.id) → Within plan hit.cuts

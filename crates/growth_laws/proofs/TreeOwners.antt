@@ -1,5 +1,5 @@
 -- Each rewriting that stands in a rewriting is one of its own plan at its own cut.
-use Rattle.std.proofs.Common.{sym, subst, List, [], ◌∷◌, ◌++◌}
+use Rattle.std.proofs.Common.{sym, subst, List, ◌++◌}
 use Rattle.std.specs.Cmp.{IsTotalOrder}
 use Rattle.std.specs.List.{AllByRecursion}
 use Rattle.rows_core.specs.declared.order.Key.{Key}
@@ -9,15 +9,12 @@ use Rattle.estimator.specs.Cuts.{Cuts}
 use Rattle.rewrite_core.specs.IsRewriting.{IsRewriting, IsWay, IsDelta, IsDeltaWay, OfOne, OfTwo, OfSides, OfTail, OfDeltaTail, OfDistinctChild, lefts, rights}
 use Rattle.rewrite_core.specs.PlainRewriting.{PlainRewriting, Node, PlainWay, One, Two, Read, Tail, LeftGrew, RightGrew, BothGrew, PlainDelta, Change, PlainDeltaWay, Unchanged, NewRows, OfChild, OfDistinct, OfJoin}
 use Rattle.rewrite_core.specs.PlainRewriting as tree
+use Rattle.plan_laws.proofs.ValidPlans.{all-append}
 use Rattle.growth_laws.specs.KeptResults.{KeptResults, kept_among}
 use Rattle.growth_laws.specs.Lists.{Extents}
 use Rattle.growth_laws.specs.Parts.{parts_of, parts_in, parts_of_delta, parts_in_delta, IsOwn}
 use Rattle.growth_laws.proofs.MadeTrees.{tree_made}
 use Rattle.growth_laws.proofs.NamedResults.{as_named}
-
-pub both : {X : Type 0} (P : X → Type 0) (xs ys : List X) → AllByRecursion P xs → AllByRecursion P ys → AllByRecursion P (xs ++ ys)
-both P [] ys first second = second
-both P (x ∷ xs) ys first second = (first.0, both P xs ys first.1 second)
 
 -- ---- what holds of some input
 
@@ -91,7 +88,7 @@ module _ (extents : Extents) (results : KeptResults) (total : (keys : List Key) 
   Owns = AllByRecursion (IsOwn extents results)
 
   joined : (xs ys : List PlainRewriting) → Owns xs → Owns ys → Owns (xs ++ ys)
-  joined = both (IsOwn extents results)
+  joined = all-append (IsOwn extents results)
 
   pub own : (plan : PlainPlan) (cuts : Cuts) (way : PlainWay) → IsRewriting (kept_among extents results) plan cuts (Node plan cuts way) → IsOwn extents results (Node plan cuts way)
   own plan cuts way is = record { is = is; made = tree_made extents results (kept_among extents results) (as_named extents results) total (Node plan cuts way) plan cuts is }
