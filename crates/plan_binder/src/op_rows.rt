@@ -55,11 +55,5 @@ fn first_row(op: Op) -> u32
 fn first_in(table: &OpTable<24>, op: Op) -> Option<usize>
     ensures { result ≡ position (λ row. same_op row.op op) table.now.rows }
 {
-    table.rows.iter().position(|row| same_op(row.op, op))
-}
-
-fn same_op(a: Op, b: Op) -> bool
-    ensures { result ≡ same_op a b }
-{
-    a == b
+    table.rows.iter().position(|row| row.op.is_same(op))
 }

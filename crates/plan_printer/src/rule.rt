@@ -1,7 +1,6 @@
 //! How operations are written, and the rules that spell them.
 ghost use Rattle.std.specs.Prelude.{◌≡◌};
 ghost use Rattle.std.specs.List.{find};
-ghost use Rattle.scalar_ops.specs.Table.{same_op};
 ghost use Rattle.plan_grammar.specs.declared.operator.Operator.TheVariants as operator;
 ghost use Rattle.plan_grammar.specs.Operators.{mark_infix};
 ghost use Rattle.plan_grammar.specs.PlainNamed.{expr_of};
@@ -137,13 +136,7 @@ fn calls(op: Op, operator: Operator) -> bool
     ensures { result ≡ calls op operator }
 {
     match operator {
-        Operator::Call(other) => same_op(other, op),
+        Operator::Call(other) => other.is_same(op),
         Operator::And | Operator::Or => false,
     }
-}
-
-fn same_op(a: Op, b: Op) -> bool
-    ensures { result ≡ same_op a b }
-{
-    a == b
 }

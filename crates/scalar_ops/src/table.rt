@@ -131,7 +131,8 @@ impl OpRow {
 }
 
 impl Op {
-    fn is_same(self, other: Op) -> bool
+    /// Whether this is that operation. It takes no memory.
+    pub fn is_same(self, other: Op) -> bool
         ensures { result ≡ same_op self other }
     {
         self == other
