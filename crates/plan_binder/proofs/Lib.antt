@@ -1,3 +1,5 @@
+pub mod ResolvesLaws
+pub mod CollectLaws
 pub mod BindingLaws
 pub mod BoundParts
 pub mod BoundKinds

@@ -1,7 +1,7 @@
 -- The row of a call has the call's operation, and is the one for its arguments' kinds.
-use Rattle.std.proofs.Common.{◌≡◌, refl, sym, ap, ◌∙◌, ℕ, ◌<◌, Bool, true, false, cond, List, [], ◌∷◌, map, slice_get, get_or, Option, None, Some, unwrap_or, IsSome}
+use Rattle.std.proofs.Common.{◌≡◌, refl, sym, ap, ◌∙◌, ℕ, ◌<◌, ◌^◌, Bool, true, false, cond, List, [], ◌∷◌, map, slice_get, get_or, Option, None, Some, unwrap_or, IsSome, arith}
 use Rattle.std.proofs.lemmas.Bool.{false≢true}
-use Rattle.std.specs.Option.{option_map, option_and_then, IsSomeAnd}
+use Rattle.std.specs.Option.{option_map, option_and_then, IfSome, IsSomeAnd}
 use Rattle.std.proofs.lemmas.Option.{slice_get-get_or}
 use Rattle.std.proofs.lemmas.List.Quantifiers.{position-Some}
 use Rattle.std.specs.List.{position}
@@ -27,11 +27,13 @@ some_row = record { op = op.Not; args = One kind.Bool; result = kind.Bool; overf
 is_row : (o : Op) (kinds : List CellKind) (row : OpRow) → is_row_for o kinds row ≡ true → IsRowFor o kinds row
 is_row o kinds row e = (is_row_for-Decides o kinds row).0 e
 
-pub row_below : (o : Op) (kinds : List CellKind) (i : ℕ) → position (is_row_for o kinds) OPS.rows ≡ Some i → i < 24
-row_below o kinds i e = (position-Some (is_row_for o kinds) OPS.rows i some_row e).0
+-- a place that is found is a number of 32 bits
+below_all : (o : Option ℕ) → ((i : ℕ) → o ≡ Some i → i < 24) → IfSome o (λ i. i < 2 ^ 32)
+below_all None all = tt
+below_all (Some i) all = let below : i < 24 = all i refl in omega arith
 
-pub first_below : (o : Op) (i : ℕ) → position (λ row. same_op row.op o) OPS.rows ≡ Some i → i < 24
-first_below o i e = (position-Some (λ row. same_op row.op o) OPS.rows i some_row e).0
+pub place_below : (p : OpRow → Bool) (o : Option ℕ) → o ≡ position p OPS.rows → IfSome o (λ i. i < 2 ^ 32)
+place_below p o e = below_all o (λ i is. (position-Some p OPS.rows i some_row (sym e ∙ is)).0)
 
 -- ---- the row of a call
 

@@ -1,10 +1,12 @@
 //! Places of names among names.
-ghost use Rattle.std.specs.Prelude.{◌≡◌, map};
+ghost use Rattle.std.specs.Prelude.{◌≡◌, map, Some};
+ghost use Rattle.plan_core.specs.ExpressionKind.{of_both};
 ghost use Rattle.plan_core.specs.PlanTyping.{all_there};
 ghost use Rattle.plan_binder.specs.Binding.{place_of, is_there, has_repeat, bound_pair, bound_key, bound_agg};
-ghost use Rattle.plan_binder.specs.BoundPlan.{items_of};
+ghost use Rattle.plan_binder.specs.BoundPlan.{items_of, parts_of};
 ghost use Rattle.plan_binder.specs.Resolves.{Resolves};
 
+use crate::allocation::push;
 use crate::refusal::BindRefusal;
 use plan_core::Agg;
 use plan_grammar::{NamedAgg, NamedKey, NamedPair, NamedResult};
@@ -51,19 +53,38 @@ pub fn has_repeat(names: &[Name]) -> bool
     false
 }
 
-/// The places of these names.
-#[tactic(auto, using(plan_core::specs::AllThere::found))]
-pub fn bind_columns(
+/// What a group takes of its input: the places of its keys, and its aggregates.
+#[derive(Drop)]
+pub struct GroupParts {
+    pub places: Vec<u32>,
+    pub aggs: Vec<Agg>,
+}
+
+/// The keys and the results' aggregates with numbers.
+pub fn bind_parts(
     alloc: Global,
     names: &[Name],
-    columns: &[Name],
-) -> Result<Vec<u32>, BindRefusal>
+    keys: &[Name],
+    results: &[NamedResult],
+) -> Result<GroupParts, BindRefusal>
+    ensures { Resolves parts_of result
+        (of_both (λ places aggs. Some (places, aggs)) (all_there (map (place_of names.now) keys.now))
+        (all_there (map (λ result. bound_agg names.now result.agg) results.now))) }
+{
+    let places = bind_columns(alloc, names, keys)?;
+    let aggs = bind_aggs(alloc, names, results)?;
+    Ok(GroupParts { places, aggs })
+}
+
+/// The places of these names.
+#[tactic(auto, using(plan_core::specs::AllThere::found))]
+fn bind_columns(alloc: Global, names: &[Name], columns: &[Name]) -> Result<Vec<u32>, BindRefusal>
     ensures { Resolves items_of result (all_there (map (place_of names.now) columns.now)) }
 {
     let mut found = Vec::with_capacity(alloc, columns.len())?;
     for column in columns {
         let place = place_of(names, column.bytes())?;
-        found.push(place)?;
+        push(&mut found, place)?;
     }
     Ok(found)
 }
@@ -81,7 +102,7 @@ pub fn bind_pairs(
     let mut found = Vec::with_capacity(alloc, pairs.len())?;
     for pair in pairs {
         let places = bind_pair(lefts, rights, pair)?;
-        found.push(places)?;
+        push(&mut found, places)?;
     }
     Ok(found)
 }
@@ -102,7 +123,7 @@ pub fn bind_keys(alloc: Global, names: &[Name], keys: &[NamedKey]) -> Result<Vec
     let mut found = Vec::with_capacity(alloc, keys.len())?;
     for key in keys {
         let bound = bind_key(names, key)?;
-        found.push(bound)?;
+        push(&mut found, bound)?;
     }
     Ok(found)
 }
@@ -117,7 +138,7 @@ fn bind_key(names: &[Name], key: &NamedKey) -> Result<Key, BindRefusal>
 
 /// The aggregates of the results with numbers.
 #[tactic(auto, using(plan_core::specs::AllThere::found))]
-pub fn bind_aggs(
+fn bind_aggs(
     alloc: Global,
     names: &[Name],
     results: &[NamedResult],
@@ -128,7 +149,7 @@ pub fn bind_aggs(
     let mut found = Vec::with_capacity(alloc, results.len())?;
     for result in results {
         let agg = bind_agg(names, &result.agg)?;
-        found.push(agg)?;
+        push(&mut found, agg)?;
     }
     Ok(found)
 }

@@ -3,8 +3,9 @@ ghost use Rattle.std.specs.Prelude.{◌≡◌, map, not};
 ghost use Rattle.std.specs.List.{find};
 ghost use Rattle.std.specs.Option.{option_map};
 ghost use Rattle.plan_core.specs.PlainPlan.{plan_of};
+ghost use Rattle.plan_core.specs.ExpressionKind.{of_both};
 ghost use Rattle.plan_grammar.specs.PlainNamed.{tree_of};
-ghost use Rattle.plan_binder.specs.Binding.{Binds, binding, bound_tree, is_there};
+ghost use Rattle.plan_binder.specs.Binding.{Binds, binding, bound_tree, bound_join, bound_concat, is_there};
 ghost use Rattle.plan_binder.specs.BoundPlan.{bound_of};
 ghost use Rattle.plan_binder.specs.Resolves.{Resolves};
 
@@ -15,7 +16,7 @@ use crate::bound::{
 use crate::refusal::BindRefusal;
 use crate::stream::{Stream, stream_is_there};
 use plan_core::Plan;
-use plan_grammar::{NamedPlan, NamedTree};
+use plan_grammar::{NamedPair, NamedPlan, NamedTree};
 use rows_core::Name;
 use std::alloc::Global;
 
@@ -52,10 +53,11 @@ fn bind_tree<S: Stream>(alloc: Global, tree: &NamedTree, streams: &[S]) -> Resul
         (bound_tree (map S.name_of streams.now) (map S.columns_of streams.now) (tree_of tree.now))) }
 {
     let bound = bound_tree(alloc, streams, tree)?;
-    Ok(bound.plan)
+    Ok(Box::into_inner(bound.plan))
 }
 
-/// The plan with the names and kinds of its columns.
+/// The plan and its columns.
+#[cycle(tree)]
 fn bound_tree<S: Stream>(
     alloc: Global,
     streams: &[S],
@@ -76,7 +78,7 @@ fn bound_tree<S: Stream>(
         }
         NamedTree::Distinct { child } => {
             let input = bound_tree(alloc, streams, child)?;
-            Ok(bind_distinct(alloc, input)?)
+            bind_distinct(alloc, input)
         }
         NamedTree::Group {
             child,
@@ -86,19 +88,44 @@ fn bound_tree<S: Stream>(
             let input = bound_tree(alloc, streams, child)?;
             bind_group(alloc, input, keys.items(), results.items())
         }
-        NamedTree::Join { left, right, on } => {
-            let left = bound_tree(alloc, streams, left)?;
-            let right = bound_tree(alloc, streams, right)?;
-            bind_join(alloc, left, right, on.items())
-        }
-        NamedTree::Concat { left, right } => {
-            let left = bound_tree(alloc, streams, left)?;
-            let right = bound_tree(alloc, streams, right)?;
-            Ok(bind_concat(alloc, left, right)?)
-        }
+        NamedTree::Join { left, right, on } => bound_join(alloc, streams, left, right, on.items()),
+        NamedTree::Concat { left, right } => bound_concat(alloc, streams, left, right),
         NamedTree::Order { child, keys } => {
             let input = bound_tree(alloc, streams, child)?;
             bind_order(alloc, input, keys.items())
         }
     }
+}
+
+#[cycle(tree)]
+fn bound_join<S: Stream>(
+    alloc: Global,
+    streams: &[S],
+    left: &NamedTree,
+    right: &NamedTree,
+    on: &[NamedPair],
+) -> Result<Bound, BindRefusal>
+    ensures { Resolves bound_of result (of_both (bound_join on.now)
+        (bound_tree (map S.name_of streams.now) (map S.columns_of streams.now) (tree_of left.now))
+        (bound_tree (map S.name_of streams.now) (map S.columns_of streams.now) (tree_of right.now))) }
+{
+    let left = bound_tree(alloc, streams, left)?;
+    let right = bound_tree(alloc, streams, right)?;
+    bind_join(alloc, left, right, on)
+}
+
+#[cycle(tree)]
+fn bound_concat<S: Stream>(
+    alloc: Global,
+    streams: &[S],
+    left: &NamedTree,
+    right: &NamedTree,
+) -> Result<Bound, BindRefusal>
+    ensures { Resolves bound_of result (of_both bound_concat
+        (bound_tree (map S.name_of streams.now) (map S.columns_of streams.now) (tree_of left.now))
+        (bound_tree (map S.name_of streams.now) (map S.columns_of streams.now) (tree_of right.now))) }
+{
+    let left = bound_tree(alloc, streams, left)?;
+    let right = bound_tree(alloc, streams, right)?;
+    bind_concat(alloc, left, right)
 }

@@ -1,50 +1,43 @@
 //! Operators with numbers in place of names. Of each the names are resolved first, and then it is put onto
 //! its inputs.
-ghost use Rattle.std.specs.Prelude.{◌≡◌, Some, map, IfOk};
-ghost use Rattle.std.specs.Option.{option_and_then};
+ghost use Rattle.std.specs.Prelude.{◌≡◌, ◌++◌, Some, map, IfOk};
 ghost use Rattle.rows_core.specs.Schema.{kinds_of};
-ghost use Rattle.plan_core.specs.PlanTyping.{all_there};
 ghost use Rattle.plan_core.specs.PlainExpr as bound;
-ghost use Rattle.plan_core.specs.PlainPlan.{plan_of, Scan, Filter, Order};
+ghost use Rattle.plan_core.specs.PlainPlan.{plan_of, Scan, Filter, Project, Group, Order};
 ghost use Rattle.plan_grammar.specs.PlainNamed.{expr_of, column_of};
-ghost use Rattle.plan_binder.specs.Binding.{bound_expr, with_columns, projected, grouped, joined, bound_from};
+ghost use Rattle.plan_binder.specs.Binding.{with_columns, projected, grouped, joined, bound_from};
 ghost use Rattle.plan_binder.specs.Binding.{bound_where, bound_select, bound_distinct, bound_group};
 ghost use Rattle.plan_binder.specs.Binding.{bound_join, bound_concat, bound_order};
-ghost use Rattle.plan_binder.specs.BoundPlan.{bound_of};
+ghost use Rattle.plan_binder.specs.BoundPlan.{bound_of, boxed_expr_of};
 ghost use Rattle.plan_binder.specs.Resolves.{Resolves};
 
+use crate::allocation::boxed;
 use crate::bind_expr::{bind_expr, bind_exprs};
-use crate::bind_names::{bind_aggs, bind_columns, bind_keys, bind_pairs, has_repeat};
+use crate::bind_names::{GroupParts, bind_keys, bind_pairs, bind_parts, has_repeat};
+use crate::columns::{Columns, joined_columns};
 use crate::refusal::BindRefusal;
-use crate::result_columns::{
-    column_names, expr_kinds, group_kinds, group_names, schema_kinds, schema_names,
-};
+use crate::result_columns::{group_columns, schema_kinds, schema_names, select_columns};
 use crate::stream::{Stream, stream_place};
-use plan_core::{Agg, Expr, Plan};
+use plan_core::{Expr, Plan};
 use plan_grammar::{NamedColumn, NamedExpr, NamedKey, NamedPair, NamedResult};
-use rows_core::{Key, Kind, Memory, Name, Schema, Seq};
+use rows_core::{Key, Memory, Name, Schema, Seq};
 use std::alloc::Global;
 
-/// A plan with numbers, and the names and kinds of its columns. Contracts see it as `bound_of` says it.
+/// A plan with numbers, and its columns. Contracts see it as `bound_of` says it.
 #[derive(Drop)]
 pub struct Bound {
-    pub plan: Plan,
-    pub names: Seq<Name>,
-    pub kinds: Seq<Kind>,
+    pub plan: Box<Plan>,
+    pub columns: Columns,
 }
 
 /// The plan with these columns, where their names differ.
-fn with_columns(plan: Plan, names: Vec<Name>, kinds: Vec<Kind>) -> Result<Bound, BindRefusal>
-    ensures { Resolves bound_of result (with_columns (plan_of plan) names.items kinds.items) }
+fn with_columns(plan: Box<Plan>, columns: Columns) -> Result<Bound, BindRefusal>
+    ensures { Resolves bound_of result (with_columns (plan_of plan.value) columns.names columns.kinds) }
 {
-    if has_repeat(names.as_slice()) {
+    if has_repeat(columns.names.items()) {
         return Err(BindRefusal::IllTyped);
     }
-    Ok(Bound {
-        plan,
-        names: Seq::new(names),
-        kinds: Seq::new(kinds),
-    })
+    Ok(Bound { plan, columns })
 }
 
 /// The rows of a stream.
@@ -77,34 +70,30 @@ fn scan(alloc: Global, number: u32, schema: &Schema) -> Result<Bound, Memory>
           kinds = kinds_of schema.now;
         }) }
 {
+    let plan = boxed(alloc, Plan::Scan { stream: number })?;
     let names = schema_names(alloc, schema.columns())?;
     let kinds = schema_kinds(alloc, schema.columns())?;
-    Ok(Bound {
-        plan: Plan::Scan { stream: number },
-        names: Seq::new(names),
-        kinds: Seq::new(kinds),
-    })
+    let columns = Columns::new(names, kinds);
+    Ok(Bound { plan, columns })
 }
 
 /// The rows at which a test is true.
 pub fn bind_where(alloc: Global, input: Bound, test: &NamedExpr) -> Result<Bound, BindRefusal>
     ensures { Resolves bound_of result (bound_where (expr_of test.now) (bound_of input)) }
 {
-    let test = bind_expr(alloc, input.names.items(), input.kinds.items(), test)?;
-    Ok(filter(alloc, input, test)?)
+    let test = bind_expr(alloc, &input.columns, test)?;
+    filter(alloc, input, test)
 }
 
-fn filter(alloc: Global, input: Bound, test: Expr) -> Result<Bound, Memory>
-    ensures { IfOk result
-        (λ b. bound_of b
-        ≡ record (bound_of input) { plan = Filter (plan_of input.plan) (bound.expr_of test) }) }
+fn filter(alloc: Global, input: Bound, test: Box<Expr>) -> Result<Bound, BindRefusal>
+    ensures { Resolves bound_of result
+        (Some (record (bound_of input) { plan = Filter (plan_of input.plan.value) (boxed_expr_of test) })) }
 {
-    let child = Box::new(alloc, input.plan)?;
-    Ok(Bound {
-        plan: Plan::Filter { child, test },
-        names: input.names,
-        kinds: input.kinds,
-    })
+    let child = input.plan;
+    let test = Box::into_inner(test);
+    let plan = boxed(alloc, Plan::Filter { child, test })?;
+    let columns = input.columns;
+    Ok(Bound { plan, columns })
 }
 
 /// A row of these columns for each row.
@@ -115,33 +104,40 @@ pub fn bind_select(
 ) -> Result<Bound, BindRefusal>
     ensures { Resolves bound_of result (bound_select (map column_of columns.now) (bound_of input)) }
 {
-    select(alloc, input, columns)
+    let exprs = bind_exprs(alloc, &input.columns, columns)?;
+    select(alloc, input, columns, exprs)
 }
 
-fn select(alloc: Global, input: Bound, columns: &[NamedColumn]) -> Result<Bound, BindRefusal>
-    ensures { Resolves bound_of result
-        (option_and_then (projected (bound_of input) (map (λ column. column.name) columns.now))
-        (all_there (map (λ column. bound_expr input.names input.kinds (expr_of column.expr)) columns.now))) }
-{
-    let exprs = bind_exprs(alloc, input.names.items(), input.kinds.items(), columns)?;
-    let names = column_names(alloc, columns)?;
-    project(alloc, input, exprs, names)
-}
-
-/// The rows of these expressions, where the names differ.
-fn project(
+/// The rows of the expressions, where the columns' names differ.
+fn select(
     alloc: Global,
     input: Bound,
+    columns: &[NamedColumn],
     exprs: Vec<Expr>,
-    names: Vec<Name>,
 ) -> Result<Bound, BindRefusal>
     ensures { Resolves bound_of result
-        (projected (bound_of input) names.items (map bound.expr_of exprs.items)) }
+        (projected (bound_of input) (map (λ column. column.name) columns.now) (map bound.expr_of exprs.items)) }
 {
-    let kinds = expr_kinds(alloc, input.kinds.items(), exprs.as_slice())?;
-    let child = Box::new(alloc, input.plan)?;
-    let columns = Seq::new(exprs);
-    with_columns(Plan::Project { child, columns }, names, kinds)
+    let columns = select_columns(alloc, &input.columns, columns, exprs.as_slice())?;
+    project(alloc, input.plan, exprs, columns)
+}
+
+fn project(
+    alloc: Global,
+    child: Box<Plan>,
+    exprs: Vec<Expr>,
+    columns: Columns,
+) -> Result<Bound, BindRefusal>
+    ensures { Resolves bound_of result
+        (with_columns (Project (plan_of child.value) (map bound.expr_of exprs.items)) columns.names
+        columns.kinds) }
+{
+    let exprs = Seq::new(exprs);
+    let plan = Plan::Project {
+        child,
+        columns: exprs,
+    };
+    with_columns(boxed(alloc, plan)?, columns)
 }
 
 /// A row for each group of rows with equal keys: the keys and then the results.
@@ -153,31 +149,40 @@ pub fn bind_group(
 ) -> Result<Bound, BindRefusal>
     ensures { Resolves bound_of result (bound_group keys.now results.now (bound_of input)) }
 {
-    let places = bind_columns(alloc, input.names.items(), keys)?;
-    let aggs = bind_aggs(alloc, input.names.items(), results)?;
-    let names = group_names(alloc, keys, results)?;
-    group(alloc, input, places, aggs, names)
+    let parts = bind_parts(alloc, input.columns.names.items(), keys, results)?;
+    group(alloc, input, keys, results, parts)
 }
 
-/// The groups, where the names differ.
+/// The groups, where the names of the keys and the results differ.
 fn group(
     alloc: Global,
     input: Bound,
-    places: Vec<u32>,
-    aggs: Vec<Agg>,
-    names: Vec<Name>,
+    keys: &[Name],
+    results: &[NamedResult],
+    parts: GroupParts,
 ) -> Result<Bound, BindRefusal>
-    ensures { Resolves bound_of result (grouped (bound_of input) names.items places.items aggs.items) }
+    ensures { Resolves bound_of result
+        (grouped (bound_of input) (keys.now ++ map (λ result. result.name) results.now) parts.places.items
+        parts.aggs.items) }
 {
-    let kinds = group_kinds(
-        alloc,
-        input.kinds.items(),
-        places.as_slice(),
-        aggs.as_slice(),
-    )?;
-    let child = Box::new(alloc, input.plan)?;
-    let (keys, aggs) = (Seq::new(places), Seq::new(aggs));
-    with_columns(Plan::Group { child, keys, aggs }, names, kinds)
+    let columns = group_columns(alloc, &input.columns, keys, results, &parts)?;
+    group_onto(alloc, input.plan, parts, columns)
+}
+
+fn group_onto(
+    alloc: Global,
+    child: Box<Plan>,
+    parts: GroupParts,
+    columns: Columns,
+) -> Result<Bound, BindRefusal>
+    ensures { Resolves bound_of result
+        (with_columns (Group (plan_of child.value) parts.places.items parts.aggs.items) columns.names
+        columns.kinds) }
+{
+    let keys = Seq::new(parts.places);
+    let aggs = Seq::new(parts.aggs);
+    let plan = boxed(alloc, Plan::Group { child, keys, aggs })?;
+    with_columns(plan, columns)
 }
 
 /// Each left row with each right row that agrees with it: the left columns and then the right ones.
@@ -189,7 +194,8 @@ pub fn bind_join(
 ) -> Result<Bound, BindRefusal>
     ensures { Resolves bound_of result (bound_join on.now (bound_of left) (bound_of right)) }
 {
-    let pairs = bind_pairs(alloc, left.names.items(), right.names.items(), on)?;
+    let (lefts, rights) = (&left.columns.names, &right.columns.names);
+    let pairs = bind_pairs(alloc, lefts.items(), rights.items(), on)?;
     join(alloc, left, right, pairs)
 }
 
@@ -202,63 +208,48 @@ fn join(
 ) -> Result<Bound, BindRefusal>
     ensures { Resolves bound_of result (joined (bound_of left) (bound_of right) pairs.items) }
 {
-    let mut names = left.names.into_vec();
-    let mut others = right.names.into_vec();
-    names.append(&mut others)?;
-    let mut kinds = left.kinds.into_vec();
-    kinds.extend_from_slice(right.kinds.items())?;
-    let plan = Plan::Join {
-        left: Box::new(alloc, left.plan)?,
-        right: Box::new(alloc, right.plan)?,
-        on: Seq::new(pairs),
-    };
-    with_columns(plan, names, kinds)
+    let columns = joined_columns(left.columns, right.columns)?;
+    let (left, right) = (left.plan, right.plan);
+    let on = Seq::new(pairs);
+    let plan = boxed(alloc, Plan::Join { left, right, on })?;
+    with_columns(plan, columns)
 }
 
 /// The first of equal rows.
-pub fn bind_distinct(alloc: Global, input: Bound) -> Result<Bound, Memory>
-    ensures { IfOk result (λ b. bound_of b ≡ bound_distinct (bound_of input)) }
+pub fn bind_distinct(alloc: Global, input: Bound) -> Result<Bound, BindRefusal>
+    ensures { Resolves bound_of result (Some (bound_distinct (bound_of input))) }
 {
-    let child = Box::new(alloc, input.plan)?;
-    Ok(Bound {
-        plan: Plan::Distinct { child },
-        names: input.names,
-        kinds: input.kinds,
-    })
+    let child = input.plan;
+    let plan = boxed(alloc, Plan::Distinct { child })?;
+    let columns = input.columns;
+    Ok(Bound { plan, columns })
 }
 
 /// The rows sorted by keys.
 pub fn bind_order(alloc: Global, input: Bound, keys: &[NamedKey]) -> Result<Bound, BindRefusal>
     ensures { Resolves bound_of result (bound_order keys.now (bound_of input)) }
 {
-    let keys = bind_keys(alloc, input.names.items(), keys)?;
-    Ok(order(alloc, input, keys)?)
+    let keys = bind_keys(alloc, input.columns.names.items(), keys)?;
+    order(alloc, input, keys)
 }
 
-fn order(alloc: Global, input: Bound, keys: Vec<Key>) -> Result<Bound, Memory>
-    ensures { IfOk result
-        (λ b. bound_of b ≡ record (bound_of input) { plan = Order (plan_of input.plan) keys.items }) }
+fn order(alloc: Global, input: Bound, keys: Vec<Key>) -> Result<Bound, BindRefusal>
+    ensures { Resolves bound_of result
+        (Some (record (bound_of input) { plan = Order (plan_of input.plan.value) keys.items })) }
 {
-    let child = Box::new(alloc, input.plan)?;
+    let child = input.plan;
     let keys = Seq::new(keys);
-    Ok(Bound {
-        plan: Plan::Order { child, keys },
-        names: input.names,
-        kinds: input.kinds,
-    })
+    let plan = boxed(alloc, Plan::Order { child, keys })?;
+    let columns = input.columns;
+    Ok(Bound { plan, columns })
 }
 
 /// The left rows and then the right ones, with the left columns' names.
-pub fn bind_concat(alloc: Global, left: Bound, right: Bound) -> Result<Bound, Memory>
-    ensures { IfOk result (λ b. Some (bound_of b) ≡ bound_concat (bound_of left) (bound_of right)) }
+pub fn bind_concat(alloc: Global, left: Bound, right: Bound) -> Result<Bound, BindRefusal>
+    ensures { Resolves bound_of result (bound_concat (bound_of left) (bound_of right)) }
 {
-    let plan = Plan::Concat {
-        left: Box::new(alloc, left.plan)?,
-        right: Box::new(alloc, right.plan)?,
-    };
-    Ok(Bound {
-        plan,
-        names: left.names,
-        kinds: left.kinds,
-    })
+    let columns = left.columns;
+    let (left, right) = (left.plan, right.plan);
+    let plan = boxed(alloc, Plan::Concat { left, right })?;
+    Ok(Bound { plan, columns })
 }

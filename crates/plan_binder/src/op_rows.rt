@@ -1,5 +1,5 @@
 //! Rows of the table of operations.
-ghost use Rattle.std.specs.Prelude.{◌≡◌, ◌<◌, [], ◌∷◌, IfSome};
+ghost use Rattle.std.specs.Prelude.{◌≡◌, ◌<◌, ◌^◌, [], ◌∷◌, IfSome};
 ghost use Rattle.std.specs.List.{position};
 ghost use Rattle.scalar_ops.specs.Table.{same_op};
 ghost use Rattle.plan_binder.specs.OpRows.{row_with, first_row, row_for};
@@ -29,26 +29,29 @@ pub fn row_for_two(op: Op, left: Option<CellKind>, right: Option<CellKind>) -> u
 }
 
 /// The row with this operation and these kinds.
-#[tactic(auto, using(crate::proofs::OpRowLaws::row_below), unfolding(crate::specs::OpRows::row_with))]
 fn row_with(op: Op, kinds: &[CellKind]) -> Option<u32>
     ensures { result ≡ row_with op kinds.now }
 {
     let table = OPS;
-    match table.find(op, kinds) {
-        Some(row) => Some(row as u32),
-        None => None,
-    }
+    number_of(table.find(op, kinds))
 }
 
 /// The first row with this operation.
-#[tactic(auto, using(crate::proofs::OpRowLaws::first_below), unfolding(crate::specs::OpRows::first_row))]
 fn first_row(op: Op) -> u32
     ensures { result ≡ first_row op }
 {
     let table = OPS;
-    match first_in(&table, op) {
-        Some(row) => row as u32,
-        None => 0,
+    number_of(first_in(&table, op)).unwrap_or(0)
+}
+
+/// The number of the row at this place, as plans have it.
+fn number_of(place: Option<usize>) -> Option<u32>
+    requires { IfSome place (λ at. at < 2 ^ 32) }
+    ensures { result ≡ place }
+{
+    match place {
+        Some(place) => Some(place as u32),
+        None => None,
     }
 }
 

@@ -5,18 +5,63 @@ ghost use Rattle.plan_core.specs.PlainExpr as bound;
 ghost use Rattle.plan_core.specs.PlanTyping.{column_kind_of, agg_kind};
 ghost use Rattle.plan_binder.specs.Binding.{kind_or_int};
 
+use crate::allocation::push;
+use crate::bind_names::GroupParts;
+use crate::columns::Columns;
 use plan_core::{Agg, Expr, expression_kind};
 use plan_grammar::{NamedColumn, NamedResult};
 use rows_core::{Column, Kind, Memory, Name};
 use scalar_ops::CellKind;
 use std::alloc::Global;
 
+/// The columns of a projection.
+pub fn select_columns(
+    alloc: Global,
+    input: &Columns,
+    columns: &[NamedColumn],
+    exprs: &[Expr],
+) -> Result<Columns, Memory>
+    ensures { IfOk result
+        (λ found. found
+        ≡ record {
+          names = map (λ column. column.name) columns.now;
+          kinds = map (λ e. kind_or_int (column_kind_of input.now.kinds (bound.expr_of e))) exprs.now;
+        }) }
+{
+    let names = column_names(alloc, columns)?;
+    let kinds = expr_kinds(alloc, input.kinds.items(), exprs)?;
+    Ok(Columns::new(names, kinds))
+}
+
+/// The columns of groups: the keys and then the results.
+pub fn group_columns(
+    alloc: Global,
+    input: &Columns,
+    keys: &[Name],
+    results: &[NamedResult],
+    parts: &GroupParts,
+) -> Result<Columns, Memory>
+    ensures { IfOk result
+        (λ found. found
+        ≡ record {
+          names = keys.now ++ map (λ result. result.name) results.now;
+          kinds = map (λ place. kind_or_int (slice_get input.now.kinds place)) parts.now.places.items
+              ++ map (λ agg. kind_or_int (agg_kind input.now.kinds agg)) parts.now.aggs.items;
+        }) }
+{
+    let names = group_names(alloc, keys, results)?;
+    let (places, aggs) = (parts.places.as_slice(), parts.aggs.as_slice());
+    let kinds = group_kinds(alloc, input.kinds.items(), places, aggs)?;
+    Ok(Columns::new(names, kinds))
+}
+
 pub fn schema_names(alloc: Global, columns: &[Column]) -> Result<Vec<Name>, Memory>
     ensures { IfOk result (λ names. names.items ≡ map (λ column. column.name) columns.now) }
 {
     let mut names = Vec::with_capacity(alloc, columns.len())?;
     for column in columns {
-        names.push(column.name.try_copy(alloc)?)?;
+        let name = column.name.try_copy(alloc)?;
+        push(&mut names, name)?;
     }
     Ok(names)
 }
@@ -27,18 +72,19 @@ pub fn schema_kinds(alloc: Global, columns: &[Column]) -> Result<Vec<Kind>, Memo
     Ok(columns.iter().map(|column| column.kind).collect(alloc)?)
 }
 
-pub fn column_names(alloc: Global, columns: &[NamedColumn]) -> Result<Vec<Name>, Memory>
+fn column_names(alloc: Global, columns: &[NamedColumn]) -> Result<Vec<Name>, Memory>
     ensures { IfOk result (λ names. names.items ≡ map (λ column. column.name) columns.now) }
 {
     let mut names = Vec::with_capacity(alloc, columns.len())?;
     for column in columns {
-        names.push(column.name.try_copy(alloc)?)?;
+        let name = column.name.try_copy(alloc)?;
+        push(&mut names, name)?;
     }
     Ok(names)
 }
 
 /// The kinds of these expressions as columns. One that has none counts as a number: typing refuses its plan.
-pub fn expr_kinds(alloc: Global, kinds: &[Kind], exprs: &[Expr]) -> Result<Vec<Kind>, Memory>
+fn expr_kinds(alloc: Global, kinds: &[Kind], exprs: &[Expr]) -> Result<Vec<Kind>, Memory>
     ensures { IfOk result
         (λ found. found.items
         ≡ map (λ e. kind_or_int (column_kind_of kinds.now (bound.expr_of e))) exprs.now) }
@@ -66,28 +112,26 @@ fn copy_names(alloc: Global, names: &[Name]) -> Result<Vec<Name>, Memory>
 {
     let mut copies = Vec::with_capacity(alloc, names.len())?;
     for name in names {
-        copies.push(name.try_copy(alloc)?)?;
+        let copy = name.try_copy(alloc)?;
+        push(&mut copies, copy)?;
     }
     Ok(copies)
 }
 
 /// The names of a group's columns: its keys and then its results.
-pub fn group_names(
-    alloc: Global,
-    keys: &[Name],
-    results: &[NamedResult],
-) -> Result<Vec<Name>, Memory>
+fn group_names(alloc: Global, keys: &[Name], results: &[NamedResult]) -> Result<Vec<Name>, Memory>
     ensures { IfOk result (λ names. names.items ≡ keys.now ++ map (λ result. result.name) results.now) }
 {
     let mut names = copy_names(alloc, keys)?;
     for result in results {
-        names.push(result.name.try_copy(alloc)?)?;
+        let name = result.name.try_copy(alloc)?;
+        push(&mut names, name)?;
     }
     Ok(names)
 }
 
 /// The kinds of a group's columns.
-pub fn group_kinds(
+fn group_kinds(
     alloc: Global,
     kinds: &[Kind],
     places: &[u32],

@@ -8,4 +8,4 @@ use Rattle.plan_binder.proofs.bind_expr.bind_exprs.Given as goal
 
 abbrev pub invariant-loop-column : goal.invariant-loop-column
 invariant-loop-column l =
-    HasFound (λ column. bound_expr l.names l.kinds (expr_of column.expr)) l.columns l.column-index (map bound.expr_of l.found.items)
+    HasFound (λ column. bound_expr l.input.names l.input.kinds (expr_of column.expr)) l.columns l.column-index (map bound.expr_of l.found.items)
