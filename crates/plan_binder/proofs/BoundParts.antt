@@ -1,5 +1,5 @@
 -- What a plan that is bound is made of, operator by operator.
-use Rattle.std.proofs.Common.{◌≡◌, subst, ℕ, true, List, ◌++◌, map, slice_get, Option, None, Some}
+use Rattle.std.proofs.Common.{◌≡◌, subst, ℕ, true, List, ◌++◌, map, slice_get, Option, Some}
 use Rattle.rows_core.specs.declared.order.Key.{Key}
 use Rattle.rows_core.specs.declared.schema.Column as schema
 use Rattle.rows_core.specs.Schema.{kinds_of}

@@ -1,5 +1,5 @@
 -- A bound plan with a typing has a row for each call.
-use Rattle.std.proofs.Common.{◌≡◌, ◌∙◌, refl, sym, ap, ℕ, Bool, true, false, ◌||◌, cond, List, [], ◌∷◌, ◌++◌, map, slice_get, Option, None, Some, Ok}
+use Rattle.std.proofs.Common.{◌≡◌, ◌∙◌, refl, sym, ap, ℕ, Bool, true, false, ◌||◌, cond, List, [], ◌∷◌, map, Option, None, Some, Ok}
 use Rattle.std.proofs.lemmas.Bool.{false≢true, or_from}
 use Rattle.std.specs.Option.{option_and_then, is_none, is_some}
 use Rattle.std.specs.List.{list_any}
@@ -9,19 +9,16 @@ use Rattle.scalar_ops.specs.declared.cell.CellKind.{CellKind}
 use Rattle.scalar_ops.specs.declared.cell.CellKind.TheVariants as kind
 use Rattle.scalar_ops.specs.declared.table.Op.{Op}
 use Rattle.plan_core.specs.PlainExpr as bound
-use Rattle.plan_core.specs.PlainPlan.{PlainPlan, Filter, Project, Group, Join, Concat, Order}
+use Rattle.plan_core.specs.PlainPlan.{PlainPlan}
 use Rattle.plan_core.specs.ExpressionKind.{of_both, call_kind, both_truths, choice_kind, expression_kind}
-use Rattle.plan_core.specs.PlanTyping.{Kinds, all_there, is_empty, is_truth, column_kind, column_kind_of, agg_kind, plan_kinds, filter_kinds, project_kinds, group_kinds, join_kinds, concat_kinds, order_kinds}
-use Rattle.plan_grammar.specs.declared.plan.NamedResult.{NamedResult}
-use Rattle.plan_grammar.specs.declared.plan.NamedPair.{NamedPair}
-use Rattle.plan_grammar.specs.declared.plan.NamedKey.{NamedKey}
+use Rattle.plan_core.specs.PlanTyping.{Kinds, all_there, is_empty, is_truth, column_kind, column_kind_of, plan_kinds, filter_kinds, project_kinds, group_kinds, join_kinds, concat_kinds, order_kinds}
 use Rattle.plan_grammar.specs.PlainNamed as named
 use Rattle.plan_grammar.specs.PlainNamed.{PlainColumn, PlainTree, From, Where, Select}
 use Rattle.plan_binder.specs.OpRows.{row_for}
-use Rattle.plan_binder.specs.Binding.{Names, Bound, kind_or_int, call1, call2, of_two, of_three, bound_expr, bound_agg, bound_pair, bound_key, place_of, projected, grouped, joined, bound_where, bound_select, bound_distinct, bound_group, bound_join, bound_concat, bound_order, bound_tree, absent_stream, present_or, plan_or_ill_typed, binding}
+use Rattle.plan_binder.specs.Binding.{Names, Bound, call1, call2, of_two, of_three, bound_expr, bound_tree, absent_stream, present_or, plan_or_ill_typed, binding}
 use Rattle.plan_binder.specs.CallRows.{has_no_row, bound_kind, lacks_row, test_lacks_row, columns_lack_row, plan_lacks_row}
 use Rattle.plan_binder.proofs.OpRowLaws.{chosen_found}
-use Rattle.plan_core.proofs.ValueKinds.{then_some, map_some, both_some, unless_some, where_some}
+use Rattle.plan_core.proofs.ValueKinds.{then_some, map_some, both_some, unless_some}
 use Rattle.plan_binder.proofs.BoundParts.{BoundAs, scan, filter, select, distinct, group, join, concat, order, parts}
 use Rattle.plan_binder.proofs.BoundKinds.{bound_kinds}
 

@@ -1,6 +1,6 @@
 -- Loops that collect what each item gives, by a step of theirs.
 use Rattle.std.proofs.Common.{◌≡◌, ◌∙◌, sym, ap, subst, ℕ, ◌+◌, ◌<◌, ◌≤◌, List, [], ◌∷◌, ◌++◌, length, map, take, get_or, append_assoc, Option, Some, Result, Err}
-use Rattle.std.proofs.lemmas.List.{map_more, take_more, take_all}
+use Rattle.std.proofs.lemmas.List.{map_more, take_all}
 use Rattle.plan_core.specs.PlanTyping.{all_there}
 use Rattle.plan_core.specs.AllThere.{HasFound, found_start, found_more, found_none}
 use Rattle.plan_binder.specs.declared.refusal.BindRefusal.{BindRefusal}

@@ -14,7 +14,7 @@ use Rattle.scalar_ops.specs.declared.table.Op.TheVariants as op
 use Rattle.scalar_ops.specs.declared.table.OpRow.{OpRow}
 use Rattle.scalar_ops.specs.declared.table.TheConstants.{OPS}
 use Rattle.scalar_ops.specs.Cells.{same_cell_kind}
-use Rattle.scalar_ops.specs.Table.{kinds_of_args, IsRowFor, same_op, is_row_for}
+use Rattle.scalar_ops.specs.Table.{kinds_of_args, IsRowFor, is_row_for}
 use Rattle.scalar_ops.specs.Meaning.{op_at}
 use Rattle.scalar_ops.proofs.RowLaws.{same_cell_kind-Decides, is_row_for-Decides, found_row}
 use Rattle.plan_core.specs.PlanTyping.{all_there}

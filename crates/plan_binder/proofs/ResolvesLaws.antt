@@ -1,5 +1,5 @@
 -- What a refusal says of what rests on the part that was refused.
-use Rattle.std.proofs.Common.{◌≡◌, Option, None, Some, Result, Ok, Err}
+use Rattle.std.proofs.Common.{◌≡◌, Option, None, Err}
 use Rattle.plan_binder.specs.declared.refusal.BindRefusal.{BindRefusal}
 use Rattle.plan_binder.specs.declared.refusal.BindRefusal.TheVariants as refusal
 use Rattle.plan_binder.specs.Resolves.{Resolves}
