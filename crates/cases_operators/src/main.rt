@@ -4,6 +4,7 @@
 //! that is empty or begins with `#` is no case.
 #![tactic(auto)]
 
+mod fed;
 mod given;
 mod groups;
 mod joins;
@@ -42,6 +43,8 @@ fn answer(alloc: Global, case: &str) -> Result<String> {
         "fold" => groups::folded(alloc, arguments, &lists),
         "group" => groups::finished(alloc, arguments, &lists),
         "grow" => groups::merged(alloc, arguments, &lists),
+        "groups" => fed::groups(alloc, arguments, &lists),
+        "seen" => fed::seen(alloc, lists),
         "join" => joins::joined(alloc, arguments, &lists),
         "more_rights" => joins::with_more_rights(alloc, arguments, &lists),
         "more_lefts" => joins::with_more_lefts(alloc, arguments, &lists),

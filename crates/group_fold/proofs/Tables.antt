@@ -286,16 +286,20 @@ pub its_accs : (P : List Acc → Type 0) (before rest groups : List GroupRow) (g
 its_accs P before rest groups g whole all =
     among (λ group. P group.accs) before g rest (subst (AllByRecursion (λ group. P group.accs)) (sym whole) (recursion_from_All (λ group. P group.accs) groups all))
 
--- ---- one row more
+-- ---- more rows
 
 pub one_row : (keys : List ℕ) (aggs : List Agg) (row : Row) → groups_of keys aggs (row ∷ []) ≡ record { key = columns_of keys row; accs = map (acc_of (row ∷ [])) aggs } ∷ []
 one_row keys aggs row = ap (λ b. record { key = columns_of keys row; accs = map (acc_of (cond b (row ∷ []) [])) aggs } ∷ []) (row_itself (columns_of keys row))
 
+pub fed_more : (keys : List ℕ) (aggs : List Agg) (fed rows : Rows) (before after news : List GroupRow)
+    → before ≡ groups_of keys aggs fed → news ≡ groups_of keys aggs rows → after ≡ merged_groups aggs before news → after ≡ groups_of keys aggs (fed ++ rows)
+fed_more keys aggs fed rows before after news was come then =
+    then ∙ ap (λ l. merged_groups aggs l news) was ∙ ap (merged_groups aggs (groups_of keys aggs fed)) come ∙ sym (joined_lists keys aggs fed rows)
+
 pub fold_more : (keys : List ℕ) (aggs : List Agg) (rows : Rows) (before after : List GroupRow) (row : Row) (i : ℕ) → i < length rows → row ≡ get_or rows i row
     → before ≡ groups_of keys aggs (take i rows) → after ≡ merged_groups aggs before (groups_of keys aggs (row ∷ [])) → after ≡ groups_of keys aggs (take (i + 1) rows)
 fold_more keys aggs rows before after row i within is was then =
-    then ∙ ap (λ l. merged_groups aggs l (groups_of keys aggs (row ∷ []))) was
-    ∙ sym (joined_lists keys aggs (take i rows) (row ∷ []))
+    fed_more keys aggs (take i rows) (row ∷ []) before after (groups_of keys aggs (row ∷ [])) was refl then
     ∙ ap (groups_of keys aggs) (ap (λ r. take i rows ++ r ∷ []) is ∙ sym (take_more rows i row within))
 
 pub numbers_more : (aggs : List Agg) (rows : Rows) (row : Row) (i : ℕ) → i < length rows → row ≡ get_or rows i row → AllByRecursion (HasNumbers aggs) (take i rows) → HasNumbers aggs row

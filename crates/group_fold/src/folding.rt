@@ -7,6 +7,7 @@ ghost use Rattle.plan_core.specs.Columns.{columns_of};
 ghost use Rattle.plan_laws.specs.GrowthOfGroups.{groups_of, merged_groups};
 ghost use Rattle.plan_laws.specs.GroupBounds.{IsAccOf, HasNumber, AreGroups, HaveAverages};
 ghost use Rattle.indexmap.specs.IndexMap.{get};
+ghost use Rattle.group_fold.specs.Numbers.{HaveNumbers};
 ghost use Rattle.group_fold.specs.Table.{groups_in};
 
 use crate::accumulate::{accs_of_row, columns_of, take_in};
@@ -31,6 +32,7 @@ pub fn fold(
     ensures groups { IfOk result (λ groups. groups.items ≡ groups_of keys.now aggs.now rows.now) }
     ensures bounds { IfOk result (λ groups. AreGroups aggs.now groups.items) }
     ensures averages { IfOk result (λ groups. HaveAverages groups.items) }
+    ensures numbers { OnOk result (HaveNumbers aggs.now rows.now) }
 {
     let mut table = IndexMap::new(alloc);
     for row in rows {

@@ -4,10 +4,12 @@
 mod accumulate;
 mod finishing;
 mod folding;
+mod groups;
 mod joining;
 mod merging;
 mod table;
 
 pub use finishing::{FinishRefusal, finish};
 pub use folding::fold;
+pub use groups::Groups;
 pub use merging::merge;

@@ -1,9 +1,10 @@
 -- Sets of rows in the order in which these were put in.
 use Rattle.std.proofs.Common.{◌≡◌, refl, sym, ap, ◌∙◌, ℕ, ◌+◌, ◌<◌, Bool, true, false, true≢false, cond, not, ◌||◌, List, [], ◌∷◌, ◌++◌, length, get_or, take, append_assoc, append-nil, Bor, Result, Ok, Err, IfOk}
-use Rattle.std.specs.List.{AllByRecursion, Contains, filter, list_any}
+use Rattle.std.specs.List.{AllByRecursion, Contains, IsDistinct, filter, list_any}
 use Rattle.std.proofs.lemmas.List.{take_more}
 use Rattle.std.proofs.lemmas.List.Elements.{All-contains_itself, All-weaker, recursion_from_All}
 use Rattle.std.proofs.lemmas.List.Folds.{list_any-append}
+use Rattle.std.proofs.lemmas.Map.Made.{IsDistinct-from_AllPairs}
 use Rattle.indexmap.specs.IndexSet.{insert_key, insert_all}
 use Rattle.rows_core.specs.contracts.row.RowPartialEq.TheImpl as derived
 use Rattle.rows_core.specs.Equality.{row_eq-Decides, same_row-Decides}
@@ -11,7 +12,7 @@ use Rattle.rows_core.specs.Value.{row_eq}
 use Rattle.plan_core.specs.Columns.{Row, Rows}
 use Rattle.plan_core.specs.Distinct.{distinct_rows}
 use Rattle.plan_laws.specs.GrowthOfRows.{has_row, new_rows}
-use Rattle.plan_laws.proofs.FirstOfEqual.{is_there, one_more, same_members, same_test}
+use Rattle.plan_laws.proofs.FirstOfEqual.{differ, either_way, is_there, one_more, same_members, same_test}
 
 or_false : (b : Bool) → (b || false) ≡ b
 or_false true = refl
@@ -116,6 +117,41 @@ has_its_own rows = recursion_from_All (λ row. has_row rows row ≡ true) rows (
 pub left_new : (old rows : Rows) (keys : List (Bor Row)) → LendsThoseOf (distinct_rows rows) keys old → filter (λ row. not (lends keys row)) (distinct_rows rows) ≡ new_rows old rows
 left_new old rows keys lent =
     alike_in (λ row. not (lends keys row)) (λ row. not (has_row old row)) (distinct_rows rows) (distinct_rows rows) (λ row has. ap not (lent row has)) (has_its_own (distinct_rows rows))
+
+-- ---- rows that are put behind others
+
+-- the row isn't among these
+abbrev is_absent : Rows → Row → Bool
+is_absent keys row = not (has_row keys row)
+
+absent_still : (keys : Rows) (row other : Row) → row_eq row other ≡ false → is_absent (keys ++ row ∷ []) other ≡ is_absent keys other
+absent_still keys row other apart =
+    ap not (any_last (row_eq other) keys row ∙ ap (λ b. has_row keys other || b) (either_way other row ∙ apart) ∙ or_false (has_row keys other))
+
+same_absent : (keys : Rows) (row : Row) (others : Rows) → AllByRecursion (λ other. row_eq row other ≡ false) others → filter (is_absent (keys ++ row ∷ [])) others ≡ filter (is_absent keys) others
+same_absent keys row [] apart = refl
+same_absent keys row (other ∷ others) apart =
+    ap (λ l. cond (is_absent (keys ++ row ∷ []) other) (other ∷ l) l) (same_absent keys row others apart.1)
+    ∙ ap (λ b. cond b (other ∷ filter (is_absent keys) others) (filter (is_absent keys) others)) (absent_still keys row other apart.0)
+
+put_behind : (keys rows : Rows) → IsDistinct row_eq rows → insert_all row_eq keys rows ≡ keys ++ filter (is_absent keys) rows
+unfolding IsDistinct
+put_behind keys [] apart = sym (append-nil keys)
+put_behind keys (row ∷ rows) apart = by (has_row keys row) (put_behind keys rows apart.1) (put_behind (keys ++ row ∷ []) rows apart.1)
+  where
+    absent : Rows
+    absent = filter (is_absent keys) rows
+
+    by : (b : Bool) → insert_all row_eq keys rows ≡ keys ++ absent → insert_all row_eq (keys ++ row ∷ []) rows ≡ (keys ++ row ∷ []) ++ filter (is_absent (keys ++ row ∷ [])) rows
+        → insert_all row_eq (cond b keys (keys ++ row ∷ [])) rows ≡ keys ++ cond (not b) (row ∷ absent) absent
+    by true known further = known
+    by false known further = further ∙ ap (λ l. (keys ++ row ∷ []) ++ l) (same_absent keys row rows apart.0) ∙ append_assoc keys (row ∷ []) absent
+
+-- a set that takes the first of equal rows has those that are new behind its own
+pub set_with_rows : (keys rows : Rows) → insert_all derived_eq keys (distinct_rows rows) ≡ keys ++ new_rows keys rows
+set_with_rows keys rows =
+    ap (λ (eq : Row → Row → Bool). insert_all eq keys (distinct_rows rows)) is_row_eq
+    ∙ put_behind keys (distinct_rows rows) (IsDistinct-from_AllPairs row_eq-Decides (distinct_rows rows) (differ rows))
 
 pub if_ok_then : {A E : Type 0} (P Q : A → Type 0) (r : Result A E) → ((x : A) → P x → Q x) → IfOk r P → IfOk r Q
 if_ok_then P Q (Ok x) then is = then x is

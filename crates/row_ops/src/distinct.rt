@@ -30,7 +30,8 @@ pub fn distinct_after(alloc: Global, old: &[Row], rows: Vec<Row>) -> Result<Vec<
     rows_of_set(alloc, new)
 }
 
-fn first_rows(alloc: Global, rows: Vec<Row>) -> Result<IndexSet<Row>, Memory>
+/// The first of equal rows, as a set.
+pub fn first_rows(alloc: Global, rows: Vec<Row>) -> Result<IndexSet<Row>, Memory>
     ensures { IfOk result (λ first. first.keys ≡ distinct_rows rows.items) }
 {
     let mut first = IndexSet::new(alloc);
@@ -38,7 +39,8 @@ fn first_rows(alloc: Global, rows: Vec<Row>) -> Result<IndexSet<Row>, Memory>
     Ok(first)
 }
 
-fn rows_of_set(alloc: Global, set: IndexSet<Row>) -> Result<Vec<Row>, Memory>
+/// The rows of a set, in their order.
+pub fn rows_of_set(alloc: Global, set: IndexSet<Row>) -> Result<Vec<Row>, Memory>
     ensures { IfOk result (λ rows. rows.items ≡ set.keys) }
 {
     Ok(set.into_iter().collect(alloc)?)

@@ -7,9 +7,11 @@ mod distinct;
 mod filter;
 mod order;
 mod project;
+mod seen;
 
 pub use distinct::{distinct_after, distinct_rows};
 pub use filter::{where_lent, where_rows};
 pub use order::{merge_ordered, order_rows};
 pub use plan_core::EvRefusal as OpRefusal;
 pub use project::select_rows;
+pub use seen::Seen;

@@ -17,6 +17,7 @@ pub loop-group-init : goal.loop-group-init
 loop-group-init c = record {
   whole = search rules;
   left = search rules;
+  room = search rules;
   merged = sym (merged_nothing c.args.aggs.now (groups_in items c.args.table.now.entries));
 }
 
@@ -31,6 +32,13 @@ put_group-requires-clause-old c =
     (fresh_group at.yielded (into_iter_items c.next.new.self) c.args.groups.items c.in-Some.group whole c.requires.new.0)
     (recursion_from_All (λ group. AreEach IsAccOf aggs group.accs) olds c.requires.old.1)
 
+pub put_group-requires-clause-room : goal.put_group-requires-clause-room
+put_group-requires-clause-room c =
+    let steps : into_iter_items c.loop-group.group-iterator ≡ c.in-Some.group ∷ into_iter_items c.next.new.self = c.in-Some.ensures.steps.0 in
+    let room = c.loop-group.invariant.room in
+    let short = ap length steps in
+    omega arith
+
 pub loop-group-preserved : goal.loop-group-preserved
 loop-group-preserved c =
     let at = c.loop-group in
@@ -43,7 +51,8 @@ loop-group-preserved c =
     record {
       whole = append_assoc at.yielded (g ∷ []) rest ∙ whole;
       left = (let was = at.invariant.left in let gone = c.in-Some.ensures.steps.1 in let short = ap length steps in omega arith);
+      room = (let was = at.invariant.room in let kept = c.put_group.ensures.room in let short = ap length steps in omega arith);
       merged =
-          c.in_ok-put_group.ensures ∙ ap (λ l. merged_groups aggs l (g ∷ [])) at.invariant.merged
+          c.put_group.ensures.merged ∙ ap (λ l. merged_groups aggs l (g ∷ [])) at.invariant.merged
           ∙ sym (one_more aggs g at.yielded (fresh_group at.yielded rest c.args.groups.items g whole c.requires.new.0) olds);
     }
