@@ -12,11 +12,11 @@ use Rattle.plan_laws.specs.PlanShape.{kinds_given}
 use Rattle.plan_laws.proofs.TypedParts.{GivesTypedRows, test_typed, columns_typed}
 use Rattle.plan_laws.proofs.TypedPlans.{and_then}
 
-there : {A : Type 0} (o : Option A) → IsSome o → (x : A) × (o ≡ Some x)
+pub there : {A : Type 0} (o : Option A) → IsSome o → (x : A) × (o ≡ Some x)
 there (Some x) is = (x, refl)
 there None is = absurd (cc)
 
-some_of : {A : Type 0} (o : Option A) (x : A) → o ≡ Some x → IsSome o
+pub some_of : {A : Type 0} (o : Option A) (x : A) → o ≡ Some x → IsSome o
 some_of o x is = subst IsSome (sym is) refl
 
 pub given_kinds : (schemas : List Kinds) (plan : PlainPlan) (kinds : Kinds) → plan_kinds schemas plan ≡ Some kinds → kinds_given schemas plan ≡ kinds

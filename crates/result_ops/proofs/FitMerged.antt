@@ -3,7 +3,7 @@ use Rattle.std.proofs.Common.{zero, suc, ◌≡◌, ◌≢◌, refl, sym, ap, �
 use Rattle.std.specs.List.{AllPairs, filter, find, list_any}
 use Rattle.std.specs.Ordering.{is_le, is_ge}
 use Rattle.std.proofs.lemmas.Bool.{false≢true}
-use Rattle.std.proofs.lemmas.List.{append_cancel_left, map-append}
+use Rattle.std.proofs.lemmas.List.{append_cancel_left, length-map, map-append}
 use Rattle.std.proofs.lemmas.List.Elements.{All-append, All-filter, All-map}
 use Rattle.std.proofs.lemmas.List.Kept.{AllPairs-cons, AllPairs-filter}
 use Rattle.rows_core.specs.declared.value.Value.{Value}
@@ -15,10 +15,12 @@ use Rattle.row_blob.specs.declared.kept.GroupRow.{GroupRow}
 use Rattle.row_blob.specs.Kept.{AreEach, keys_of as group_keys}
 use Rattle.plan_core.specs.declared.agg.Agg.{Agg}
 use Rattle.plan_core.specs.declared.agg.Agg.TheVariants as agg
-use Rattle.plan_core.specs.Columns.{Row}
+use Rattle.plan_core.specs.Columns.{Row, Rows}
+use Rattle.plan_core.specs.Group.{keys_of, members_of}
 use Rattle.plan_core.specs.PlanTyping.{Kinds}
 use Rattle.plan_laws.specs.GroupBounds.{IsAccOf, AreGroups}
-use Rattle.plan_laws.specs.GrowthOfGroups.{joined_value, joined_acc, joined_accs, group_with, joined_group, is_new, merged_groups}
+use Rattle.plan_laws.specs.KeptForm.{acc_of, kept_group}
+use Rattle.plan_laws.specs.GrowthOfGroups.{groups_of, joined_value, joined_acc, joined_accs, group_with, joined_group, is_new, merged_groups}
 use Rattle.result_ops.specs.Fitting.{kind_of_acc, kinds_of_group}
 
 -- ---- kinds
@@ -43,15 +45,15 @@ joined_kind a (acc.Sum s) (acc.Sum t) same = refl
 joined_kind a (acc.Avg s n) (acc.Avg t m) same = refl
 joined_kind a _ _ same = refl
 
-joined_kinds : (aggs : List Agg) (xs ys : List Acc) → AreEach IsAccOf aggs xs → AreEach IsAccOf aggs ys → map kind_of_acc ys ≡ map kind_of_acc xs → map kind_of_acc (joined_accs aggs xs ys) ≡ map kind_of_acc xs
+joined_kinds : (aggs : List Agg) (xs ys : List Acc) → length xs ≡ length aggs → length ys ≡ length aggs → map kind_of_acc ys ≡ map kind_of_acc xs → map kind_of_acc (joined_accs aggs xs ys) ≡ map kind_of_acc xs
 joined_kinds [] [] ys x y same = refl
-joined_kinds [] (x ∷ xs) ys has y same = absurd has
-joined_kinds (a ∷ aggs) [] ys has y same = absurd has
-joined_kinds (a ∷ aggs) (x ∷ xs) [] has none same = absurd none
-joined_kinds (a ∷ aggs) (x ∷ xs) (y ∷ ys) has have same =
+joined_kinds [] (x ∷ xs) ys some y same = absurd (omega (arith, some))
+joined_kinds (a ∷ aggs) [] ys none y same = absurd (omega (arith, none))
+joined_kinds (a ∷ aggs) (x ∷ xs) [] some none same = absurd (omega (arith, none))
+joined_kinds (a ∷ aggs) (x ∷ xs) (y ∷ ys) xs_are ys_are same =
     let first : kind_of_acc y ≡ kind_of_acc x = cc in
     let rest : map kind_of_acc ys ≡ map kind_of_acc xs = cc in
-    ap (λ k. k ∷ map kind_of_acc (joined_accs aggs xs ys)) (joined_kind a x y first) ∙ ap (λ l. kind_of_acc x ∷ l) (joined_kinds aggs xs ys has.1 have.1 rest)
+    ap (λ k. k ∷ map kind_of_acc (joined_accs aggs xs ys)) (joined_kind a x y first) ∙ ap (λ l. kind_of_acc x ∷ l) (joined_kinds aggs xs ys (omega (arith, xs_are)) (omega (arith, ys_are)) rest)
 
 -- what is found holds of the list and passes the test
 found_of : (p : GroupRow → Bool) (P : GroupRow → Type 0) (groups : List GroupRow) (group : GroupRow) → All P groups → find p groups ≡ Some group → (p group ≡ true) × P group
@@ -62,30 +64,50 @@ found_of p P (first ∷ groups) group all is = by (p first) refl (found_of p P g
     by true passes rest h = let same : first ≡ group = cc in subst (λ g. (p g ≡ true) × P g) same (passes, all 0 first (omega arith))
     by false passes rest h = rest h
 
-module _ (kinds : Kinds) (aggs : List Agg) (news : List GroupRow) (new_groups : AreGroups aggs news) (new_kinds : All (λ group. kinds_of_group group ≡ kinds) news) where
-  abbrev IsSuch : GroupRow → Type 0
-  IsSuch group = AreEach IsAccOf aggs group.accs × (kinds_of_group group ≡ kinds)
+-- one accumulator for each aggregate, and these kinds
+abbrev pub IsSuch : Kinds → List Agg → GroupRow → Type 0
+IsSuch kinds aggs group = (length group.accs ≡ length aggs) × (kinds_of_group group ≡ kinds)
 
-  such : All IsSuch news
-  such i d within = (new_groups.1 i d within, new_kinds i d within)
-
-  group_kinds_joined : (old : GroupRow) → IsSuch old → kinds_of_group (joined_group aggs old (group_with old.key news)) ≡ kinds
+module _ (kinds : Kinds) (aggs : List Agg) (news : List GroupRow) (such : All (IsSuch kinds aggs) news) where
+  group_kinds_joined : (old : GroupRow) → IsSuch kinds aggs old → kinds_of_group (joined_group aggs old (group_with old.key news)) ≡ kinds
   group_kinds_joined old has = by (group_with old.key news) refl
     where
       by : (o : Option GroupRow) → group_with old.key news ≡ o → kinds_of_group (joined_group aggs old o) ≡ kinds
       by None is = has.1
       by (Some new) is =
-          let found = found_of (λ group. row_eq old.key group.key) IsSuch news new such is in
+          let found = found_of (λ group. row_eq old.key group.key) (IsSuch kinds aggs) news new such is in
           let same_key : old.key ≡ new.key = (row_eq-Decides old.key new.key).0 found.0 in
           let same : map kind_of_acc new.accs ≡ map kind_of_acc old.accs =
-          append_cancel_left (map kind_of old.key) (map kind_of_acc new.accs) (map kind_of_acc old.accs) (ap (λ k. map kind_of k ++ map kind_of_acc new.accs) same_key ∙ found.1.1 ∙ sym has.1) in
+              append_cancel_left (map kind_of old.key) (map kind_of_acc new.accs) (map kind_of_acc old.accs) (ap (λ k. map kind_of k ++ map kind_of_acc new.accs) same_key ∙ found.1.1 ∙ sym has.1) in
           ap (λ l. map kind_of old.key ++ l) (joined_kinds aggs old.accs new.accs has.0 found.1.0 same) ∙ has.1
 
-  pub merged_kinds : (olds : List GroupRow) → AreGroups aggs olds → All (λ group. kinds_of_group group ≡ kinds) olds → All (λ group. kinds_of_group group ≡ kinds) (merged_groups aggs olds news)
-  merged_kinds olds old_groups old_kinds =
+  pub merged_kinds : (olds : List GroupRow) → All (IsSuch kinds aggs) olds → All (λ group. kinds_of_group group ≡ kinds) (merged_groups aggs olds news)
+  merged_kinds olds old_such =
       All-append (λ group. kinds_of_group group ≡ kinds) (map (λ old. joined_group aggs old (group_with old.key news)) olds) (filter (is_new olds) news)
-      (All-map (λ group. kinds_of_group group ≡ kinds) (λ old. joined_group aggs old (group_with old.key news)) olds (λ i d within. group_kinds_joined (get_or olds i d) (old_groups.1 i d within, old_kinds i d within)))
-      (All-filter (is_new olds) (λ group. kinds_of_group group ≡ kinds) news new_kinds)
+      (All-map (λ group. kinds_of_group group ≡ kinds) (λ old. joined_group aggs old (group_with old.key news)) olds (λ i d within. group_kinds_joined (get_or olds i d) (old_such i d within)))
+      (All-filter (is_new olds) (λ group. kinds_of_group group ≡ kinds) news (λ i d within. (such i d within).1))
+
+each_length : {A B : Type 0} (P : A → B → Type 0) (as : List A) (bs : List B) → AreEach P as bs → length bs ≡ length as
+each_length P [] [] each = refl
+each_length P [] (b ∷ bs) each = absurd each
+each_length P (a ∷ as) [] each = absurd each
+each_length P (a ∷ as) (b ∷ bs) each = ap suc (each_length P as bs each.1)
+
+-- groups within bounds have one accumulator for each aggregate
+pub such_of : (kinds : Kinds) (aggs : List Agg) (groups : List GroupRow) → AreGroups aggs groups → All (λ group. kinds_of_group group ≡ kinds) groups → All (IsSuch kinds aggs) groups
+such_of kinds aggs groups are has i d within = (each_length IsAccOf aggs (get_or groups i d).accs (are.1 i d within), has i d within)
+
+-- and so have the groups of rows
+such_rows : (kinds : Kinds) (keys : List ℕ) (aggs : List Agg) (rows : Rows) (ks : Rows) → All (λ group. kinds_of_group group ≡ kinds) (map (kept_group keys aggs rows) ks) → All (IsSuch kinds aggs) (map (kept_group keys aggs rows) ks)
+such_rows kinds keys aggs rows [] has = λ i d within. absurd (omega (arith, within))
+such_rows kinds keys aggs rows (k ∷ ks) has = front (such_rows kinds keys aggs rows ks (λ i d within. has (suc i) d (omega (arith, within))))
+  where
+    front : All (IsSuch kinds aggs) (map (kept_group keys aggs rows) ks) → All (IsSuch kinds aggs) (map (kept_group keys aggs rows) (k ∷ ks))
+    front rest zero d within = (length-map aggs (acc_of (members_of keys rows k)), has 0 d (omega arith))
+    front rest (suc i) d within = rest i d (omega (arith, within))
+
+pub such_groups : (kinds : Kinds) (keys : List ℕ) (aggs : List Agg) (rows : Rows) → All (λ group. kinds_of_group group ≡ kinds) (groups_of keys aggs rows) → All (IsSuch kinds aggs) (groups_of keys aggs rows)
+such_groups kinds keys aggs rows has = such_rows kinds keys aggs rows (keys_of keys rows) has
 
 -- ---- keys
 

@@ -5,3 +5,4 @@ pub mod FitMerged
 pub mod BoundedGroups
 pub mod FitResults
 pub mod GrownGroups
+pub mod FitLaws
