@@ -78,7 +78,7 @@ module _ (kinds : Kinds) (aggs : List Agg) (news : List GroupRow) (such : All (I
           let found = found_of (λ group. row_eq old.key group.key) (IsSuch kinds aggs) news new such is in
           let same_key : old.key ≡ new.key = (row_eq-Decides old.key new.key).0 found.0 in
           let same : map kind_of_acc new.accs ≡ map kind_of_acc old.accs =
-              append_cancel_left (map kind_of old.key) (map kind_of_acc new.accs) (map kind_of_acc old.accs) (ap (λ k. map kind_of k ++ map kind_of_acc new.accs) same_key ∙ found.1.1 ∙ sym has.1) in
+          append_cancel_left (map kind_of old.key) (map kind_of_acc new.accs) (map kind_of_acc old.accs) (ap (λ k. map kind_of k ++ map kind_of_acc new.accs) same_key ∙ found.1.1 ∙ sym has.1) in
           ap (λ l. map kind_of old.key ++ l) (joined_kinds aggs old.accs new.accs has.0 found.1.0 same) ∙ has.1
 
   pub merged_kinds : (olds : List GroupRow) → All (IsSuch kinds aggs) olds → All (λ group. kinds_of_group group ≡ kinds) (merged_groups aggs olds news)
@@ -87,11 +87,11 @@ module _ (kinds : Kinds) (aggs : List Agg) (news : List GroupRow) (such : All (I
       (All-map (λ group. kinds_of_group group ≡ kinds) (λ old. joined_group aggs old (group_with old.key news)) olds (λ i d within. group_kinds_joined (get_or olds i d) (old_such i d within)))
       (All-filter (is_new olds) (λ group. kinds_of_group group ≡ kinds) news (λ i d within. (such i d within).1))
 
-each_length : {A B : Type 0} (P : A → B → Type 0) (as : List A) (bs : List B) → AreEach P as bs → length bs ≡ length as
+each_length : {A B : Type 0} (P : A → B → Type 0) (xs : List A) (ys : List B) → AreEach P xs ys → length ys ≡ length xs
 each_length P [] [] each = refl
-each_length P [] (b ∷ bs) each = absurd each
-each_length P (a ∷ as) [] each = absurd each
-each_length P (a ∷ as) (b ∷ bs) each = ap suc (each_length P as bs each.1)
+each_length P [] (b ∷ ys) each = absurd each
+each_length P (a ∷ xs) [] each = absurd each
+each_length P (a ∷ xs) (b ∷ ys) each = ap suc (each_length P xs ys each.1)
 
 -- groups within bounds have one accumulator for each aggregate
 pub such_of : (kinds : Kinds) (aggs : List Agg) (groups : List GroupRow) → AreGroups aggs groups → All (λ group. kinds_of_group group ≡ kinds) groups → All (IsSuch kinds aggs) groups
