@@ -44,48 +44,27 @@ pub fn made_of_grown(
     let input = grown_input(added, before)?;
     match (plan, old.kept) {
         (Plan::Filter { child: _, test }, Kept::Rows(olds)) => {
-            behind(
-                olds,
-                row_ops::where_rows(alloc, input.rows, test)?,
-                input.taken_in,
-            )
+            let rows = row_ops::where_rows(alloc, input.rows, test)?;
+            behind(olds, rows, input.taken_in)
         }
         (Plan::Project { child: _, columns }, Kept::Rows(olds)) => {
-            behind(
-                olds,
-                row_ops::select_rows(alloc, &input.rows, columns.items())?,
-                input.taken_in,
-            )
+            let rows = row_ops::select_rows(alloc, &input.rows, columns.items())?;
+            behind(olds, rows, input.taken_in)
         }
         (Plan::Distinct { .. }, Kept::Rows(olds)) => {
             let rows = row_ops::distinct_after(alloc, olds.items(), input.rows)?;
             behind(olds, rows, input.taken_in)
         }
         (Plan::Concat { .. }, Kept::Rows(olds)) => behind(olds, input.rows, input.taken_in),
-        (Plan::Order { child: _, keys }, Kept::Rows(olds)) => {
-            in_order(alloc, olds, input.rows, keys.items(), input.taken_in)
-        }
-        (
-            Plan::Group {
-                child: _,
-                keys,
-                aggs,
-            },
-            Kept::Groups(olds),
-        ) => {
-            grouped(
-                alloc,
-                olds,
-                &input.rows,
-                keys.items(),
-                aggs.items(),
-                input.taken_in,
-            )
+        (Plan::Order { keys, .. }, Kept::Rows(olds)) => in_order(alloc, olds, input, keys.items()),
+        (Plan::Group { keys, aggs, .. }, Kept::Groups(olds)) => {
+            grouped(alloc, olds, input, keys.items(), aggs.items())
         }
         _ => unreachable!(),
     }
 }
 
+/// The rows that came, as an operator takes them in, after those of the earlier result.
 pub fn grown_input(added: Added, before: u64) -> Result<Input, MakeRefusal>
     ensures { CountsGrown added before result }
 {
@@ -102,17 +81,12 @@ fn behind(olds: Seq<Row>, news: Vec<Row>, taken_in: u64) -> Result<Made, MakeRef
 
 // The new rows in order behind the old ones, and then both in order: a stable sort of two lists that are in
 // order each.
-fn in_order(
-    alloc: Global,
-    olds: Seq<Row>,
-    news: Vec<Row>,
-    keys: &[Key],
-    taken_in: u64,
-) -> Result<Made, MakeRefusal>
-    ensures { Keeps taken_in
-        (Ok (kept.Rows (order_rows keys.now (olds ++ order_rows keys.now news.items)))) result }
+fn in_order(alloc: Global, olds: Seq<Row>, news: Input, keys: &[Key]) -> Result<Made, MakeRefusal>
+    ensures { Keeps news.taken_in
+        (Ok (kept.Rows (order_rows keys.now (olds ++ order_rows keys.now news.rows.items)))) result }
 {
-    let news = row_ops::order_rows(alloc, news, keys)?;
+    let Input { rows, taken_in } = news;
+    let news = row_ops::order_rows(alloc, rows, keys)?;
     let rows = rows_behind(olds.into_vec(), news)?;
     let rows = row_ops::order_rows(alloc, rows, keys)?;
     Ok(made_of_rows(rows, taken_in))
@@ -123,17 +97,17 @@ fn in_order(
 fn grouped(
     alloc: Global,
     olds: Seq<GroupRow>,
-    rows: &[Row],
+    news: Input,
     keys: &[u32],
     aggs: &[Agg],
-    taken_in: u64,
 ) -> Result<Made, MakeRefusal>
     requires old { AreGroups aggs.now olds }
-    requires few { length rows.now < limit }
-    ensures { Merges taken_in aggs.now (merged_groups aggs.now olds (groups_of keys.now aggs.now rows.now)) result }
+    requires few { length news.rows.items < limit }
+    ensures { Merges news.taken_in aggs.now
+        (merged_groups aggs.now olds (groups_of keys.now aggs.now news.rows.items)) result }
 {
-    let news = group_fold::fold(alloc, rows, keys, aggs)?;
-    merged(alloc, olds, news, aggs, taken_in)
+    let groups = group_fold::fold(alloc, &news.rows, keys, aggs)?;
+    merged(alloc, olds, groups, aggs, news.taken_in)
 }
 
 fn merged(

@@ -1,5 +1,6 @@
 //! Joins that have grown.
-ghost use Rattle.std.specs.Prelude.{◌≡◌, ℕ, ◌<◌, ◌≤◌, ◌+◌, ◌++◌, List, length, IfOk};
+ghost use Rattle.std.specs.Prelude.{◌≡◌, ℕ, ◌<◌, ◌≤◌, ◌+◌};
+ghost use Rattle.std.specs.Prelude.{◌++◌, List, length, IfOk};
 ghost use Rattle.row_blob.specs.declared.kept.Kept.TheVariants as kept;
 ghost use Rattle.plan_core.specs.PlainPlan.{plan_of};
 ghost use Rattle.plan_laws.specs.GrowthOfJoins.{AscendsByPosition};
@@ -116,7 +117,8 @@ fn with_new_lefts(
     rights: &[Row],
     on: &[(u32, u32)],
 ) -> Result<Kept, MakeRefusal>
-    ensures { Positions (with_new_lefts on.now first tagged.items news.now rights.now) (first + length news.now) result }
+    ensures { Positions (with_new_lefts on.now first tagged.items news.now rights.now)
+        (first + length news.now) result }
 {
     let lefts = first.saturating_add(news.len() as u64);
     if lefts > LIMIT {

@@ -20,7 +20,8 @@ pub fn computed_results_are_fit()
         → made_of_one plan child ≡ Ok made → IsBounded plan made.kept → IsFit schemas plan made.kept }
     ensures two { (schemas : List Kinds) (plan : PlainPlan) (left right made : Made)
         → IsSome (plan_kinds schemas plan)
-        → OfTwo (λ first second. IsFit schemas first left.kept × IsFit schemas second right.kept) plan
+        → OfTwo (λ first second. IsFit schemas first left.kept
+        × IsFit schemas second right.kept) plan
         → made_of_two plan left right ≡ Ok made → IsBounded plan made.kept
         → IsFit schemas plan made.kept }
 {
@@ -38,7 +39,8 @@ pub fn added_rows_are_fit()
         → added_of_distinct old added ≡ Ok more → FitRows schemas more.rows plan }
     ensures join { (schemas : List Kinds) (plan : PlainPlan) (added more : Added) (right : Made)
         → IsSome (plan_kinds schemas plan)
-        → OfSides (λ first second. FitRows schemas added.rows first × IsFit schemas second right.kept) plan
+        → OfSides (λ first second. FitRows schemas added.rows first
+        × IsFit schemas second right.kept) plan
         → added_of_join plan added right ≡ Ok more → FitRows schemas more.rows plan }
 {
     typed_plans_give_typed_rows();
@@ -53,12 +55,14 @@ pub fn grown_results_are_fit()
         → IsBounded plan made.kept → IsFit schemas plan made.kept }
     ensures left { (schemas : List Kinds) (plan : PlainPlan) (old right made : Made) (added : Added)
         → IsSome (plan_kinds schemas plan) → IsFit schemas plan old.kept
-        → OfSides (λ first second. FitRows schemas added.rows first × IsFit schemas second right.kept) plan
+        → OfSides (λ first second. FitRows schemas added.rows first
+        × IsFit schemas second right.kept) plan
         → made_of_left plan old added right ≡ Ok made → IsBounded plan made.kept
         → IsFit schemas plan made.kept }
     ensures right { (schemas : List Kinds) (plan : PlainPlan) (old left made : Made) (added : Added)
         → IsSome (plan_kinds schemas plan) → IsFit schemas plan old.kept → StandsInOrder old.kept
-        → OfSides (λ first second. IsFit schemas first left.kept × FitRows schemas added.rows second) plan
+        → OfSides (λ first second. IsFit schemas first left.kept
+        × FitRows schemas added.rows second) plan
         → made_of_right plan old left added ≡ Ok made → IsBounded plan made.kept
         → IsFit schemas plan made.kept }
     ensures both { (schemas : List Kinds) (plan : PlainPlan) (old old_left right made : Made)

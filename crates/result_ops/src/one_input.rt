@@ -65,7 +65,8 @@ fn filtered(alloc: Global, input: Input, test: &Expr) -> Result<Made, MakeRefusa
 fn projected(alloc: Global, input: Input, columns: &[Expr]) -> Result<Made, MakeRefusal>
     requires { All (λ row. All (λ column. IsTyped (map kind_of row) (expr_of column)) columns.now)
         input.rows.items }
-    ensures { Keeps input.taken_in (as_rows (project_rows (map expr_of columns.now) input.rows.items)) result }
+    ensures { Keeps input.taken_in
+        (as_rows (project_rows (map expr_of columns.now) input.rows.items)) result }
 {
     let Input { rows, taken_in } = input;
     let rows = row_ops::select_rows(alloc, &rows, columns)?;
@@ -82,7 +83,8 @@ fn distinct(alloc: Global, input: Input) -> Result<Made, MakeRefusal>
 
 fn grouped(alloc: Global, input: Input, keys: &[u32], aggs: &[Agg]) -> Result<Made, MakeRefusal>
     requires { length input.rows.items < limit }
-    ensures kept { Keeps input.taken_in (Ok (kept.Groups (groups_of keys.now aggs.now input.rows.items))) result }
+    ensures kept { Keeps input.taken_in
+        (Ok (kept.Groups (groups_of keys.now aggs.now input.rows.items))) result }
     ensures bounded { IfOk result (λ made. AreBoundedGroups aggs.now made.kept) }
 {
     let Input { rows, taken_in } = input;

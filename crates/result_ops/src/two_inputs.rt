@@ -1,5 +1,6 @@
 //! What is made of the results of two inputs.
-ghost use Rattle.std.specs.Prelude.{◌≡◌, ◌+◌, ◌<◌, ◌≤◌, ◌++◌, length, Ok, IfOk, IfErr};
+ghost use Rattle.std.specs.Prelude.{◌≡◌, ◌+◌, ◌<◌, ◌≤◌, ◌++◌};
+ghost use Rattle.std.specs.Prelude.{length, Ok, IfOk, IfErr};
 ghost use Rattle.row_blob.specs.declared.kept.Kept.TheVariants as kept;
 ghost use Rattle.plan_core.specs.Join.{join_rows};
 ghost use Rattle.plan_core.specs.PlainPlan.{plan_of};
@@ -70,7 +71,8 @@ fn joined(
     on: &[(u32, u32)],
 ) -> Result<Made, MakeRefusal>
     ensures { KeepsBoth lefts rights
-        (kept.Tagged (length lefts.rows.items) (tagged_from 0 on.now lefts.rows.items rights.rows.items)) result }
+        (kept.Tagged (length lefts.rows.items)
+        (tagged_from 0 on.now lefts.rows.items rights.rows.items)) result }
 {
     let taken_in = both_taken(&lefts, &rights)?;
     let rows = join_tagged(alloc, &lefts.rows, &rights.rows, on, 0)?;

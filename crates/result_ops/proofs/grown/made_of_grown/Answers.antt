@@ -27,4 +27,4 @@ returns-in-Group-Groups c =
     subst (λ form. MakesGrown (before + taken_in_of added) (plan_of c.args.plan.now) (made_of_grown (plan_of c.args.plan.now) (record { kept = form; taken_in = before }) added) c.grouped.result) (sym c.in-Group-Groups.is-1)
     (subst (λ p. MakesGrown (before + taken_in_of added) (plan_of p) (made_of_grown (plan_of p) (record { kept = kept.Groups c.in-Group-Groups.olds; taken_in = before }) added) c.grouped.result) (sym c.in-Group-Groups.is-0)
     (groups_grown (plan_of c.in-Group-Groups.child-0.value) c.in-Group-Groups.keys c.in-Group-Groups.aggs c.in-Group-Groups.olds before added c.in_ok-input.input.taken_in c.grouped.result
-    c.in_ok-input.ensures.1 c.in_ok-input.ensures.2 _ _ _ c.items-in-Group-Groups.ensures c.items-in-Group-Groups-2.ensures (c.deref-in-Group-Groups.ensures.value ∙ c.in_ok-input.ensures.0) c.grouped.ensures))
+    c.in_ok-input.ensures.1 c.in_ok-input.ensures.2 _ _ _ c.items-in-Group-Groups.ensures c.items-in-Group-Groups-2.ensures c.in_ok-input.ensures.0 c.grouped.ensures))
