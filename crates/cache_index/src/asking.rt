@@ -68,14 +68,18 @@ fn hit_of(alloc: Global, entry: &Entry) -> Result<Hit, Memory>
     })
 }
 
+fn is_asked(entry: &Entry, without: &[u32]) -> bool
+    ensures { result ≡ is_asked without.now entry.now }
+{
+    !without.contains(&entry.id)
+}
+
 // Whether it is asked, and of this plan and cut.
 fn is_whole(entry: &Entry, without: &[u32], plan: &Plan, cuts: &[Cut]) -> bool
     ensures { IsTrue result ↔ (IsTrue (is_asked without.now entry.now)
         × IsAt (looked_at entry.now) (plan_of plan.now) cuts.now) }
 {
-    !without.contains(&entry.id)
-        && entry.plan.is_same(plan)
-        && are_same_cuts(entry.cuts.items(), cuts)
+    is_asked(entry, without) && entry.plan.is_same(plan) && are_same_cuts(entry.cuts.items(), cuts)
 }
 
 // Whether it is asked, and of this plan and another cut, which is at or before this one.
@@ -85,7 +89,7 @@ fn comes_before(entry: &Entry, without: &[u32], plan: &Plan, cuts: &[Cut]) -> bo
 {
     let old = entry.cuts.items();
     let is_earlier = !are_same_cuts(old, cuts) && are_at_or_before(old, cuts);
-    !without.contains(&entry.id) && entry.plan.is_same(plan) && is_earlier
+    is_asked(entry, without) && entry.plan.is_same(plan) && is_earlier
 }
 
 // Whether it reaches further than the best one, or as far with a smaller id.
