@@ -9,6 +9,7 @@ use std::alloc::Global;
 use std::marker::Model;
 
 /// The entries of a catalogue but those of some ids. Contracts see it as the list of these entries.
+#[derive(Drop)]
 pub struct View<'a> {
     entries: &'a [Entry],
     without: &'a [u32],
