@@ -82,7 +82,8 @@ fn is_further(listed: &ListedResult, best: &Option<Hit>) -> bool
     }
 }
 
-fn are_same_cuts(cuts: &[Cut], others: &[Cut]) -> bool
+/// Whether both are the same intervals.
+pub fn are_same_cuts(cuts: &[Cut], others: &[Cut]) -> bool
     ensures { IsTrue result ↔ (cuts.now ≡ others.now) }
 {
     match (cuts, others) {
@@ -94,7 +95,8 @@ fn are_same_cuts(cuts: &[Cut], others: &[Cut]) -> bool
     }
 }
 
-fn are_at_or_before(cuts: &[Cut], others: &[Cut]) -> bool
+/// Whether each interval begins and ends at or before the one at its place.
+pub fn are_at_or_before(cuts: &[Cut], others: &[Cut]) -> bool
     ensures { IsTrue result ↔ AreAtOrBefore cuts.now others.now }
 {
     match cuts {
@@ -108,7 +110,8 @@ fn are_at_or_before(cuts: &[Cut], others: &[Cut]) -> bool
     }
 }
 
-fn reach(cuts: &[Cut]) -> u128
+/// The sum of the ends of the intervals.
+pub fn reach(cuts: &[Cut]) -> u128
     ensures exact { result ≡ reach cuts.now }
     ensures bound { result ≤ length cuts.now * 4294967295 }
 {

@@ -1,0 +1,106 @@
+//! What look-ups ask of each entry.
+ghost use Rattle.std.specs.Prelude.{◌≡◌, ◌↔◌, IsTrue, IfOk};
+ghost use Rattle.plan_core.specs.PlainPlan.{plan_of};
+ghost use Rattle.rewrite_core.specs.Entries.{AnswersWhole, entry_of};
+ghost use Rattle.result_list.specs.Looking.{IsAt, ComesBefore, IsFurther, IsBestOf};
+ghost use Rattle.cache_index.specs.Asked.{entry as looked_at, is_asked, asked};
+
+use catalog_types::Entry;
+use plan_core::Plan;
+use result_list::{are_at_or_before, are_same_cuts, reach};
+use rewrite_core::Hit;
+use rows_core::{Cut, Memory};
+use std::alloc::Global;
+
+/// The entry of this plan and cut, of those whose ids aren't in `without`.
+pub fn whole_in(
+    alloc: Global,
+    entries: &[Entry],
+    without: &[u32],
+    plan: &Plan,
+    cuts: &[Cut],
+) -> Result<Option<Hit>, Memory>
+    ensures { IfOk result (AnswersWhole (asked without.now entries.now) (plan_of plan.now) cuts.now) }
+{
+    match entries {
+        [] => Ok(None),
+        [first, others @ ..] => {
+            if is_whole(first, without, plan, cuts) {
+                return Ok(Some(hit_of(alloc, first)?));
+            }
+            let found = whole_in(alloc, others, without, plan, cuts)?;
+            Ok(found)
+        }
+    }
+}
+
+/// Of the entries of this plan at earlier cuts, but those whose ids are in `without`, the one that reaches
+/// furthest, and of those the one with the least id.
+pub fn best_in(
+    alloc: Global,
+    entries: &[Entry],
+    without: &[u32],
+    plan: &Plan,
+    cuts: &[Cut],
+) -> Result<Option<Hit>, Memory>
+    ensures { IfOk result (IsBestOf (asked without.now entries.now) (plan_of plan.now) cuts.now) }
+{
+    match entries {
+        [] => Ok(None),
+        [first, others @ ..] => {
+            let best = best_in(alloc, others, without, plan, cuts)?;
+            if comes_before(first, without, plan, cuts) && is_further(first, &best) {
+                return Ok(Some(hit_of(alloc, first)?));
+            }
+            Ok(best)
+        }
+    }
+}
+
+// What a rewriting names it by.
+fn hit_of(alloc: Global, entry: &Entry) -> Result<Hit, Memory>
+    ensures { IfOk result (λ hit. entry_of entry.now.plan hit ≡ looked_at entry.now) }
+{
+    Ok(Hit {
+        id: entry.id,
+        cuts: entry.cuts.try_copy(alloc)?,
+        len: entry.file.len,
+    })
+}
+
+fn is_asked(entry: &Entry, without: &[u32]) -> bool
+    ensures { result ≡ is_asked without.now entry.now }
+{
+    !without.contains(&entry.id)
+}
+
+// Whether it is asked, and of this plan and cut.
+fn is_whole(entry: &Entry, without: &[u32], plan: &Plan, cuts: &[Cut]) -> bool
+    ensures { IsTrue result ↔ (IsTrue (is_asked without.now entry.now)
+        × IsAt (looked_at entry.now) (plan_of plan.now) cuts.now) }
+{
+    is_asked(entry, without) && entry.plan.is_same(plan) && are_same_cuts(entry.cuts.items(), cuts)
+}
+
+// Whether it is asked, and of this plan and another cut, which is at or before this one.
+fn comes_before(entry: &Entry, without: &[u32], plan: &Plan, cuts: &[Cut]) -> bool
+    ensures { IsTrue result ↔ (IsTrue (is_asked without.now entry.now)
+        × ComesBefore (looked_at entry.now) (plan_of plan.now) cuts.now) }
+{
+    let old = entry.cuts.items();
+    let is_earlier = !are_same_cuts(old, cuts) && are_at_or_before(old, cuts);
+    is_asked(entry, without) && entry.plan.is_same(plan) && is_earlier
+}
+
+// Whether it reaches further than the best one, or as far with a smaller id.
+fn is_further(entry: &Entry, best: &Option<Hit>) -> bool
+    ensures { IsTrue result ↔ IsFurther (looked_at entry.now) best.now }
+{
+    match best {
+        None => true,
+        Some(best) => {
+            let (new, old) = (reach(entry.cuts.items()), reach(best.cuts.items()));
+            old < new || (old == new && entry.id < best.id)
+        }
+    }
+}

@@ -1,0 +1,91 @@
+//! What a case is given.
+
+use anyhow::{Context, Result};
+use catalog_types::Entry;
+use plan_core::Plan;
+use postfix_plans::plan_of;
+use rows_core::{Cut, Digest, FileRef, Seq};
+use std::alloc::Global;
+
+/// A plan and a cut, the ids that are left out, and the kept results.
+#[derive(Drop)]
+pub struct Case {
+    pub plan: Plan,
+    pub cuts: Seq<Cut>,
+    pub without: Vec<u32>,
+    pub entries: Vec<Entry>,
+}
+
+/// The case that is written so.
+pub fn case_of(alloc: Global, text: &str) -> Result<Case> {
+    let (plan, others) = text.split_once(" | ").context("no cut")?;
+    let (cuts, others) = others.split_once(" | ").context("no ids")?;
+    let (without, entries) = others.split_once(" | ").unwrap_or((others, ""));
+    Ok(Case {
+        plan: plan_of(alloc, plan)?,
+        cuts: cuts_of(alloc, cuts)?,
+        without: ids_of(alloc, without)?,
+        entries: entries_of(alloc, entries)?,
+    })
+}
+
+/// Ids behind commas; `-` stands for none.
+fn ids_of(alloc: Global, text: &str) -> Result<Vec<u32>> {
+    let mut ids = Vec::new(alloc);
+    if text == "-" {
+        return Ok(ids);
+    }
+    for id in text.split(',') {
+        ids.push(id.parse::<u32>().ok().context("no id")?)?;
+    }
+    Ok(ids)
+}
+
+/// Intervals, as `0-2,1-3`.
+fn cuts_of(alloc: Global, text: &str) -> Result<Seq<Cut>> {
+    let mut cuts = Vec::new(alloc);
+    for cut in text.split(',') {
+        cuts.push(cut_of(cut).context("no interval")?)?;
+    }
+    Ok(Seq::new(cuts))
+}
+
+fn cut_of(text: &str) -> Option<Cut> {
+    let (from, to) = text.split_once('-')?;
+    let from = from.parse::<u32>().ok()?;
+    let to = to.parse::<u32>().ok()?;
+    Some(Cut { from, to })
+}
+
+fn entries_of(alloc: Global, text: &str) -> Result<Vec<Entry>> {
+    let mut entries = Vec::new(alloc);
+    for line in text.split(" | ").filter(|line| !line.is_empty()) {
+        entries.push(entry_of(alloc, line)?)?;
+    }
+    Ok(entries)
+}
+
+/// A kept result: its id, the length of its file, its cut and its plan, as `7 48 0-1 s0 distinct`. All have the
+/// same keys, so that a look-up by them alone would err.
+fn entry_of(alloc: Global, text: &str) -> Result<Entry> {
+    let (id, others) = text.split_once(' ').context("no length")?;
+    let (len, others) = others.split_once(' ').context("no cut")?;
+    let (cuts, plan) = others.split_once(' ').context("no plan")?;
+    let key = Digest { bytes: [7; 32] };
+    Ok(Entry {
+        id: id.parse::<u32>().ok().context("no id")?,
+        plan: plan_of(alloc, plan)?,
+        cuts: cuts_of(alloc, cuts)?,
+        program: key,
+        key,
+        file: FileRef {
+            file: 1,
+            len: len.parse::<u64>().ok().context("no length")?,
+            digest: key,
+        },
+        machine: 1,
+        uses: 1,
+        last: 1,
+        made: 1,
+    })
+}

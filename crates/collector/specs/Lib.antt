@@ -1,0 +1,4 @@
+pub mod Candidates
+pub mod Ratio
+pub mod Standing
+pub mod Victims
