@@ -14,7 +14,7 @@ ghost use Rattle.rewriter.specs.Search.{Least, LeastOf, LeastIfAny, LeastDelta, 
 ghost use Rattle.rewriter.specs.Table.{AreFound};
 
 use crate::choosing::cheapest;
-use crate::cuts::{are_same_cuts, is_longer};
+use crate::cuts::is_longer;
 use crate::inputs::{concat_parts, is_by_row, is_distinct, join_sides, only_child, two_children};
 use crate::made::{
     both_of_join, computed_one, computed_scan, computed_two, delta_by_row, delta_concat,
@@ -23,7 +23,7 @@ use crate::made::{
 };
 use crate::priced::{Choice, Form, Priced, PricedDelta, Want};
 use crate::table::{Found, choice_in, keep};
-use estimator::{Sizes, sides};
+use estimator::{Sizes, are_same_cuts, sides};
 use plan_core::Plan;
 use rewrite_core::{Hit, Lookup};
 use rows_core::{Cut, Memory};

@@ -6,8 +6,8 @@ ghost use Rattle.rewrite_core.specs.Entries.{Entries};
 ghost use Rattle.rewriter.specs.Search.{IsChoice};
 ghost use Rattle.rewriter.specs.Table.{AreFound};
 
-use crate::cuts::are_same_cuts;
 use crate::priced::Choice;
+use estimator::are_same_cuts;
 use plan_core::Plan;
 use rows_core::{Cut, Memory, Seq};
 use std::alloc::Global;
