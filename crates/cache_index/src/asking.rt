@@ -6,8 +6,9 @@ ghost use Rattle.result_list.specs.Looking.{IsAt, ComesBefore, IsFurther, IsBest
 ghost use Rattle.cache_index.specs.Asked.{entry as looked_at, is_asked, asked};
 
 use catalog_types::Entry;
+use estimator::are_same_cuts;
 use plan_core::Plan;
-use result_list::{are_at_or_before, are_same_cuts, reach};
+use result_list::{are_at_or_before, reach};
 use rewrite_core::Hit;
 use rows_core::{Cut, Memory};
 use std::alloc::Global;

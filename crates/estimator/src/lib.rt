@@ -3,7 +3,9 @@
 #![tactic(auto)]
 
 pub mod bytes;
+pub mod cuts;
 pub mod sizes;
 
 pub use bytes::{new_bytes, sides, whole_bytes};
+pub use cuts::are_same_cuts;
 pub use sizes::Sizes;

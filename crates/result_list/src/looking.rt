@@ -7,6 +7,7 @@ ghost use Rattle.result_list.specs.Listed.{entry, entries_of};
 ghost use Rattle.result_list.specs.Looking.{IsAt, ComesBefore, IsFurther, IsBestOf};
 
 use crate::results::ListedResult;
+use estimator::are_same_cuts;
 use plan_core::Plan;
 use rewrite_core::Hit;
 use rows_core::{Cut, Memory};
@@ -79,19 +80,6 @@ fn is_further(listed: &ListedResult, best: &Option<Hit>) -> bool
             let (new, old) = (reach(listed.cuts.items()), reach(best.cuts.items()));
             old < new || (old == new && listed.id < best.id)
         }
-    }
-}
-
-/// Whether both are the same intervals.
-pub fn are_same_cuts(cuts: &[Cut], others: &[Cut]) -> bool
-    ensures { IsTrue result ↔ (cuts.now ≡ others.now) }
-{
-    match (cuts, others) {
-        ([], []) => true,
-        ([cut, cuts @ ..], [other, others @ ..]) => {
-            cut.from == other.from && cut.to == other.to && are_same_cuts(cuts, others)
-        }
-        _ => false,
     }
 }
 
