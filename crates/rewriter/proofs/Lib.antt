@@ -3,5 +3,6 @@ pub mod Formed
 pub mod LeastParts
 pub mod Shapes
 pub mod Choices
-pub mod Tables
 pub mod WellFormed
+pub mod Growths
+pub mod Tables

@@ -1,5 +1,6 @@
 pub mod Choosing
 pub mod Forms
+pub mod Growing
 pub mod InStreams
 pub mod Inputs
 pub mod Reads

@@ -9,11 +9,14 @@ use Rattle.rewrite_core.specs.Entries.{Entries}
 use Rattle.rewrite_core.specs.Estimate.{estimate_of, delta_estimate, IsLeast, IsLeastDelta}
 use Rattle.rewrite_core.specs.IsRewriting.{IsRewriting, among}
 use Rattle.rewrite_core.specs.PlainRewriting.{PlainRewriting, PlainWay, PlainDelta, rewriting_of, delta_of}
+use Rattle.rewriter.specs.declared.parts.Part.{Part}
+use Rattle.rewriter.specs.declared.parts.Stretch.{Stretch}
 use Rattle.rewriter.specs.declared.priced.Choice.{Choice}
 use Rattle.rewriter.specs.declared.priced.Form.{Form}
 use Rattle.rewriter.specs.declared.priced.Form.TheVariants as form
 use Rattle.rewriter.specs.declared.priced.Priced.{Priced}
 use Rattle.rewriter.specs.declared.priced.PricedDelta.{PricedDelta}
+use Rattle.rewriter.specs.declared.priced.PricedPair.{PricedPair}
 use Rattle.rewriter.specs.declared.priced.Want.{Want}
 use Rattle.rewriter.specs.declared.priced.Want.TheVariants as want
 use Rattle.rewriter.specs.Forms.{IsComputed, IsRead, IsGrown, IsLeastOf, HasNone, HasNoDelta}
@@ -68,6 +71,27 @@ LeastIfAny want Ways entries lengths q c (Some p) = LeastOf want Ways entries le
 abbrev pub LeastDeltaIfAny : Want → Entries → Lengths → PlainPlan → Cuts → Cuts → Option PricedDelta → Type 0
 LeastDeltaIfAny want entries lengths q old new None = HasNoDelta entries q old new
 LeastDeltaIfAny want entries lengths q old new (Some p) = LeastDelta want entries lengths q old new p
+
+-- both price least ones, of a delta between these cuts and of a rewriting at this cut
+pub record LeastPair (want : Want) (entries : Entries) (lengths : Lengths) (s : Stretch) (p : Part) (pair : PricedPair) : Type 0 where
+  pub delta : LeastDelta want entries lengths (plan_of s.plan.now) s.old.now s.new.now pair.delta
+  pub best : Least want entries lengths (plan_of p.plan.now) p.cuts.now pair.best
+
+-- they price least ones, or there is no such delta
+abbrev pub LeastPairIfAny : Want → Entries → Lengths → Stretch → Part → Option PricedPair → Type 0
+LeastPairIfAny want entries lengths s p None = HasNoDelta entries (plan_of s.plan.now) s.old.now s.new.now
+LeastPairIfAny want entries lengths s p (Some pair) = LeastPair want entries lengths s p pair
+
+-- the estimate of a least delta
+pub record IsDeltaPrice (entries : Entries) (lengths : Lengths) (q : PlainPlan) (old new : Cuts) (estimate : ℕ) : Type 0 where
+  pub of : PlainDelta
+  pub least : IsLeastDelta entries lengths q old new of
+  pub estimate_of : estimate ≡ delta_estimate lengths of
+
+-- the estimate of a least delta, or there is none
+abbrev pub IsDeltaPriceIfAny : Entries → Lengths → PlainPlan → Cuts → Cuts → Option ℕ → Type 0
+IsDeltaPriceIfAny entries lengths q old new None = HasNoDelta entries q old new
+IsDeltaPriceIfAny entries lengths q old new (Some estimate) = IsDeltaPrice entries lengths q old new estimate
 
 -- the ways of a form
 abbrev pub ways_of : Form → PlainWay → Type 0

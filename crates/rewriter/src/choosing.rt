@@ -1,14 +1,15 @@
-//! The cheapest of the three forms.
+//! The cheapest of the three forms, and what is kept of a price.
 ghost use Rattle.plan_core.specs.PlainPlan.{PlainPlan};
 ghost use Rattle.estimator.specs.Bytes.{Lengths};
 ghost use Rattle.estimator.specs.Cuts.{Cuts};
 ghost use Rattle.rewrite_core.specs.Entries.{Entries};
 ghost use Rattle.rewriter.specs.Forms.{IsComputed, IsRead, IsGrown};
-ghost use Rattle.rewriter.specs.Search.{LeastOf, LeastIfAny, IsChoice};
+ghost use Rattle.rewriter.specs.Search.{Least, LeastOf, LeastIfAny, LeastDeltaIfAny};
+ghost use Rattle.rewriter.specs.Search.{IsChoice, IsDeltaPriceIfAny};
 ghost use Rattle.rewriter.specs.Choosing.{IsCheaper};
 ghost use Rattle.rewriter.specs.declared.priced.Want.TheVariants as want;
 
-use crate::priced::{Choice, Form, Priced};
+use crate::priced::{Choice, Form, Priced, PricedDelta};
 
 /// The form with the smallest estimate; of equal ones to compute is taken before to read, and that before to
 /// grow.
@@ -42,5 +43,43 @@ fn or_cheaper(choice: Choice, form: Form, other: &Option<Priced>) -> Choice
             choice
         }
         None => choice,
+    }
+}
+
+/// The estimate of a choice alone.
+pub fn without_tree(choice: Choice) -> Priced
+    ensures { (entries : Entries) (lengths : Lengths) (q : PlainPlan) (c : Cuts)
+        → IsChoice entries lengths q c choice → Least want.Price entries lengths q c result }
+{
+    Priced {
+        estimate: choice.estimate,
+        tree: None,
+    }
+}
+
+/// The estimate of a delta, if there is one.
+pub fn price_of(delta: &Option<PricedDelta>) -> Option<u64>
+    ensures { (entries : Entries) (lengths : Lengths) (q : PlainPlan) (old new : Cuts)
+        → LeastDeltaIfAny want.Price entries lengths q old new delta.now
+        → IsDeltaPriceIfAny entries lengths q old new result }
+{
+    match delta {
+        None => None,
+        Some(delta) => Some(delta.estimate),
+    }
+}
+
+/// The estimate of a delta alone, if there is one.
+pub fn priced_alone(price: Option<u64>) -> Option<PricedDelta>
+    ensures { (entries : Entries) (lengths : Lengths) (q : PlainPlan) (old new : Cuts)
+        → IsDeltaPriceIfAny entries lengths q old new price
+        → LeastDeltaIfAny want.Price entries lengths q old new result }
+{
+    match price {
+        None => None,
+        Some(estimate) => Some(PricedDelta {
+            estimate,
+            tree: None,
+        }),
     }
 }

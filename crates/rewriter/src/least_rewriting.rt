@@ -5,8 +5,11 @@ ghost use Rattle.rewrite_core.specs.Entries.{AreSound};
 ghost use Rattle.rewrite_core.specs.Estimate.{IsLeast};
 ghost use Rattle.rewrite_core.specs.PlainRewriting.{rewriting_of};
 
+use crate::parts::Part;
+use crate::places::ROOT;
 use crate::priced::Want;
 use crate::search::least_at;
+use crate::table::Found;
 use estimator::Sizes;
 use plan_core::Typed;
 use rewrite_core::{Lookup, Rewriting};
@@ -14,7 +17,7 @@ use rows_core::{Cut, Memory};
 use std::alloc::Global;
 
 /// A rewriting of the plan at this cut over the kept results that the look-ups know, of which no other one
-/// has a smaller estimate. Each plan is asked once for each cut that it is needed at.
+/// has a smaller estimate. Each place of the plan is asked once for each cut that it is needed at.
 pub fn least<L: Lookup, Z: Sizes>(
     alloc: Global,
     plan: &Typed,
@@ -27,9 +30,13 @@ pub fn least<L: Lookup, Z: Sizes>(
     ensures { IfOk result (λ tree. IsLeast (L.entries lookup.now) (Z.lengths sizes.now) plan.now.plan
         cuts.now (rewriting_of tree)) }
 {
-    let mut found = Vec::new(alloc);
-    let plan = plan.plan();
-    let priced = least_at(alloc, Want::Tree, plan, cuts, lookup, sizes, &mut found)?;
+    let mut found = Found::new(alloc);
+    let whole = Part {
+        plan: plan.plan(),
+        place: ROOT,
+        cuts,
+    };
+    let priced = least_at(alloc, Want::Tree, whole, lookup, sizes, &mut found)?;
     match priced.tree {
         Some(tree) => Ok(tree),
         None => unreachable!(),

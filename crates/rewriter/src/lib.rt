@@ -3,13 +3,18 @@
 #![tactic(auto)]
 
 mod choosing;
+mod computing;
 mod cuts;
+mod growth;
+mod increase;
 mod inputs;
 pub mod laws;
 mod least_rewriting;
 mod made;
 mod measures;
 mod nodes;
+mod parts;
+mod places;
 mod priced;
 mod search;
 mod sums;

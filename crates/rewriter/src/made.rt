@@ -1,19 +1,23 @@
 //! A least tree of each form, made of least parts.
-ghost use Rattle.std.specs.Prelude.{◌≡◌, ◌≢◌, IfOk};
+ghost use Rattle.std.specs.Prelude.{◌≡◌, IfOk};
 ghost use Rattle.plan_core.specs.PlainPlan.{plan_of};
 ghost use Rattle.estimator.specs.Bytes.{IsCutOf};
-ghost use Rattle.rewrite_core.specs.Entries.{AreSound, IsWhole, IsEarlier};
-ghost use Rattle.rewrite_core.specs.IsRewriting.{IsScan, IsLonger, lefts, rights};
+ghost use Rattle.rewrite_core.specs.Entries.{AreSound, IsWhole};
+ghost use Rattle.rewrite_core.specs.IsRewriting.{IsScan, IsLonger};
+ghost use Rattle.rewrite_core.specs.PlainRewriting.{LeftGrew, RightGrew, OfDistinct, OfJoin};
 ghost use Rattle.rewriter.specs.Forms.{IsComputed, IsRead, IsGrown};
+ghost use Rattle.rewriter.specs.Growing.{ComputesOne, ComputesTwo, GrowsByTail, GrowsByPair, GrowsByBoth};
+ghost use Rattle.rewriter.specs.Growing.{IncreasesByChild, IncreasesByPair};
 ghost use Rattle.rewriter.specs.InStreams.{AreCutsOf};
-ghost use Rattle.rewriter.specs.Inputs.{HasChild, HasTwo, IsByRow, IsDistinct, IsJoin, IsConcat};
 ghost use Rattle.rewriter.specs.Search.{Least, LeastOf, LeastIfAny, LeastDelta, LeastDeltaIfAny};
+ghost use Rattle.rewriter.specs.Search.{LeastPair, LeastPairIfAny};
 
 use crate::nodes::{
     both_grew, left_grew, of_child, of_distinct, of_join, one, right_grew, tail, two, wanted,
     wanted_change,
 };
-use crate::priced::{Priced, PricedDelta, Want};
+use crate::parts::{BothGrown, Part, Stretch};
+use crate::priced::{Priced, PricedDelta, PricedPair, Want};
 use crate::sums::{file_len, plus};
 use estimator::{Sizes, new_bytes, whole_bytes};
 use plan_core::Plan;
@@ -25,18 +29,17 @@ use std::alloc::Global;
 pub fn computed_scan<L: Lookup, Z: Sizes>(
     alloc: Global,
     want: Want,
-    plan: &Plan,
-    cuts: &[Cut],
+    part: Part<'_, '_>,
     lookup: &L,
     sizes: &Z,
 ) -> Result<Priced, Memory>
-    requires cuts { IsCutOf (Z.lengths sizes.now) (plan_of plan.now) cuts.now }
-    requires scan { IsScan (plan_of plan.now) }
+    requires cuts { IsCutOf (Z.lengths sizes.now) (plan_of part.plan.now) part.cuts.now }
+    requires scan { IsScan (plan_of part.plan.now) }
     ensures { IfOk result (LeastOf want IsComputed (L.entries lookup.now) (Z.lengths sizes.now)
-        (plan_of plan.now) cuts.now) }
+        (plan_of part.entry.plan.now) part.entry.cuts.now) }
 {
-    let estimate = whole_bytes(plan, cuts, sizes);
-    let tree = wanted(alloc, want, plan, cuts, Way::Scan)?;
+    let estimate = whole_bytes(part.plan, part.cuts, sizes);
+    let tree = wanted(alloc, want, part.plan, part.cuts, Way::Scan)?;
     Ok(Priced { estimate, tree })
 }
 
@@ -44,22 +47,22 @@ pub fn computed_scan<L: Lookup, Z: Sizes>(
 pub fn computed_one<L: Lookup, Z: Sizes>(
     alloc: Global,
     want: Want,
-    plan: &Plan,
-    cuts: &[Cut],
-    child: &Plan,
+    part: Part<'_, '_>,
+    input: Part<'_, '_>,
     best: Priced,
     lookup: &L,
     sizes: &Z,
 ) -> Result<Priced, Memory>
-    requires cuts { IsCutOf (Z.lengths sizes.now) (plan_of plan.now) cuts.now }
-    requires child { HasChild (plan_of plan.now) (plan_of child.now) }
+    requires cuts { IsCutOf (Z.lengths sizes.now) (plan_of part.plan.now) part.cuts.now }
+    requires by { ComputesOne (L.entries lookup.now) (Z.lengths sizes.now) (plan_of part.plan.now)
+        part.cuts.now input }
     requires best { Least want (L.entries lookup.now) (Z.lengths sizes.now)
-        (plan_of child.now) cuts.now best }
+        (plan_of input.plan.now) input.cuts.now best }
     ensures { IfOk result (LeastOf want IsComputed (L.entries lookup.now) (Z.lengths sizes.now)
-        (plan_of plan.now) cuts.now) }
+        (plan_of part.entry.plan.now) part.entry.cuts.now) }
 {
-    let estimate = plus(best.estimate, whole_bytes(plan, cuts, sizes));
-    let tree = one(alloc, plan, cuts, best.tree)?;
+    let estimate = plus(best.estimate, whole_bytes(part.plan, part.cuts, sizes));
+    let tree = one(alloc, part.plan, part.cuts, best.tree)?;
     Ok(Priced { estimate, tree })
 }
 
@@ -67,27 +70,27 @@ pub fn computed_one<L: Lookup, Z: Sizes>(
 pub fn computed_two<L: Lookup, Z: Sizes>(
     alloc: Global,
     want: Want,
-    plan: &Plan,
-    cuts: &[Cut],
-    left: &Plan,
-    right: &Plan,
+    part: Part<'_, '_>,
+    left: Part<'_, '_>,
+    right: Part<'_, '_>,
     best_left: Priced,
     best_right: Priced,
     lookup: &L,
     sizes: &Z,
 ) -> Result<Priced, Memory>
-    requires cuts { IsCutOf (Z.lengths sizes.now) (plan_of plan.now) cuts.now }
-    requires two { HasTwo (plan_of plan.now) (plan_of left.now) (plan_of right.now) }
+    requires cuts { IsCutOf (Z.lengths sizes.now) (plan_of part.plan.now) part.cuts.now }
+    requires by { ComputesTwo (L.entries lookup.now) (Z.lengths sizes.now) (plan_of part.plan.now)
+        part.cuts.now left right }
     requires best_left { Least want (L.entries lookup.now) (Z.lengths sizes.now)
-        (plan_of left.now) (lefts (plan_of left.now) cuts.now) best_left }
+        (plan_of left.plan.now) left.cuts.now best_left }
     requires best_right { Least want (L.entries lookup.now) (Z.lengths sizes.now)
-        (plan_of right.now) (rights (plan_of left.now) cuts.now) best_right }
+        (plan_of right.plan.now) right.cuts.now best_right }
     ensures { IfOk result (LeastOf want IsComputed (L.entries lookup.now) (Z.lengths sizes.now)
-        (plan_of plan.now) cuts.now) }
+        (plan_of part.entry.plan.now) part.entry.cuts.now) }
 {
     let inputs = plus(best_left.estimate, best_right.estimate);
-    let estimate = plus(inputs, whole_bytes(plan, cuts, sizes));
-    let tree = two(alloc, plan, cuts, best_left.tree, best_right.tree)?;
+    let estimate = plus(inputs, whole_bytes(part.plan, part.cuts, sizes));
+    let tree = two(alloc, part.plan, part.cuts, best_left.tree, best_right.tree)?;
     Ok(Priced { estimate, tree })
 }
 
@@ -111,244 +114,235 @@ pub fn read_whole<L: Lookup, Z: Sizes>(
     Ok(Priced { estimate, tree })
 }
 
-/// The earlier result and a least delta of the only input, if it has one.
-pub fn grown_of_one<L: Lookup, Z: Sizes>(
+/// The earlier result and a least delta of the part by which it is grown, if that has one.
+pub fn grown_tail<L: Lookup, Z: Sizes>(
     alloc: Global,
     want: Want,
-    plan: &Plan,
-    cuts: &[Cut],
-    hit: Hit,
-    child: &Plan,
+    part: Part<'_, '_>,
+    hit: &Hit,
+    stretch: Stretch<'_, '_>,
     delta: Option<PricedDelta>,
     lookup: &L,
     sizes: &Z,
 ) -> Result<Option<Priced>, Memory>
-    requires sound { AreSound (L.entries lookup.now) }
-    requires cuts { IsCutOf (Z.lengths sizes.now) (plan_of plan.now) cuts.now }
-    requires hit { IsEarlier (L.entries lookup.now) (plan_of plan.now) cuts.now hit }
-    requires child { HasChild (plan_of plan.now) (plan_of child.now) }
+    requires cuts { AreCutsOf (Z.lengths sizes.now) (plan_of part.plan.now) hit.now.cuts part.cuts.now }
+    requires by { GrowsByTail (L.entries lookup.now) (Z.lengths sizes.now) (plan_of part.plan.now)
+        part.cuts.now hit.now stretch }
     requires delta { LeastDeltaIfAny want (L.entries lookup.now) (Z.lengths sizes.now)
-        (plan_of child.now) hit.cuts cuts.now delta }
+        (plan_of stretch.plan.now) stretch.old.now stretch.new.now delta }
     ensures { IfOk result (LeastIfAny want IsGrown (L.entries lookup.now) (Z.lengths sizes.now)
-        (plan_of plan.now) cuts.now) }
+        (plan_of part.entry.plan.now) part.entry.cuts.now) }
 {
     match delta {
         None => Ok(None),
         Some(delta) => {
-            let parts = plus(file_len(&hit), delta.estimate);
-            let estimate = plus(parts, new_bytes(plan, hit.cuts.items(), cuts, sizes));
-            let tree = tail(alloc, plan, cuts, hit, delta.tree)?;
-            Ok(Some(Priced { estimate, tree }))
-        }
-    }
-}
-
-/// The earlier result of a concatenation and a least delta of its right input, if that has one.
-pub fn grown_of_concat<L: Lookup, Z: Sizes>(
-    alloc: Global,
-    want: Want,
-    plan: &Plan,
-    cuts: &[Cut],
-    hit: Hit,
-    left: &Plan,
-    right: &Plan,
-    delta: Option<PricedDelta>,
-    lookup: &L,
-    sizes: &Z,
-) -> Result<Option<Priced>, Memory>
-    requires sound { AreSound (L.entries lookup.now) }
-    requires cuts { IsCutOf (Z.lengths sizes.now) (plan_of plan.now) cuts.now }
-    requires hit { IsEarlier (L.entries lookup.now) (plan_of plan.now) cuts.now hit }
-    requires parts { IsConcat (plan_of plan.now) (plan_of left.now) (plan_of right.now) }
-    requires same { lefts (plan_of left.now) hit.cuts ≡ lefts (plan_of left.now) cuts.now }
-    requires delta { LeastDeltaIfAny want (L.entries lookup.now) (Z.lengths sizes.now)
-        (plan_of right.now) (rights (plan_of left.now) hit.cuts) (rights (plan_of left.now) cuts.now) delta }
-    ensures { IfOk result (LeastIfAny want IsGrown (L.entries lookup.now) (Z.lengths sizes.now)
-        (plan_of plan.now) cuts.now) }
-{
-    match delta {
-        None => Ok(None),
-        Some(delta) => {
-            let parts = plus(file_len(&hit), delta.estimate);
-            let estimate = plus(parts, new_bytes(plan, hit.cuts.items(), cuts, sizes));
-            let tree = tail(alloc, plan, cuts, hit, delta.tree)?;
+            let parts = plus(file_len(hit), delta.estimate);
+            let estimate = plus(
+                parts,
+                new_bytes(part.plan, hit.cuts.items(), part.cuts, sizes),
+            );
+            let tree = tail(alloc, part.plan, part.cuts, hit, delta.tree)?;
             Ok(Some(Priced { estimate, tree }))
         }
     }
 }
 
 /// The earlier result of a join, a least delta of its left input and a least tree of its right one.
-pub fn left_of_join<L: Lookup, Z: Sizes>(
+pub fn grown_left<L: Lookup, Z: Sizes>(
     alloc: Global,
     want: Want,
-    plan: &Plan,
-    cuts: &[Cut],
-    hit: Hit,
-    left: &Plan,
-    right: &Plan,
-    delta: PricedDelta,
-    best: Priced,
+    part: Part<'_, '_>,
+    hit: &Hit,
+    left: Stretch<'_, '_>,
+    right: Part<'_, '_>,
+    pair: Option<PricedPair>,
     lookup: &L,
     sizes: &Z,
-) -> Result<Priced, Memory>
-    requires sound { AreSound (L.entries lookup.now) }
-    requires cuts { IsCutOf (Z.lengths sizes.now) (plan_of plan.now) cuts.now }
-    requires hit { IsEarlier (L.entries lookup.now) (plan_of plan.now) cuts.now hit }
-    requires sides { IsJoin (plan_of plan.now) (plan_of left.now) (plan_of right.now) }
-    requires same { rights (plan_of left.now) hit.cuts ≡ rights (plan_of left.now) cuts.now }
-    requires delta { LeastDelta want (L.entries lookup.now) (Z.lengths sizes.now)
-        (plan_of left.now) (lefts (plan_of left.now) hit.cuts) (lefts (plan_of left.now) cuts.now) delta }
-    requires best { Least want (L.entries lookup.now) (Z.lengths sizes.now)
-        (plan_of right.now) (rights (plan_of left.now) cuts.now) best }
-    ensures { IfOk result (LeastOf want IsGrown (L.entries lookup.now) (Z.lengths sizes.now)
-        (plan_of plan.now) cuts.now) }
+) -> Result<Option<Priced>, Memory>
+    requires cuts { AreCutsOf (Z.lengths sizes.now) (plan_of part.plan.now) hit.now.cuts part.cuts.now }
+    requires by { GrowsByPair (λ d r. LeftGrew hit.now d r) (L.entries lookup.now) (Z.lengths sizes.now)
+        (plan_of part.plan.now) part.cuts.now left right }
+    requires pair { LeastPairIfAny want (L.entries lookup.now) (Z.lengths sizes.now) left right pair }
+    ensures { IfOk result (LeastIfAny want IsGrown (L.entries lookup.now) (Z.lengths sizes.now)
+        (plan_of part.entry.plan.now) part.entry.cuts.now) }
 {
-    let parts = plus(plus(file_len(&hit), delta.estimate), best.estimate);
-    let estimate = plus(parts, new_bytes(plan, hit.cuts.items(), cuts, sizes));
-    let tree = left_grew(alloc, plan, cuts, hit, delta.tree, best.tree)?;
-    Ok(Priced { estimate, tree })
+    match pair {
+        None => Ok(None),
+        Some(PricedPair { delta, best }) => {
+            let parts = plus(plus(file_len(hit), delta.estimate), best.estimate);
+            let estimate = plus(
+                parts,
+                new_bytes(part.plan, hit.cuts.items(), part.cuts, sizes),
+            );
+            let tree = left_grew(alloc, part.plan, part.cuts, hit, delta.tree, best.tree)?;
+            Ok(Some(Priced { estimate, tree }))
+        }
+    }
 }
 
 /// The earlier result of a join, a least tree of its left input and a least delta of its right one.
-pub fn right_of_join<L: Lookup, Z: Sizes>(
+pub fn grown_right<L: Lookup, Z: Sizes>(
     alloc: Global,
     want: Want,
-    plan: &Plan,
-    cuts: &[Cut],
-    hit: Hit,
-    left: &Plan,
-    right: &Plan,
-    best: Priced,
-    delta: PricedDelta,
+    part: Part<'_, '_>,
+    hit: &Hit,
+    left: Part<'_, '_>,
+    right: Stretch<'_, '_>,
+    pair: Option<PricedPair>,
     lookup: &L,
     sizes: &Z,
-) -> Result<Priced, Memory>
-    requires sound { AreSound (L.entries lookup.now) }
-    requires cuts { IsCutOf (Z.lengths sizes.now) (plan_of plan.now) cuts.now }
-    requires hit { IsEarlier (L.entries lookup.now) (plan_of plan.now) cuts.now hit }
-    requires sides { IsJoin (plan_of plan.now) (plan_of left.now) (plan_of right.now) }
-    requires same { lefts (plan_of left.now) hit.cuts ≡ lefts (plan_of left.now) cuts.now }
-    requires best { Least want (L.entries lookup.now) (Z.lengths sizes.now)
-        (plan_of left.now) (lefts (plan_of left.now) cuts.now) best }
-    requires delta { LeastDelta want (L.entries lookup.now) (Z.lengths sizes.now)
-        (plan_of right.now) (rights (plan_of left.now) hit.cuts) (rights (plan_of left.now) cuts.now) delta }
-    ensures { IfOk result (LeastOf want IsGrown (L.entries lookup.now) (Z.lengths sizes.now)
-        (plan_of plan.now) cuts.now) }
+) -> Result<Option<Priced>, Memory>
+    requires cuts { AreCutsOf (Z.lengths sizes.now) (plan_of part.plan.now) hit.now.cuts part.cuts.now }
+    requires by { GrowsByPair (λ d r. RightGrew hit.now r d) (L.entries lookup.now) (Z.lengths sizes.now)
+        (plan_of part.plan.now) part.cuts.now right left }
+    requires pair { LeastPairIfAny want (L.entries lookup.now) (Z.lengths sizes.now) right left pair }
+    ensures { IfOk result (LeastIfAny want IsGrown (L.entries lookup.now) (Z.lengths sizes.now)
+        (plan_of part.entry.plan.now) part.entry.cuts.now) }
 {
-    let parts = plus(plus(file_len(&hit), best.estimate), delta.estimate);
-    let estimate = plus(parts, new_bytes(plan, hit.cuts.items(), cuts, sizes));
-    let tree = right_grew(alloc, plan, cuts, hit, best.tree, delta.tree)?;
-    Ok(Priced { estimate, tree })
+    match pair {
+        None => Ok(None),
+        Some(PricedPair { delta, best }) => {
+            let parts = plus(plus(file_len(hit), best.estimate), delta.estimate);
+            let estimate = plus(
+                parts,
+                new_bytes(part.plan, hit.cuts.items(), part.cuts, sizes),
+            );
+            let tree = right_grew(alloc, part.plan, part.cuts, hit, best.tree, delta.tree)?;
+            Ok(Some(Priced { estimate, tree }))
+        }
+    }
 }
 
-/// The earlier result of a join whose two inputs have grown.
-pub fn both_of_join<L: Lookup, Z: Sizes>(
+/// The earlier result of a join whose two inputs have grown: before is what the right delta meets, and behind
+/// what the left one does.
+pub fn grown_both<L: Lookup, Z: Sizes>(
     alloc: Global,
     want: Want,
-    plan: &Plan,
-    cuts: &[Cut],
-    hit: Hit,
-    left: &Plan,
-    right: &Plan,
-    old_left: Priced,
-    right_delta: PricedDelta,
-    left_delta: PricedDelta,
-    best_right: Priced,
+    part: Part<'_, '_>,
+    hit: &Hit,
+    parts: BothGrown<'_, '_>,
+    before: Option<PricedPair>,
+    behind: Option<PricedPair>,
     lookup: &L,
     sizes: &Z,
-) -> Result<Priced, Memory>
-    requires sound { AreSound (L.entries lookup.now) }
-    requires cuts { IsCutOf (Z.lengths sizes.now) (plan_of plan.now) cuts.now }
-    requires hit { IsEarlier (L.entries lookup.now) (plan_of plan.now) cuts.now hit }
-    requires sides { IsJoin (plan_of plan.now) (plan_of left.now) (plan_of right.now) }
-    requires lefts { lefts (plan_of left.now) hit.cuts ≢ lefts (plan_of left.now) cuts.now }
-    requires rights { rights (plan_of left.now) hit.cuts ≢ rights (plan_of left.now) cuts.now }
-    requires old_left { Least want (L.entries lookup.now) (Z.lengths sizes.now)
-        (plan_of left.now) (lefts (plan_of left.now) hit.cuts) old_left }
-    requires right_delta { LeastDelta want (L.entries lookup.now) (Z.lengths sizes.now)
-        (plan_of right.now) (rights (plan_of left.now) hit.cuts)
-        (rights (plan_of left.now) cuts.now) right_delta }
-    requires left_delta { LeastDelta want (L.entries lookup.now) (Z.lengths sizes.now)
-        (plan_of left.now) (lefts (plan_of left.now) hit.cuts)
-        (lefts (plan_of left.now) cuts.now) left_delta }
-    requires best_right { Least want (L.entries lookup.now) (Z.lengths sizes.now)
-        (plan_of right.now) (rights (plan_of left.now) cuts.now) best_right }
-    ensures { IfOk result (LeastOf want IsGrown (L.entries lookup.now) (Z.lengths sizes.now)
-        (plan_of plan.now) cuts.now) }
+) -> Result<Option<Priced>, Memory>
+    requires cuts { AreCutsOf (Z.lengths sizes.now) (plan_of part.plan.now) hit.now.cuts part.cuts.now }
+    requires by { GrowsByBoth (L.entries lookup.now) (Z.lengths sizes.now)
+        (plan_of part.plan.now) part.cuts.now hit.now parts }
+    requires before { LeastPairIfAny want (L.entries lookup.now) (Z.lengths sizes.now)
+        parts.right_delta parts.old_left before }
+    requires behind { LeastPairIfAny want (L.entries lookup.now) (Z.lengths sizes.now)
+        parts.left_delta parts.right behind }
+    ensures { IfOk result (LeastIfAny want IsGrown (L.entries lookup.now) (Z.lengths sizes.now)
+        (plan_of part.entry.plan.now) part.entry.cuts.now) }
 {
-    let lefts = plus(file_len(&hit), old_left.estimate);
-    let deltas = plus(plus(lefts, right_delta.estimate), left_delta.estimate);
-    let parts = plus(deltas, best_right.estimate);
-    let estimate = plus(parts, new_bytes(plan, hit.cuts.items(), cuts, sizes));
-    let (before, right) = (old_left.tree, best_right.tree);
-    let (of_right, of_left) = (right_delta.tree, left_delta.tree);
-    let tree = both_grew(alloc, plan, cuts, hit, before, of_right, of_left, right)?;
-    Ok(Priced { estimate, tree })
+    match before {
+        None => Ok(None),
+        Some(before) => grown_of_both(alloc, want, part, hit, parts, before, behind, lookup, sizes),
+    }
+}
+
+// The same with what the right delta meets.
+fn grown_of_both<L: Lookup, Z: Sizes>(
+    alloc: Global,
+    want: Want,
+    part: Part<'_, '_>,
+    hit: &Hit,
+    parts: BothGrown<'_, '_>,
+    before: PricedPair,
+    behind: Option<PricedPair>,
+    lookup: &L,
+    sizes: &Z,
+) -> Result<Option<Priced>, Memory>
+    requires cuts { AreCutsOf (Z.lengths sizes.now) (plan_of part.plan.now) hit.now.cuts part.cuts.now }
+    requires by { GrowsByBoth (L.entries lookup.now) (Z.lengths sizes.now)
+        (plan_of part.plan.now) part.cuts.now hit.now parts }
+    requires before { LeastPair want (L.entries lookup.now) (Z.lengths sizes.now)
+        parts.right_delta parts.old_left before }
+    requires behind { LeastPairIfAny want (L.entries lookup.now) (Z.lengths sizes.now)
+        parts.left_delta parts.right behind }
+    ensures { IfOk result (LeastIfAny want IsGrown (L.entries lookup.now) (Z.lengths sizes.now)
+        (plan_of part.entry.plan.now) part.entry.cuts.now) }
+{
+    match behind {
+        None => Ok(None),
+        Some(PricedPair { delta, best }) => {
+            let lefts = plus(file_len(hit), before.best.estimate);
+            let deltas = plus(plus(lefts, before.delta.estimate), delta.estimate);
+            let all = plus(deltas, best.estimate);
+            let estimate = plus(
+                all,
+                new_bytes(part.plan, hit.cuts.items(), part.cuts, sizes),
+            );
+            let (old_left, more_right) = (before.best.tree, before.delta.tree);
+            let (more_left, right) = (delta.tree, best.tree);
+            let tree = both_grew(
+                alloc, part.plan, part.cuts, hit, old_left, more_right, more_left, right,
+            )?;
+            Ok(Some(Priced { estimate, tree }))
+        }
+    }
 }
 
 /// No rows came.
 pub fn unchanged<L: Lookup, Z: Sizes>(
     alloc: Global,
     want: Want,
-    plan: &Plan,
-    old: &[Cut],
-    new: &[Cut],
+    stretch: Stretch<'_, '_>,
     lookup: &L,
     sizes: &Z,
-) -> Result<PricedDelta, Memory>
-    requires same { old.now ≡ new.now }
-    ensures { IfOk result (LeastDelta want (L.entries lookup.now) (Z.lengths sizes.now)
-        (plan_of plan.now) old.now new.now) }
+) -> Result<Option<PricedDelta>, Memory>
+    requires same { stretch.old.now ≡ stretch.new.now }
+    ensures { IfOk result (LeastDeltaIfAny want (L.entries lookup.now) (Z.lengths sizes.now)
+        (plan_of stretch.entry.plan.now) stretch.entry.old.now stretch.entry.new.now) }
 {
+    let (plan, old, new) = (stretch.plan, stretch.old, stretch.new);
     let tree = wanted_change(alloc, want, plan, old, new, DeltaWay::Unchanged)?;
-    Ok(PricedDelta { estimate: 0, tree })
+    Ok(Some(PricedDelta { estimate: 0, tree }))
 }
 
 /// The new extents of a scan.
 pub fn new_rows<L: Lookup, Z: Sizes>(
     alloc: Global,
     want: Want,
-    plan: &Plan,
-    old: &[Cut],
-    new: &[Cut],
+    stretch: Stretch<'_, '_>,
     lookup: &L,
     sizes: &Z,
-) -> Result<PricedDelta, Memory>
-    requires cuts { AreCutsOf (Z.lengths sizes.now) (plan_of plan.now) old.now new.now }
-    requires scan { IsScan (plan_of plan.now) }
-    requires longer { IsLonger old.now new.now }
-    ensures { IfOk result (LeastDelta want (L.entries lookup.now) (Z.lengths sizes.now)
-        (plan_of plan.now) old.now new.now) }
+) -> Result<Option<PricedDelta>, Memory>
+    requires cuts { AreCutsOf (Z.lengths sizes.now) (plan_of stretch.plan.now) stretch.old.now
+        stretch.new.now }
+    requires longer { IsScan (plan_of stretch.plan.now) × IsLonger stretch.old.now stretch.new.now }
+    ensures { IfOk result (LeastDeltaIfAny want (L.entries lookup.now) (Z.lengths sizes.now)
+        (plan_of stretch.entry.plan.now) stretch.entry.old.now stretch.entry.new.now) }
 {
+    let (plan, old, new) = (stretch.plan, stretch.old, stretch.new);
     let estimate = new_bytes(plan, old, new, sizes);
     let tree = wanted_change(alloc, want, plan, old, new, DeltaWay::Scan)?;
-    Ok(PricedDelta { estimate, tree })
+    Ok(Some(PricedDelta { estimate, tree }))
 }
 
-/// The operator over a least delta of its input, if it has one.
-pub fn delta_by_row<L: Lookup, Z: Sizes>(
+/// A least delta of the part of which it is made, if that has one.
+pub fn delta_of_child<L: Lookup, Z: Sizes>(
     alloc: Global,
     want: Want,
-    plan: &Plan,
-    old: &[Cut],
-    new: &[Cut],
-    child: &Plan,
+    stretch: Stretch<'_, '_>,
+    child: Stretch<'_, '_>,
     delta: Option<PricedDelta>,
     lookup: &L,
     sizes: &Z,
 ) -> Result<Option<PricedDelta>, Memory>
-    requires cuts { AreCutsOf (Z.lengths sizes.now) (plan_of plan.now) old.now new.now }
-    requires differ { old.now ≢ new.now }
-    requires row { IsByRow (plan_of plan.now) }
-    requires child { HasChild (plan_of plan.now) (plan_of child.now) }
+    requires cuts { AreCutsOf (Z.lengths sizes.now) (plan_of stretch.plan.now) stretch.old.now stretch.new.now }
+    requires by { IncreasesByChild (L.entries lookup.now) (Z.lengths sizes.now) (plan_of stretch.plan.now)
+        stretch.old.now stretch.new.now child }
     requires delta { LeastDeltaIfAny want (L.entries lookup.now) (Z.lengths sizes.now)
-        (plan_of child.now) old.now new.now delta }
+        (plan_of child.plan.now) child.old.now child.new.now delta }
     ensures { IfOk result (LeastDeltaIfAny want (L.entries lookup.now) (Z.lengths sizes.now)
-        (plan_of plan.now) old.now new.now) }
+        (plan_of stretch.entry.plan.now) stretch.entry.old.now stretch.entry.new.now) }
 {
     match delta {
         None => Ok(None),
         Some(delta) => {
+            let (plan, old, new) = (stretch.plan, stretch.old, stretch.new);
             let estimate = plus(delta.estimate, new_bytes(plan, old, new, sizes));
             let tree = of_child(alloc, plan, old, new, delta.tree)?;
             Ok(Some(PricedDelta { estimate, tree }))
@@ -357,94 +351,61 @@ pub fn delta_by_row<L: Lookup, Z: Sizes>(
 }
 
 /// What a least delta of a distinct's input has that its old result lacks.
-pub fn delta_distinct<L: Lookup, Z: Sizes>(
+pub fn delta_of_distinct<L: Lookup, Z: Sizes>(
     alloc: Global,
     want: Want,
-    plan: &Plan,
-    old: &[Cut],
-    new: &[Cut],
-    child: &Plan,
-    before: Priced,
-    delta: PricedDelta,
-    lookup: &L,
-    sizes: &Z,
-) -> Result<PricedDelta, Memory>
-    requires cuts { AreCutsOf (Z.lengths sizes.now) (plan_of plan.now) old.now new.now }
-    requires differ { old.now ≢ new.now }
-    requires distinct { IsDistinct (plan_of plan.now) }
-    requires child { HasChild (plan_of plan.now) (plan_of child.now) }
-    requires before { Least want (L.entries lookup.now) (Z.lengths sizes.now)
-        (plan_of plan.now) old.now before }
-    requires delta { LeastDelta want (L.entries lookup.now) (Z.lengths sizes.now)
-        (plan_of child.now) old.now new.now delta }
-    ensures { IfOk result (LeastDelta want (L.entries lookup.now) (Z.lengths sizes.now)
-        (plan_of plan.now) old.now new.now) }
-{
-    let parts = plus(before.estimate, delta.estimate);
-    let estimate = plus(parts, new_bytes(plan, old, new, sizes));
-    let tree = of_distinct(alloc, plan, old, new, before.tree, delta.tree)?;
-    Ok(PricedDelta { estimate, tree })
-}
-
-/// A least delta of the right input of a concatenation, if it has one.
-pub fn delta_concat<L: Lookup, Z: Sizes>(
-    alloc: Global,
-    want: Want,
-    plan: &Plan,
-    old: &[Cut],
-    new: &[Cut],
-    left: &Plan,
-    right: &Plan,
-    delta: Option<PricedDelta>,
+    stretch: Stretch<'_, '_>,
+    before: Part<'_, '_>,
+    child: Stretch<'_, '_>,
+    pair: Option<PricedPair>,
     lookup: &L,
     sizes: &Z,
 ) -> Result<Option<PricedDelta>, Memory>
-    requires cuts { AreCutsOf (Z.lengths sizes.now) (plan_of plan.now) old.now new.now }
-    requires differ { old.now ≢ new.now }
-    requires parts { IsConcat (plan_of plan.now) (plan_of left.now) (plan_of right.now) }
-    requires same { lefts (plan_of left.now) old.now ≡ lefts (plan_of left.now) new.now }
-    requires delta { LeastDeltaIfAny want (L.entries lookup.now) (Z.lengths sizes.now)
-        (plan_of right.now) (rights (plan_of left.now) old.now) (rights (plan_of left.now) new.now) delta }
+    requires cuts { AreCutsOf (Z.lengths sizes.now) (plan_of stretch.plan.now) stretch.old.now stretch.new.now }
+    requires by { IncreasesByPair (λ d r. OfDistinct r d) (L.entries lookup.now) (Z.lengths sizes.now)
+        (plan_of stretch.plan.now) stretch.old.now stretch.new.now child before }
+    requires pair { LeastPairIfAny want (L.entries lookup.now) (Z.lengths sizes.now) child before pair }
     ensures { IfOk result (LeastDeltaIfAny want (L.entries lookup.now) (Z.lengths sizes.now)
-        (plan_of plan.now) old.now new.now) }
+        (plan_of stretch.entry.plan.now) stretch.entry.old.now stretch.entry.new.now) }
 {
-    match delta {
+    match pair {
         None => Ok(None),
-        Some(delta) => {
-            let estimate = plus(delta.estimate, new_bytes(plan, old, new, sizes));
-            let tree = of_child(alloc, plan, old, new, delta.tree)?;
+        Some(PricedPair { delta, best }) => {
+            let parts = plus(best.estimate, delta.estimate);
+            let (plan, old, new) = (stretch.plan, stretch.old, stretch.new);
+            let estimate = plus(parts, new_bytes(plan, old, new, sizes));
+            let tree = of_distinct(alloc, plan, old, new, best.tree, delta.tree)?;
             Ok(Some(PricedDelta { estimate, tree }))
         }
     }
 }
 
 /// The join of a least delta of the left input with a least tree of the right one.
-pub fn delta_join<L: Lookup, Z: Sizes>(
+pub fn delta_of_join<L: Lookup, Z: Sizes>(
     alloc: Global,
     want: Want,
-    plan: &Plan,
-    old: &[Cut],
-    new: &[Cut],
-    left: &Plan,
-    right: &Plan,
-    delta: PricedDelta,
-    best: Priced,
+    stretch: Stretch<'_, '_>,
+    left: Stretch<'_, '_>,
+    right: Part<'_, '_>,
+    pair: Option<PricedPair>,
     lookup: &L,
     sizes: &Z,
-) -> Result<PricedDelta, Memory>
-    requires cuts { AreCutsOf (Z.lengths sizes.now) (plan_of plan.now) old.now new.now }
-    requires differ { old.now ≢ new.now }
-    requires sides { IsJoin (plan_of plan.now) (plan_of left.now) (plan_of right.now) }
-    requires same { rights (plan_of left.now) old.now ≡ rights (plan_of left.now) new.now }
-    requires delta { LeastDelta want (L.entries lookup.now) (Z.lengths sizes.now)
-        (plan_of left.now) (lefts (plan_of left.now) old.now) (lefts (plan_of left.now) new.now) delta }
-    requires best { Least want (L.entries lookup.now) (Z.lengths sizes.now)
-        (plan_of right.now) (rights (plan_of left.now) new.now) best }
-    ensures { IfOk result (LeastDelta want (L.entries lookup.now) (Z.lengths sizes.now)
-        (plan_of plan.now) old.now new.now) }
+) -> Result<Option<PricedDelta>, Memory>
+    requires cuts { AreCutsOf (Z.lengths sizes.now) (plan_of stretch.plan.now) stretch.old.now stretch.new.now }
+    requires by { IncreasesByPair (λ d r. OfJoin d r) (L.entries lookup.now) (Z.lengths sizes.now)
+        (plan_of stretch.plan.now) stretch.old.now stretch.new.now left right }
+    requires pair { LeastPairIfAny want (L.entries lookup.now) (Z.lengths sizes.now) left right pair }
+    ensures { IfOk result (LeastDeltaIfAny want (L.entries lookup.now) (Z.lengths sizes.now)
+        (plan_of stretch.entry.plan.now) stretch.entry.old.now stretch.entry.new.now) }
 {
-    let parts = plus(delta.estimate, best.estimate);
-    let estimate = plus(parts, new_bytes(plan, old, new, sizes));
-    let tree = of_join(alloc, plan, old, new, delta.tree, best.tree)?;
-    Ok(PricedDelta { estimate, tree })
+    match pair {
+        None => Ok(None),
+        Some(PricedPair { delta, best }) => {
+            let parts = plus(delta.estimate, best.estimate);
+            let (plan, old, new) = (stretch.plan, stretch.old, stretch.new);
+            let estimate = plus(parts, new_bytes(plan, old, new, sizes));
+            let tree = of_join(alloc, plan, old, new, delta.tree, best.tree)?;
+            Ok(Some(PricedDelta { estimate, tree }))
+        }
+    }
 }

@@ -129,14 +129,26 @@ fn grown(
     alloc: Global,
     plan: &Plan,
     cuts: &[Cut],
-    hit: Hit,
+    hit: &Hit,
     parts: Parts,
 ) -> Result<Rewriting, Memory>
     ensures { IfOk result
-        (λ tree. rewriting_of tree ≡ Node (plan_of plan.now) cuts.now (grown_way hit parts)) }
+        (λ tree. rewriting_of tree ≡ Node (plan_of plan.now) cuts.now (grown_way hit.now parts)) }
 {
+    let hit = copied(alloc, hit)?;
     let parts = Box::new(alloc, parts)?;
     node(alloc, plan, cuts, Way::Grown { hit, parts })
+}
+
+// A second hit that equals this one.
+fn copied(alloc: Global, hit: &Hit) -> Result<Hit, Memory>
+    ensures { IfOk result (λ copy. copy ≡ hit.now) }
+{
+    Ok(Hit {
+        id: hit.id,
+        cuts: hit.cuts.try_copy(alloc)?,
+        len: hit.len,
+    })
 }
 
 /// An earlier result and the delta of the only input, or of the right one of a concatenation.
@@ -144,11 +156,11 @@ pub fn tail(
     alloc: Global,
     plan: &Plan,
     cuts: &[Cut],
-    hit: Hit,
+    hit: &Hit,
     delta: Option<Delta>,
 ) -> Result<Option<Rewriting>, Memory>
     ensures shown { IfOk result (λ made. (d : PlainDelta) → ShowsDelta delta d
-        → Shows made (Node (plan_of plan.now) cuts.now (Tail hit d))) }
+        → Shows made (Node (plan_of plan.now) cuts.now (Tail hit.now d))) }
     ensures given { IfOk result (λ made. (want : Want) → IsGiven want delta → IsGiven want made) }
 {
     match delta {
@@ -162,12 +174,12 @@ pub fn left_grew(
     alloc: Global,
     plan: &Plan,
     cuts: &[Cut],
-    hit: Hit,
+    hit: &Hit,
     delta: Option<Delta>,
     right: Option<Rewriting>,
 ) -> Result<Option<Rewriting>, Memory>
     ensures shown { IfOk result (λ made. (d : PlainDelta) (r : PlainRewriting) → ShowsDelta delta d
-        → Shows right r → Shows made (Node (plan_of plan.now) cuts.now (LeftGrew hit d r))) }
+        → Shows right r → Shows made (Node (plan_of plan.now) cuts.now (LeftGrew hit.now d r))) }
     ensures given { IfOk result (λ made. (want : Want) → IsGiven want delta → IsGiven want right
         → IsGiven want made) }
 {
@@ -186,12 +198,12 @@ pub fn right_grew(
     alloc: Global,
     plan: &Plan,
     cuts: &[Cut],
-    hit: Hit,
+    hit: &Hit,
     left: Option<Rewriting>,
     delta: Option<Delta>,
 ) -> Result<Option<Rewriting>, Memory>
     ensures shown { IfOk result (λ made. (l : PlainRewriting) (d : PlainDelta) → Shows left l
-        → ShowsDelta delta d → Shows made (Node (plan_of plan.now) cuts.now (RightGrew hit l d))) }
+        → ShowsDelta delta d → Shows made (Node (plan_of plan.now) cuts.now (RightGrew hit.now l d))) }
     ensures given { IfOk result (λ made. (want : Want) → IsGiven want left → IsGiven want delta
         → IsGiven want made) }
 {
@@ -210,7 +222,7 @@ pub fn both_grew(
     alloc: Global,
     plan: &Plan,
     cuts: &[Cut],
-    hit: Hit,
+    hit: &Hit,
     old_left: Option<Rewriting>,
     right_delta: Option<Delta>,
     left_delta: Option<Delta>,
@@ -218,7 +230,7 @@ pub fn both_grew(
 ) -> Result<Option<Rewriting>, Memory>
     ensures shown { IfOk result (λ made. (l : PlainRewriting) (d e : PlainDelta) (r : PlainRewriting)
         → Shows old_left l → ShowsDelta right_delta d → ShowsDelta left_delta e → Shows right r
-        → Shows made (Node (plan_of plan.now) cuts.now (BothGrew hit l d e r))) }
+        → Shows made (Node (plan_of plan.now) cuts.now (BothGrew hit.now l d e r))) }
     ensures given { IfOk result (λ made. (want : Want) → IsGiven want old_left → IsGiven want right_delta
         → IsGiven want left_delta → IsGiven want right → IsGiven want made) }
 {

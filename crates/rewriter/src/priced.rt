@@ -40,3 +40,10 @@ pub struct PricedDelta {
     pub estimate: u64,
     pub tree: Option<Delta>,
 }
+
+/// A delta and a rewriting.
+#[derive(Drop)]
+pub struct PricedPair {
+    pub delta: PricedDelta,
+    pub best: Priced,
+}

@@ -7,7 +7,7 @@ use Rattle.rewriter.proofs.made.unchanged.Goals as goal
 pub returns : goal.returns
 returns g c =
     record {
-      of = Change (plan_of c.args.plan.now) c.args.old.now c.args.new.now Unchanged;
-      least = law.delta_unchanged (g.L.Lookup.entries c.args.lookup.now) (g.Z.Sizes.lengths c.args.sizes.now) (plan_of c.args.plan.now) c.args.old.now c.args.new.now c.requires.same;
+      of = Change (plan_of c.args.stretch.plan.now) c.args.stretch.old.now c.args.stretch.new.now Unchanged;
+      least = law.delta_unchanged (g.L.Lookup.entries c.args.lookup.now) (g.Z.Sizes.lengths c.args.sizes.now) (plan_of c.args.stretch.plan.now) c.args.stretch.old.now c.args.stretch.new.now c.requires.same;
       prices = record { estimate = refl; shown = c.in_ok-tree.ensures.shown; given = c.in_ok-tree.ensures.given };
     }

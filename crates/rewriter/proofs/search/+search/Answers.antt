@@ -1,214 +1,151 @@
-use Rattle.std.proofs.Common.{rules, sym, subst, ap, arith, ◌≡◌, ◌≤◌, ◌∙◌, length, None}
-use Rattle.plan_core.specs.PlainPlan.{plan_of, leaf_count}
-use Rattle.rewrite_core.specs.IsRewriting.{lefts, rights}
-use Rattle.estimator.specs.Bytes.{IsCutOf}
-use Rattle.rewrite_core.specs.declared.rewriting.Rewriting.{Rewriting}
-use Rattle.rewriter.specs.InStreams.{AreCutsOf}
-use Rattle.rewriter.specs.Search.{IsGiven}
+use Rattle.std.proofs.Common.{◌<◌, ◌+◌, ◌*◌, max, rules, arith, sym, subst, IfOk}
+use Rattle.plan_core.specs.OperatorCount.{operator_count}
+use Rattle.plan_core.specs.PlainPlan.{plan_of}
+use Rattle.rewriter.specs.declared.priced.Form.TheVariants as form
+use Rattle.rewriter.specs.declared.priced.Want.TheVariants as want
+use Rattle.rewriter.specs.Search.{Least, LeastDeltaIfAny}
+use Rattle.rewriter.proofs.Choices.{least_by_form, form_there}
 use Rattle.rewriter.proofs.LeastParts as law
-use Rattle.rewriter.proofs.Ranges.{child_cut, child_cuts, left_cut, right_cut, left_cuts, right_cuts, left_fits, hit_cuts, two_of_join, two_of_concat, transported}
-use Rattle.rewriter.proofs.Shapes.{scan_if, scan_by, whole_if}
-use Rattle.rewriter.proofs.Shapes.{none_along, delta_along, no_right, holds, never}
-use Rattle.rewriter.proofs.Choices.{least_there}
+use Rattle.rewriter.proofs.Ranges.{hit_cuts}
 use Rattle.rewriter.proofs.search.+search.Goals as goal
 
 pub least_at-returns-in-Price-clause-answer : goal.least_at-returns-in-Price-clause-answer
 least_at-returns-in-Price-clause-answer g t c =
-    let choice = c.in_ok-choice.ensures.answer in
-    record {
-      of = choice.of;
-      least = least_there (g.L.Lookup.entries c.args.lookup.now) (g.Z.Sizes.lengths c.args.sizes.now) (plan_of c.args.plan.now) c.args.cuts.now _ choice;
-      prices = record { estimate = choice.estimate; shown = tt; given = subst (λ w. IsGiven {A = Rewriting} w None) (sym c.in-Price.is) tt };
-    }
+    subst (λ w. Least w (g.L.Lookup.entries c.args.lookup.now) (g.Z.Sizes.lengths c.args.sizes.now) (plan_of c.args.part.plan.now) c.args.part.cuts.now c.without_tree.result) (sym c.in-Price.is) (c.without_tree.ensures (g.L.Lookup.entries c.args.lookup.now) (g.Z.Sizes.lengths c.args.sizes.now) (plan_of c.args.part.plan.now) c.args.part.cuts.now c.in_ok-choice.ensures.answer)
+
+pub least_at-returns-in-Tree-clause-answer : goal.least_at-returns-in-Tree-clause-answer
+least_at-returns-in-Tree-clause-answer g t c =
+    subst (λ w. IfOk c.chosen_at.result (Least w (g.L.Lookup.entries c.args.lookup.now) (g.Z.Sizes.lengths c.args.sizes.now) (plan_of c.args.part.plan.now) c.args.part.cuts.now)) (sym c.in-Tree.is) c.chosen_at.ensures.answer
+
+pub chosen_at-returns-in_ok-made-in-Computed-clause-answer : goal.chosen_at-returns-in_ok-made-in-Computed-clause-answer
+chosen_at-returns-in_ok-made-in-Computed-clause-answer g t c =
+    least_by_form (g.L.Lookup.entries c.args.lookup.now) (g.Z.Sizes.lengths c.args.sizes.now) (plan_of c.args.part.plan.now) c.args.part.cuts.now want.Tree c.args.choice form.Computed c.in_ok-made-in-Computed.made c.in-Computed.is c.requires.choice c.in_ok-made-in-Computed.ensures.answer
+
+pub choice_at-returns-in-Some-clause-answer : goal.choice_at-returns-in-Some-clause-answer
+choice_at-returns-in-Some-clause-answer g t c =
+    c.in-Some.ensures (g.L.Lookup.entries c.args.lookup.now) (g.Z.Sizes.lengths c.args.sizes.now) c.requires.found
+
+pub choice_at-returns-clause-found : goal.choice_at-returns-clause-found
+choice_at-returns-clause-found g t c =
+    c.in_ok-keep_choice.ensures (g.L.Lookup.entries c.args.lookup.now) (g.Z.Sizes.lengths c.args.sizes.now) c.in_ok-choice.ensures.found c.in_ok-choice.ensures.answer
+
+pub choose_at-returns-clause-answer : goal.choose_at-returns-clause-answer
+choose_at-returns-clause-answer g t c =
+    c.cheapest.ensures (g.L.Lookup.entries c.args.lookup.now) (g.Z.Sizes.lengths c.args.sizes.now) (plan_of c.args.part.plan.now) c.args.part.cuts.now c.in_ok-computed.ensures.answer c.in_ok-read.ensures c.in_ok-grown.ensures.answer
 
 pub computed_at-least_at-requires : goal.computed_at-least_at-requires
 computed_at-least_at-requires g t c κs within =
-    let cut = child_cut (g.Z.Sizes.lengths c.args.sizes.now) (plan_of c.args.plan.now) (plan_of c.in-Some.child.now) c.args.cuts.now c.in-Some.ensures.child c.requires.cuts in
-    let lower = c.in-Some.ensures.lower in search rules
+    let cut = c.in-One.ensures.input.cuts in
+    let lower = c.in-One.ensures.input.lower in search rules
 
-pub computed_at-sides-requires : goal.computed_at-sides-requires
-computed_at-sides-requires g t c =
-    left_fits (g.Z.Sizes.lengths c.args.sizes.now) (plan_of c.args.plan.now) (plan_of c.in-Some-two_children.left.now) (plan_of c.in-Some-two_children.right.now) c.args.cuts.now c.in-Some-two_children.ensures.children c.requires.cuts
+pub computed_at-least_at-requires-in-Two : goal.computed_at-least_at-requires-in-Two
+computed_at-least_at-requires-in-Two g t c κs within =
+    let cut = c.in-Two.ensures.left.cuts in
+    let lower = c.in-Two.ensures.left.lower in search rules
 
-pub computed_at-least_at-requires-in-Some-two_children : goal.computed_at-least_at-requires-in-Some-two_children
-computed_at-least_at-requires-in-Some-two_children g t c κs within =
-    let cut : IsCutOf (g.Z.Sizes.lengths c.args.sizes.now) (plan_of c.in-Some-two_children.left.now) c.sides.result.0.now = subst (IsCutOf (g.Z.Sizes.lengths c.args.sizes.now) (plan_of c.in-Some-two_children.left.now)) (sym c.sides.ensures.lefts) (left_cut (g.Z.Sizes.lengths c.args.sizes.now) (plan_of c.args.plan.now) (plan_of c.in-Some-two_children.left.now) (plan_of c.in-Some-two_children.right.now) c.args.cuts.now c.in-Some-two_children.ensures.children c.requires.cuts) in
-    let lower = c.in-Some-two_children.ensures.lower.0 in search rules
+pub computed_at-least_at-requires-in-Two-2 : goal.computed_at-least_at-requires-in-Two-2
+computed_at-least_at-requires-in-Two-2 g t c κs within =
+    let cut = c.in-Two.ensures.right.cuts in
+    let lower = c.in-Two.ensures.right.lower in
+    let found = c.in_ok-first-in-Two.ensures.found in search rules
 
-pub computed_at-least_at-requires-in-Some-two_children-2 : goal.computed_at-least_at-requires-in-Some-two_children-2
-computed_at-least_at-requires-in-Some-two_children-2 g t c κs within =
-    let cut : IsCutOf (g.Z.Sizes.lengths c.args.sizes.now) (plan_of c.in-Some-two_children.right.now) c.sides.result.1.now = subst (IsCutOf (g.Z.Sizes.lengths c.args.sizes.now) (plan_of c.in-Some-two_children.right.now)) (sym c.sides.ensures.rights) (right_cut (g.Z.Sizes.lengths c.args.sizes.now) (plan_of c.args.plan.now) (plan_of c.in-Some-two_children.left.now) (plan_of c.in-Some-two_children.right.now) c.args.cuts.now c.in-Some-two_children.ensures.children c.requires.cuts) in
-    let lower = c.in-Some-two_children.ensures.lower.1 in search rules
+pub delta_at-returns-in_ok-price-in-Price-clause-answer : goal.delta_at-returns-in_ok-price-in-Price-clause-answer
+delta_at-returns-in_ok-price-in-Price-clause-answer g t c =
+    subst (λ w. LeastDeltaIfAny w (g.L.Lookup.entries c.args.lookup.now) (g.Z.Sizes.lengths c.args.sizes.now) (plan_of c.args.stretch.plan.now) c.args.stretch.old.now c.args.stretch.new.now c.priced_alone.result) (sym c.in-Price.is) (c.priced_alone.ensures (g.L.Lookup.entries c.args.lookup.now) (g.Z.Sizes.lengths c.args.sizes.now) (plan_of c.args.stretch.plan.now) c.args.stretch.old.now c.args.stretch.new.now c.in_ok-price-in-Price.ensures.answer)
 
-pub computed_at-computed_scan-requires-clause-scan : goal.computed_at-computed_scan-requires-clause-scan
-computed_at-computed_scan-requires-clause-scan g t c =
-    scan_if (plan_of c.args.plan.now) c.in-None.ensures.child c.in-None-two_children.ensures.children
+pub delta_at-returns-in-Tree-clause-answer : goal.delta_at-returns-in-Tree-clause-answer
+delta_at-returns-in-Tree-clause-answer g t c =
+    c.increased_at.ensures.answer
 
 pub grown_at-returns-in-None-clause-answer : goal.grown_at-returns-in-None-clause-answer
 grown_at-returns-in-None-clause-answer g t c =
-    let found = rw c.in-None.is at c.in_ok-earlier.ensures in law.grown_none (g.L.Lookup.entries c.args.lookup.now) (g.Z.Sizes.lengths c.args.sizes.now) (plan_of c.args.plan.now) c.args.cuts.now found
+    law.grown_none (g.L.Lookup.entries c.args.lookup.now) (g.Z.Sizes.lengths c.args.sizes.now) (plan_of c.args.part.plan.now) c.args.part.cuts.now (rw c.in-None.is at c.in_ok-earlier.ensures)
 
 pub grown_from-delta_at-requires : goal.grown_from-delta_at-requires
 grown_from-delta_at-requires g t c κs within =
-    let cuts = subst (λ o. AreCutsOf (g.Z.Sizes.lengths c.args.sizes.now) (plan_of c.in-Some.child.now) o c.args.cuts.now) (sym c.items-old.ensures) (child_cuts (g.Z.Sizes.lengths c.args.sizes.now) (plan_of c.args.plan.now) (plan_of c.in-Some.child.now) c.args.hit.cuts c.args.cuts.now c.in-Some.ensures.child (hit_cuts (g.Z.Sizes.lengths c.args.sizes.now) (g.L.Lookup.entries c.args.lookup.now) (plan_of c.args.plan.now) c.args.cuts.now c.args.hit c.requires.sound c.requires.hit c.requires.cuts)) in
-    let lower = c.in-Some.ensures.lower in search rules
+    let cut = c.in-Tail.ensures.stretch.cuts in
+    let lower = c.in-Tail.ensures.stretch.lower in search rules
 
-pub grown_from-returns-in-None-join_sides-clause-answer : goal.grown_from-returns-in-None-join_sides-clause-answer
-grown_from-returns-in-None-join_sides-clause-answer g t c =
-    law.grown_no_scan (g.L.Lookup.entries c.args.lookup.now) (g.Z.Sizes.lengths c.args.sizes.now) (plan_of c.args.plan.now) c.args.cuts.now (scan_by (plan_of c.args.plan.now) c.in-None.ensures.child c.in-None-concat_parts.ensures.parts c.in-None-join_sides.ensures.sides)
+pub grown_from-pair_at-requires : goal.grown_from-pair_at-requires
+grown_from-pair_at-requires g t c κs within =
+    let stretch = c.in-Left.ensures.stretch.cuts in
+    let below = c.in-Left.ensures.stretch.lower in
+    let cut = c.in-Left.ensures.part.cuts in
+    let lower = c.in-Left.ensures.part.lower in search rules
 
-pub grown_concat-sides-requires : goal.grown_concat-sides-requires
-grown_concat-sides-requires g t c =
-    let fits = left_fits (g.Z.Sizes.lengths c.args.sizes.now) (plan_of c.args.plan.now) (plan_of c.args.left.now) (plan_of c.args.right.now) c.args.hit.cuts (two_of_concat (plan_of c.args.plan.now) (plan_of c.args.left.now) (plan_of c.args.right.now) c.requires.parts) (hit_cuts (g.Z.Sizes.lengths c.args.sizes.now) (g.L.Lookup.entries c.args.lookup.now) (plan_of c.args.plan.now) c.args.cuts.now c.args.hit c.requires.sound c.requires.hit c.requires.cuts).before in subst (λ o. leaf_count (plan_of c.args.left.now) ≤ length o) (sym c.items.ensures) fits
+pub grown_from-pair_at-requires-in-Right : goal.grown_from-pair_at-requires-in-Right
+grown_from-pair_at-requires-in-Right g t c κs within =
+    let stretch = c.in-Right.ensures.stretch.cuts in
+    let below = c.in-Right.ensures.stretch.lower in
+    let cut = c.in-Right.ensures.part.cuts in
+    let lower = c.in-Right.ensures.part.lower in search rules
 
-pub grown_concat-sides-requires-2 : goal.grown_concat-sides-requires-2
-grown_concat-sides-requires-2 g t c =
-    left_fits (g.Z.Sizes.lengths c.args.sizes.now) (plan_of c.args.plan.now) (plan_of c.args.left.now) (plan_of c.args.right.now) c.args.cuts.now (two_of_concat (plan_of c.args.plan.now) (plan_of c.args.left.now) (plan_of c.args.right.now) c.requires.parts) c.requires.cuts
+pub grown_from-pair_at-requires-in-Both : goal.grown_from-pair_at-requires-in-Both
+grown_from-pair_at-requires-in-Both g t c κs within =
+    let stretch = c.in-Both.ensures.right_delta.cuts in
+    let below = c.in-Both.ensures.right_delta.lower in
+    let cut = c.in-Both.ensures.old_left.cuts in
+    let lower = c.in-Both.ensures.old_left.lower in search rules
 
-pub grown_join-sides-requires : goal.grown_join-sides-requires
-grown_join-sides-requires g t c =
-    let fits = left_fits (g.Z.Sizes.lengths c.args.sizes.now) (plan_of c.args.plan.now) (plan_of c.args.left.now) (plan_of c.args.right.now) c.args.hit.cuts (two_of_join (plan_of c.args.plan.now) (plan_of c.args.left.now) (plan_of c.args.right.now) c.requires.sides) (hit_cuts (g.Z.Sizes.lengths c.args.sizes.now) (g.L.Lookup.entries c.args.lookup.now) (plan_of c.args.plan.now) c.args.cuts.now c.args.hit c.requires.sound c.requires.hit c.requires.cuts).before in subst (λ o. leaf_count (plan_of c.args.left.now) ≤ length o) (sym c.items.ensures) fits
+pub grown_from-pair_at-requires-in-Both-2 : goal.grown_from-pair_at-requires-in-Both-2
+grown_from-pair_at-requires-in-Both-2 g t c κs within =
+    let stretch = c.in-Both.ensures.left_delta.cuts in
+    let below = c.in-Both.ensures.left_delta.lower in
+    let cut = c.in-Both.ensures.right.cuts in
+    let lower = c.in-Both.ensures.right.lower in
+    let found = c.in_ok-before-in-Both.ensures.found in search rules
 
-pub grown_join-sides-requires-2 : goal.grown_join-sides-requires-2
-grown_join-sides-requires-2 g t c =
-    left_fits (g.Z.Sizes.lengths c.args.sizes.now) (plan_of c.args.plan.now) (plan_of c.args.left.now) (plan_of c.args.right.now) c.args.cuts.now (two_of_join (plan_of c.args.plan.now) (plan_of c.args.left.now) (plan_of c.args.right.now) c.requires.sides) c.requires.cuts
+pub grown_from-grown_tail-requires-clause-cuts : goal.grown_from-grown_tail-requires-clause-cuts
+grown_from-grown_tail-requires-clause-cuts g t c =
+    hit_cuts (g.Z.Sizes.lengths c.args.sizes.now) (g.L.Lookup.entries c.args.lookup.now) (plan_of c.args.part.plan.now) c.args.part.cuts.now c.args.hit.now c.requires.sound c.requires.hit c.requires.cuts
 
-pub grown_concat-delta_at-requires : goal.grown_concat-delta_at-requires
-grown_concat-delta_at-requires g t c κs within =
-    let cuts : AreCutsOf (g.Z.Sizes.lengths c.args.sizes.now) (plan_of c.args.right.now) c.sides.result.1.now c.sides-2.result.1.now = transported (g.Z.Sizes.lengths c.args.sizes.now) (plan_of c.args.right.now) (c.sides.ensures.rights ∙ ap (rights (plan_of c.args.left.now)) c.items.ensures) (c.sides-2.ensures.rights) (right_cuts (g.Z.Sizes.lengths c.args.sizes.now) (plan_of c.args.plan.now) (plan_of c.args.left.now) (plan_of c.args.right.now) c.args.hit.cuts c.args.cuts.now (two_of_concat (plan_of c.args.plan.now) (plan_of c.args.left.now) (plan_of c.args.right.now) c.requires.parts) (hit_cuts (g.Z.Sizes.lengths c.args.sizes.now) (g.L.Lookup.entries c.args.lookup.now) (plan_of c.args.plan.now) c.args.cuts.now c.args.hit c.requires.sound c.requires.hit c.requires.cuts)) in
-    let lower = c.requires.right in search rules
+pub grown_from-grown_left-requires-clause-cuts : goal.grown_from-grown_left-requires-clause-cuts
+grown_from-grown_left-requires-clause-cuts g t c =
+    hit_cuts (g.Z.Sizes.lengths c.args.sizes.now) (g.L.Lookup.entries c.args.lookup.now) (plan_of c.args.part.plan.now) c.args.part.cuts.now c.args.hit.now c.requires.sound c.requires.hit c.requires.cuts
 
-pub grown_join-delta_at-requires : goal.grown_join-delta_at-requires
-grown_join-delta_at-requires g t c κs within =
-    let cuts : AreCutsOf (g.Z.Sizes.lengths c.args.sizes.now) (plan_of c.args.left.now) c.sides.result.0.now c.sides-2.result.0.now = transported (g.Z.Sizes.lengths c.args.sizes.now) (plan_of c.args.left.now) (c.sides.ensures.lefts ∙ ap (lefts (plan_of c.args.left.now)) c.items.ensures) (c.sides-2.ensures.lefts) (left_cuts (g.Z.Sizes.lengths c.args.sizes.now) (plan_of c.args.plan.now) (plan_of c.args.left.now) (plan_of c.args.right.now) c.args.hit.cuts c.args.cuts.now (two_of_join (plan_of c.args.plan.now) (plan_of c.args.left.now) (plan_of c.args.right.now) c.requires.sides) (hit_cuts (g.Z.Sizes.lengths c.args.sizes.now) (g.L.Lookup.entries c.args.lookup.now) (plan_of c.args.plan.now) c.args.cuts.now c.args.hit c.requires.sound c.requires.hit c.requires.cuts)) in
-    let lower = c.requires.left in search rules
+pub grown_from-grown_right-requires-clause-cuts : goal.grown_from-grown_right-requires-clause-cuts
+grown_from-grown_right-requires-clause-cuts g t c =
+    hit_cuts (g.Z.Sizes.lengths c.args.sizes.now) (g.L.Lookup.entries c.args.lookup.now) (plan_of c.args.part.plan.now) c.args.part.cuts.now c.args.hit.now c.requires.sound c.requires.hit c.requires.cuts
 
-pub grown_join-delta_at-requires-2 : goal.grown_join-delta_at-requires-2
-grown_join-delta_at-requires-2 g t c κs within =
-    let cuts : AreCutsOf (g.Z.Sizes.lengths c.args.sizes.now) (plan_of c.args.right.now) c.sides.result.1.now c.sides-2.result.1.now = transported (g.Z.Sizes.lengths c.args.sizes.now) (plan_of c.args.right.now) (c.sides.ensures.rights ∙ ap (rights (plan_of c.args.left.now)) c.items.ensures) (c.sides-2.ensures.rights) (right_cuts (g.Z.Sizes.lengths c.args.sizes.now) (plan_of c.args.plan.now) (plan_of c.args.left.now) (plan_of c.args.right.now) c.args.hit.cuts c.args.cuts.now (two_of_join (plan_of c.args.plan.now) (plan_of c.args.left.now) (plan_of c.args.right.now) c.requires.sides) (hit_cuts (g.Z.Sizes.lengths c.args.sizes.now) (g.L.Lookup.entries c.args.lookup.now) (plan_of c.args.plan.now) c.args.cuts.now c.args.hit c.requires.sound c.requires.hit c.requires.cuts)) in
-    let lower = c.requires.right in search rules
+pub grown_from-grown_both-requires-clause-cuts : goal.grown_from-grown_both-requires-clause-cuts
+grown_from-grown_both-requires-clause-cuts g t c =
+    hit_cuts (g.Z.Sizes.lengths c.args.sizes.now) (g.L.Lookup.entries c.args.lookup.now) (plan_of c.args.part.plan.now) c.args.part.cuts.now c.args.hit.now c.requires.sound c.requires.hit c.requires.cuts
 
-pub delta_at-delta_scan-requires-clause-scan : goal.delta_at-delta_scan-requires-clause-scan
-delta_at-delta_scan-requires-clause-scan g t c =
-    scan_by (plan_of c.args.plan.now) c.in-None.ensures.child c.in-None-concat_parts.ensures.parts c.in-None-join_sides.ensures.sides
+pub increased_at-delta_at-requires : goal.increased_at-delta_at-requires
+increased_at-delta_at-requires g t c κs within =
+    let cut = c.in-Child.ensures.stretch.cuts in
+    let lower = c.in-Child.ensures.stretch.lower in search rules
 
-pub delta_of_concat-sides-requires : goal.delta_of_concat-sides-requires
-delta_of_concat-sides-requires g t c =
-    left_fits (g.Z.Sizes.lengths c.args.sizes.now) (plan_of c.args.plan.now) (plan_of c.args.left.now) (plan_of c.args.right.now) c.args.old.now (two_of_concat (plan_of c.args.plan.now) (plan_of c.args.left.now) (plan_of c.args.right.now) c.requires.parts) c.requires.cuts.before
+pub increased_at-pair_at-requires : goal.increased_at-pair_at-requires
+increased_at-pair_at-requires g t c κs within =
+    let stretch = c.in-Distinct.ensures.stretch.cuts in
+    let below = c.in-Distinct.ensures.stretch.lower in
+    let cut = c.in-Distinct.ensures.part.cuts in
+    let within_plan = c.in-Distinct.ensures.part.within in search rules
 
-pub delta_of_concat-sides-requires-2 : goal.delta_of_concat-sides-requires-2
-delta_of_concat-sides-requires-2 g t c =
-    left_fits (g.Z.Sizes.lengths c.args.sizes.now) (plan_of c.args.plan.now) (plan_of c.args.left.now) (plan_of c.args.right.now) c.args.new.now (two_of_concat (plan_of c.args.plan.now) (plan_of c.args.left.now) (plan_of c.args.right.now) c.requires.parts) c.requires.cuts.after
+pub increased_at-pair_at-requires-in-Join : goal.increased_at-pair_at-requires-in-Join
+increased_at-pair_at-requires-in-Join g t c κs within =
+    let stretch = c.in-Join.ensures.stretch.cuts in
+    let below = c.in-Join.ensures.stretch.lower in
+    let cut = c.in-Join.ensures.part.cuts in
+    let within_plan = c.in-Join.ensures.part.within in search rules
 
-pub delta_of_join-sides-requires : goal.delta_of_join-sides-requires
-delta_of_join-sides-requires g t c =
-    left_fits (g.Z.Sizes.lengths c.args.sizes.now) (plan_of c.args.plan.now) (plan_of c.args.left.now) (plan_of c.args.right.now) c.args.old.now (two_of_join (plan_of c.args.plan.now) (plan_of c.args.left.now) (plan_of c.args.right.now) c.requires.sides) c.requires.cuts.before
+pub pair_at-returns-in-None-clause-answer : goal.pair_at-returns-in-None-clause-answer
+pair_at-returns-in-None-clause-answer g t c =
+    rw c.in-None.is at c.in_ok-delta_at.ensures.answer
 
-pub delta_of_join-sides-requires-2 : goal.delta_of_join-sides-requires-2
-delta_of_join-sides-requires-2 g t c =
-    left_fits (g.Z.Sizes.lengths c.args.sizes.now) (plan_of c.args.plan.now) (plan_of c.args.left.now) (plan_of c.args.right.now) c.args.new.now (two_of_join (plan_of c.args.plan.now) (plan_of c.args.left.now) (plan_of c.args.right.now) c.requires.sides) c.requires.cuts.after
+pub pair_at-returns-in_ok-best-in-Some-clause-answer : goal.pair_at-returns-in_ok-best-in-Some-clause-answer
+pair_at-returns-in_ok-best-in-Some-clause-answer g t c =
+    record { delta = rw c.in-Some.is at c.in_ok-delta_at.ensures.answer; best = c.in_ok-best-in-Some.ensures.answer }
 
-pub delta_of_concat-delta_at-requires : goal.delta_of_concat-delta_at-requires
-delta_of_concat-delta_at-requires g t c κs within =
-    let cuts : AreCutsOf (g.Z.Sizes.lengths c.args.sizes.now) (plan_of c.args.right.now) c.sides.result.1.now c.sides-2.result.1.now = transported (g.Z.Sizes.lengths c.args.sizes.now) (plan_of c.args.right.now) (c.sides.ensures.rights) (c.sides-2.ensures.rights) (right_cuts (g.Z.Sizes.lengths c.args.sizes.now) (plan_of c.args.plan.now) (plan_of c.args.left.now) (plan_of c.args.right.now) c.args.old.now c.args.new.now (two_of_concat (plan_of c.args.plan.now) (plan_of c.args.left.now) (plan_of c.args.right.now) c.requires.parts) c.requires.cuts) in
-    let lower = c.requires.right in search rules
+pub price_at-returns-in-Some-clause-answer : goal.price_at-returns-in-Some-clause-answer
+price_at-returns-in-Some-clause-answer g t c =
+    c.in-Some.ensures (g.L.Lookup.entries c.args.lookup.now) (g.Z.Sizes.lengths c.args.sizes.now) c.requires.found
 
-pub delta_of_join-delta_at-requires : goal.delta_of_join-delta_at-requires
-delta_of_join-delta_at-requires g t c κs within =
-    let cuts : AreCutsOf (g.Z.Sizes.lengths c.args.sizes.now) (plan_of c.args.left.now) c.sides.result.0.now c.sides-2.result.0.now = transported (g.Z.Sizes.lengths c.args.sizes.now) (plan_of c.args.left.now) (c.sides.ensures.lefts) (c.sides-2.ensures.lefts) (left_cuts (g.Z.Sizes.lengths c.args.sizes.now) (plan_of c.args.plan.now) (plan_of c.args.left.now) (plan_of c.args.right.now) c.args.old.now c.args.new.now (two_of_join (plan_of c.args.plan.now) (plan_of c.args.left.now) (plan_of c.args.right.now) c.requires.sides) c.requires.cuts) in
-    let lower = c.requires.left in search rules
+pub price_at-returns-clause-answer : goal.price_at-returns-clause-answer
+price_at-returns-clause-answer g t c =
+    c.price_of-price.ensures (g.L.Lookup.entries c.args.lookup.now) (g.Z.Sizes.lengths c.args.sizes.now) (plan_of c.args.stretch.plan.now) c.args.stretch.old.now c.args.stretch.new.now c.in_ok-delta.ensures.answer
 
-pub delta_of_one-delta_at-requires : goal.delta_of_one-delta_at-requires
-delta_of_one-delta_at-requires g t c κs within =
-    let cuts = child_cuts (g.Z.Sizes.lengths c.args.sizes.now) (plan_of c.args.plan.now) (plan_of c.args.child.now) c.args.old.now c.args.new.now c.requires.child c.requires.cuts in
-    let lower = c.requires.lower in search rules
-
-pub grown_concat-returns-clause-answer : goal.grown_concat-returns-clause-answer
-grown_concat-returns-clause-answer g t c =
-    law.grown_concat_none (g.L.Lookup.entries c.args.lookup.now) c.requires.sound (g.Z.Sizes.lengths c.args.sizes.now) (plan_of c.args.plan.now) c.args.cuts.now c.args.hit c.requires.hit (plan_of c.args.left.now) (plan_of c.args.right.now) c.requires.parts (λ d same k. never (c.if-are_same_cuts.ensures.1 ((c.sides.ensures.lefts ∙ ap (lefts (plan_of c.args.left.now)) c.items.ensures) ∙ same ∙ sym c.sides-2.ensures.lefts)))
-
-pub grown_join-returns-in-None-clause-answer : goal.grown_join-returns-in-None-clause-answer
-grown_join-returns-in-None-clause-answer g t c =
-    let n = rw c.in-None.is at c.in_ok-delta.ensures.answer in
-    law.grown_left_none (g.L.Lookup.entries c.args.lookup.now) c.requires.sound (g.Z.Sizes.lengths c.args.sizes.now) (plan_of c.args.plan.now) c.args.cuts.now c.args.hit c.requires.hit (plan_of c.args.left.now) (plan_of c.args.right.now) c.requires.sides (sym (c.sides.ensures.rights ∙ ap (rights (plan_of c.args.left.now)) c.items.ensures) ∙ (c.if-are_same_cuts.ensures.0 holds) ∙ c.sides-2.ensures.rights) (none_along (g.L.Lookup.entries c.args.lookup.now) (plan_of c.args.left.now) (c.sides.ensures.lefts ∙ ap (lefts (plan_of c.args.left.now)) c.items.ensures) c.sides-2.ensures.lefts n)
-
-pub grown_join-least_at-requires : goal.grown_join-least_at-requires
-grown_join-least_at-requires g t c κs within =
-    let cut : IsCutOf (g.Z.Sizes.lengths c.args.sizes.now) (plan_of c.args.right.now) c.sides-2.result.1.now = subst (IsCutOf (g.Z.Sizes.lengths c.args.sizes.now) (plan_of c.args.right.now)) (sym c.sides-2.ensures.rights) (right_cut (g.Z.Sizes.lengths c.args.sizes.now) (plan_of c.args.plan.now) (plan_of c.args.left.now) (plan_of c.args.right.now) c.args.cuts.now (two_of_join (plan_of c.args.plan.now) (plan_of c.args.left.now) (plan_of c.args.right.now) c.requires.sides) c.requires.cuts) in
-    let lower = c.requires.right in search rules
-
-pub grown_join-returns-in-None-right_delta-clause-answer : goal.grown_join-returns-in-None-right_delta-clause-answer
-grown_join-returns-in-None-right_delta-clause-answer g t c =
-    let n = none_along (g.L.Lookup.entries c.args.lookup.now) (plan_of c.args.right.now) (c.sides.ensures.rights ∙ ap (rights (plan_of c.args.left.now)) c.items.ensures) c.sides-2.ensures.rights (rw c.in-None-right_delta.is at c.in_ok-right_delta.ensures.answer) in
-    no_right (g.L.Lookup.entries c.args.lookup.now) c.requires.sound (g.Z.Sizes.lengths c.args.sizes.now) (plan_of c.args.plan.now) c.args.cuts.now c.args.hit c.requires.hit (plan_of c.args.left.now) (plan_of c.args.right.now) c.requires.sides
-    (λ same. never (c.if-are_same_cuts.ensures.1 ((c.sides.ensures.rights ∙ ap (rights (plan_of c.args.left.now)) c.items.ensures) ∙ same ∙ sym c.sides-2.ensures.rights))) n
-
-pub grown_join-grown_sides-requires : goal.grown_join-grown_sides-requires
-grown_join-grown_sides-requires g t c κs within =
-    let differ = λ (same : rights (plan_of c.args.left.now) c.args.hit.cuts ≡ rights (plan_of c.args.left.now) c.args.cuts.now). never (c.if-are_same_cuts.ensures.1 ((c.sides.ensures.rights ∙ ap (rights (plan_of c.args.left.now)) c.items.ensures) ∙ same ∙ sym c.sides-2.ensures.rights)) in
-    let l = rw c.in-Some-right_delta.is at c.in_ok-right_delta.ensures.answer in
-    let delta = delta_along c.args.want (g.L.Lookup.entries c.args.lookup.now) (g.Z.Sizes.lengths c.args.sizes.now) (plan_of c.args.right.now) _ (c.sides.ensures.rights ∙ ap (rights (plan_of c.args.left.now)) c.items.ensures) c.sides-2.ensures.rights l in search rules
-
-pub grown_sides-sides-requires : goal.grown_sides-sides-requires
-grown_sides-sides-requires g t c =
-    let fits = left_fits (g.Z.Sizes.lengths c.args.sizes.now) (plan_of c.args.plan.now) (plan_of c.args.left.now) (plan_of c.args.right.now) c.args.hit.cuts (two_of_join (plan_of c.args.plan.now) (plan_of c.args.left.now) (plan_of c.args.right.now) c.requires.sides) (hit_cuts (g.Z.Sizes.lengths c.args.sizes.now) (g.L.Lookup.entries c.args.lookup.now) (plan_of c.args.plan.now) c.args.cuts.now c.args.hit c.requires.sound c.requires.hit c.requires.cuts).before in subst (λ o. leaf_count (plan_of c.args.left.now) ≤ length o) (sym c.items.ensures) fits
-
-pub grown_sides-sides-requires-2 : goal.grown_sides-sides-requires-2
-grown_sides-sides-requires-2 g t c =
-    left_fits (g.Z.Sizes.lengths c.args.sizes.now) (plan_of c.args.plan.now) (plan_of c.args.left.now) (plan_of c.args.right.now) c.args.cuts.now (two_of_join (plan_of c.args.plan.now) (plan_of c.args.left.now) (plan_of c.args.right.now) c.requires.sides) c.requires.cuts
-
-pub grown_sides-delta_at-requires : goal.grown_sides-delta_at-requires
-grown_sides-delta_at-requires g t c κs within =
-    let cuts : AreCutsOf (g.Z.Sizes.lengths c.args.sizes.now) (plan_of c.args.left.now) c.sides.result.0.now c.sides-2.result.0.now = transported (g.Z.Sizes.lengths c.args.sizes.now) (plan_of c.args.left.now) (c.sides.ensures.lefts ∙ ap (lefts (plan_of c.args.left.now)) c.items.ensures) (c.sides-2.ensures.lefts) (left_cuts (g.Z.Sizes.lengths c.args.sizes.now) (plan_of c.args.plan.now) (plan_of c.args.left.now) (plan_of c.args.right.now) c.args.hit.cuts c.args.cuts.now (two_of_join (plan_of c.args.plan.now) (plan_of c.args.left.now) (plan_of c.args.right.now) c.requires.sides) (hit_cuts (g.Z.Sizes.lengths c.args.sizes.now) (g.L.Lookup.entries c.args.lookup.now) (plan_of c.args.plan.now) c.args.cuts.now c.args.hit c.requires.sound c.requires.hit c.requires.cuts)) in
-    let lower = c.requires.left in search rules
-
-pub grown_sides-least_at-requires : goal.grown_sides-least_at-requires
-grown_sides-least_at-requires g t c κs within =
-    let cut : IsCutOf (g.Z.Sizes.lengths c.args.sizes.now) (plan_of c.args.left.now) c.sides-2.result.0.now = subst (IsCutOf (g.Z.Sizes.lengths c.args.sizes.now) (plan_of c.args.left.now)) (sym c.sides-2.ensures.lefts) (left_cut (g.Z.Sizes.lengths c.args.sizes.now) (plan_of c.args.plan.now) (plan_of c.args.left.now) (plan_of c.args.right.now) c.args.cuts.now (two_of_join (plan_of c.args.plan.now) (plan_of c.args.left.now) (plan_of c.args.right.now) c.requires.sides) c.requires.cuts) in
-    let lower = c.requires.left in search rules
-
-pub delta_of_concat-returns-clause-answer : goal.delta_of_concat-returns-clause-answer
-delta_of_concat-returns-clause-answer g t c =
-    law.delta_concat_none (g.L.Lookup.entries c.args.lookup.now) (g.Z.Sizes.lengths c.args.sizes.now) (plan_of c.args.plan.now) c.args.old.now c.args.new.now (plan_of c.args.left.now) (plan_of c.args.right.now) c.requires.parts c.requires.differ (λ d same k. never (c.if-are_same_cuts.ensures.1 (c.sides.ensures.lefts ∙ same ∙ sym c.sides-2.ensures.lefts)))
-
-pub delta_of_join-returns-clause-answer : goal.delta_of_join-returns-clause-answer
-delta_of_join-returns-clause-answer g t c =
-    law.delta_join_none (g.L.Lookup.entries c.args.lookup.now) (g.Z.Sizes.lengths c.args.sizes.now) (plan_of c.args.plan.now) c.args.old.now c.args.new.now (plan_of c.args.left.now) (plan_of c.args.right.now) c.requires.sides c.requires.differ (λ d same k. never (c.if-are_same_cuts.ensures.1 (c.sides.ensures.rights ∙ same ∙ sym c.sides-2.ensures.rights)))
-
-pub delta_of_join-returns-in-None-clause-answer : goal.delta_of_join-returns-in-None-clause-answer
-delta_of_join-returns-in-None-clause-answer g t c =
-    let n = rw c.in-None.is at c.in_ok-delta_at.ensures.answer in
-    law.delta_join_none (g.L.Lookup.entries c.args.lookup.now) (g.Z.Sizes.lengths c.args.sizes.now) (plan_of c.args.plan.now) c.args.old.now c.args.new.now (plan_of c.args.left.now) (plan_of c.args.right.now) c.requires.sides c.requires.differ (λ d same k. none_along (g.L.Lookup.entries c.args.lookup.now) (plan_of c.args.left.now) c.sides.ensures.lefts c.sides-2.ensures.lefts n d k)
-
-pub delta_of_join-least_at-requires : goal.delta_of_join-least_at-requires
-delta_of_join-least_at-requires g t c κs within =
-    let cut : IsCutOf (g.Z.Sizes.lengths c.args.sizes.now) (plan_of c.args.right.now) c.sides-2.result.1.now = subst (IsCutOf (g.Z.Sizes.lengths c.args.sizes.now) (plan_of c.args.right.now)) (sym c.sides-2.ensures.rights) (right_cut (g.Z.Sizes.lengths c.args.sizes.now) (plan_of c.args.plan.now) (plan_of c.args.left.now) (plan_of c.args.right.now) c.args.new.now (two_of_join (plan_of c.args.plan.now) (plan_of c.args.left.now) (plan_of c.args.right.now) c.requires.sides) c.requires.cuts.after) in
-    let lower = c.requires.right in search rules
-
-pub delta_of_one-delta_at-requires-then-is_distinct : goal.delta_of_one-delta_at-requires-then-is_distinct
-delta_of_one-delta_at-requires-then-is_distinct g t c κs within =
-    let cuts = child_cuts (g.Z.Sizes.lengths c.args.sizes.now) (plan_of c.args.plan.now) (plan_of c.args.child.now) c.args.old.now c.args.new.now c.requires.child c.requires.cuts in
-    let lower = c.requires.lower in search rules
-
-pub delta_of_one-returns-in-None-clause-answer : goal.delta_of_one-returns-in-None-clause-answer
-delta_of_one-returns-in-None-clause-answer g t c =
-    let n = rw c.in-None.is at c.in_ok-delta_at.ensures.answer in law.delta_distinct_none (g.L.Lookup.entries c.args.lookup.now) (g.Z.Sizes.lengths c.args.sizes.now) (plan_of c.args.plan.now) c.args.old.now c.args.new.now (plan_of c.args.child.now) (c.if-is_distinct.ensures.0 holds) c.requires.child c.requires.differ n
-
-pub delta_of_one-returns-clause-answer : goal.delta_of_one-returns-clause-answer
-delta_of_one-returns-clause-answer g t c =
-    law.delta_whole_none (g.L.Lookup.entries c.args.lookup.now) (g.Z.Sizes.lengths c.args.sizes.now) (plan_of c.args.plan.now) c.args.old.now c.args.new.now (whole_if (plan_of c.args.plan.now) (plan_of c.args.child.now) c.requires.child (λ b. never (c.if-is_by_row.ensures.1 b)) (λ b. never (c.if-is_distinct.ensures.1 b))) c.requires.differ
-
-pub grown_sides-least_at-requires-in-Some : goal.grown_sides-least_at-requires-in-Some
-grown_sides-least_at-requires-in-Some g t c κs within =
-    let cut : IsCutOf (g.Z.Sizes.lengths c.args.sizes.now) (plan_of c.args.left.now) c.sides.result.0.now = subst (IsCutOf (g.Z.Sizes.lengths c.args.sizes.now) (plan_of c.args.left.now)) (sym (c.sides.ensures.lefts ∙ ap (lefts (plan_of c.args.left.now)) c.items.ensures)) (left_cut (g.Z.Sizes.lengths c.args.sizes.now) (plan_of c.args.plan.now) (plan_of c.args.left.now) (plan_of c.args.right.now) c.args.hit.cuts (two_of_join (plan_of c.args.plan.now) (plan_of c.args.left.now) (plan_of c.args.right.now) c.requires.sides) (hit_cuts (g.Z.Sizes.lengths c.args.sizes.now) (g.L.Lookup.entries c.args.lookup.now) (plan_of c.args.plan.now) c.args.cuts.now c.args.hit c.requires.sound c.requires.hit c.requires.cuts).before) in
-    let lower = c.requires.left in search rules
-
-pub grown_sides-least_at-requires-in-Some-2 : goal.grown_sides-least_at-requires-in-Some-2
-grown_sides-least_at-requires-in-Some-2 g t c κs within =
-    let cut : IsCutOf (g.Z.Sizes.lengths c.args.sizes.now) (plan_of c.args.right.now) c.sides-2.result.1.now = subst (IsCutOf (g.Z.Sizes.lengths c.args.sizes.now) (plan_of c.args.right.now)) (sym c.sides-2.ensures.rights) (right_cut (g.Z.Sizes.lengths c.args.sizes.now) (plan_of c.args.plan.now) (plan_of c.args.left.now) (plan_of c.args.right.now) c.args.cuts.now (two_of_join (plan_of c.args.plan.now) (plan_of c.args.left.now) (plan_of c.args.right.now) c.requires.sides) c.requires.cuts) in
-    let lower = c.requires.right in search rules
-
-pub grown_sides-returns-in-None-clause-answer : goal.grown_sides-returns-in-None-clause-answer
-grown_sides-returns-in-None-clause-answer g t c =
-    let n = none_along (g.L.Lookup.entries c.args.lookup.now) (plan_of c.args.left.now) (c.sides.ensures.lefts ∙ ap (lefts (plan_of c.args.left.now)) c.items.ensures) c.sides-2.ensures.lefts (rw c.in-None.is at c.in_ok-delta_at.ensures.answer) in
-    law.grown_both_none (g.L.Lookup.entries c.args.lookup.now) c.requires.sound (g.Z.Sizes.lengths c.args.sizes.now) (plan_of c.args.plan.now) c.args.cuts.now c.args.hit c.requires.hit (plan_of c.args.left.now) (plan_of c.args.right.now) c.requires.sides (λ same. never (c.if-are_same_cuts.ensures.1 ((c.sides.ensures.lefts ∙ ap (lefts (plan_of c.args.left.now)) c.items.ensures) ∙ same ∙ sym c.sides-2.ensures.lefts))) c.requires.differ (λ d e k m. n e m)
+pub price_at-returns-clause-found : goal.price_at-returns-clause-found
+price_at-returns-clause-found g t c =
+    c.in_ok-keep_price.ensures (g.L.Lookup.entries c.args.lookup.now) (g.Z.Sizes.lengths c.args.sizes.now) c.in_ok-delta.ensures.found (c.price_of-price.ensures (g.L.Lookup.entries c.args.lookup.now) (g.Z.Sizes.lengths c.args.sizes.now) (plan_of c.args.stretch.plan.now) c.args.stretch.old.now c.args.stretch.new.now c.in_ok-delta.ensures.answer)

@@ -1,47 +1,38 @@
 -- The recursion goes down the plan. At one plan a delta comes before its rewritings, and those come before the forms.
-use Rattle.std.proofs.Common.{ℕ, ◌+◌, ◌*◌}
+use Rattle.std.proofs.Common.{ℕ, ◌+◌, ◌*◌, max}
 use Rattle.plan_core.specs.OperatorCount.{operator_count}
 use Rattle.plan_core.specs.PlainPlan.{plan_of}
 use Rattle.rewriter.proofs.search.+search.Given as goal
 
 abbrev pub decreases-computed_at : goal.decreases-computed_at
-decreases-computed_at g l = 9 * operator_count (plan_of l.plan.now) + 0
-
-abbrev pub decreases-grown_concat : goal.decreases-grown_concat
-decreases-grown_concat g l = 9 * operator_count (plan_of l.plan.now) + 0
-
-abbrev pub decreases-grown_sides : goal.decreases-grown_sides
-decreases-grown_sides g l = 9 * operator_count (plan_of l.plan.now) + 0
-
-abbrev pub decreases-grown_join : goal.decreases-grown_join
-decreases-grown_join g l = 9 * operator_count (plan_of l.plan.now) + 1
+decreases-computed_at g l = 10 * operator_count (plan_of l.part.plan.now) + 0
 
 abbrev pub decreases-grown_from : goal.decreases-grown_from
-decreases-grown_from g l = 9 * operator_count (plan_of l.plan.now) + 2
+decreases-grown_from g l = 10 * operator_count (plan_of l.part.plan.now) + 0
 
 abbrev pub decreases-grown_at : goal.decreases-grown_at
-decreases-grown_at g l = 9 * operator_count (plan_of l.plan.now) + 3
+decreases-grown_at g l = 10 * operator_count (plan_of l.part.plan.now) + 1
 
 abbrev pub decreases-chosen_at : goal.decreases-chosen_at
-decreases-chosen_at g l = 9 * operator_count (plan_of l.plan.now) + 4
+decreases-chosen_at g l = 10 * operator_count (plan_of l.part.plan.now) + 2
 
 abbrev pub decreases-choose_at : goal.decreases-choose_at
-decreases-choose_at g l = 9 * operator_count (plan_of l.plan.now) + 4
+decreases-choose_at g l = 10 * operator_count (plan_of l.part.plan.now) + 2
 
 abbrev pub decreases-choice_at : goal.decreases-choice_at
-decreases-choice_at g l = 9 * operator_count (plan_of l.plan.now) + 5
+decreases-choice_at g l = 10 * operator_count (plan_of l.part.plan.now) + 3
 
 abbrev pub decreases-least_at : goal.decreases-least_at
-decreases-least_at g l = 9 * operator_count (plan_of l.plan.now) + 6
+decreases-least_at g l = 10 * operator_count (plan_of l.part.plan.now) + 4
 
-abbrev pub decreases-delta_of_one : goal.decreases-delta_of_one
-decreases-delta_of_one g l = 9 * operator_count (plan_of l.plan.now) + 7
+abbrev pub decreases-pair_at : goal.decreases-pair_at
+decreases-pair_at g l = max (10 * operator_count (plan_of l.stretch.plan.now) + 9) (10 * operator_count (plan_of l.part.plan.now) + 5)
 
-abbrev pub decreases-delta_of_concat : goal.decreases-delta_of_concat
-decreases-delta_of_concat g l = 9 * operator_count (plan_of l.plan.now) + 7
+abbrev pub decreases-increased_at : goal.decreases-increased_at
+decreases-increased_at g l = 10 * operator_count (plan_of l.stretch.plan.now) + 6
 
-abbrev pub decreases-delta_of_join : goal.decreases-delta_of_join
-decreases-delta_of_join g l = 9 * operator_count (plan_of l.plan.now) + 7
+abbrev pub decreases-price_at : goal.decreases-price_at
+decreases-price_at g l = 10 * operator_count (plan_of l.stretch.plan.now) + 7
 
 abbrev pub decreases-delta_at : goal.decreases-delta_at
-decreases-delta_at g l = 9 * operator_count (plan_of l.plan.now) + 8
+decreases-delta_at g l = 10 * operator_count (plan_of l.stretch.plan.now) + 8

@@ -1,8 +1,0 @@
-use Rattle.plan_core.specs.PlainPlan.{plan_of}
-use Rattle.rewriter.proofs.LeastParts as law
-use Rattle.rewriter.proofs.Shapes.{never}
-use Rattle.rewriter.proofs.search.delta_scan.Goals as goal
-
-pub returns : goal.returns
-returns g c =
-    law.delta_scan_none (g.L.Lookup.entries c.args.lookup.now) (g.Z.Sizes.lengths c.args.sizes.now) (plan_of c.args.plan.now) c.args.old.now c.args.new.now c.requires.scan c.requires.differ (λ l. never (c.if-is_longer.ensures.1 l))
