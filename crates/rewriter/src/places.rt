@@ -4,6 +4,7 @@
 use rows_core::Cut;
 
 const INPUTS: u64 = 3;
+
 const KEYS: u64 = 0x9E37_79B9_7F4A_7C15;
 
 /// The number of the place of a whole plan.

@@ -13,9 +13,9 @@ ghost use Rattle.rewriter.specs.Search.{IsChoice, IsDeltaPriceIfAny};
 ghost use Rattle.rewriter.specs.Table.{AreFound};
 
 use crate::choosing::{cheapest, price_of, priced_alone, without_tree};
+use crate::computing::inputs_of;
 use crate::growth::growth_of;
 use crate::increase::increase_of;
-use crate::computing::inputs_of;
 use crate::made::{
     computed_one, computed_scan, computed_two, delta_of_child, delta_of_distinct, delta_of_join,
     grown_both, grown_left, grown_right, grown_tail, new_rows, read_whole, unchanged,
