@@ -10,5 +10,7 @@ pub mod MadeOnes
 pub mod MadeTrees
 pub mod NamedResults
 pub mod PartTimes
+pub mod PieceFiles
+pub mod PieceResults
 pub mod TreeOwners
 pub mod TreeParts

@@ -24,6 +24,7 @@ use Rattle.growth_laws.specs.Growth.{Made, whole_made}
 use Rattle.growth_laws.specs.KeptResults.{KeptResults}
 use Rattle.growth_laws.specs.Lists.{Extents, plan_lists}
 use Rattle.growth_laws.specs.MadePlaces.{place, made_places}
+use Rattle.growth_laws.specs.Pieces.{Entry, Gathered, pieces_of}
 use Rattle.growth_laws.specs.Trees.{made_by}
 
 -- rows of one number each
@@ -254,6 +255,19 @@ pub made_within_earlier :
     (OfDistinct within_earlier (Change with_right first_of_both left_cuts (OfJoin (scan_delta 0) (Node right_once (up_to 1 ∷ []) (Read (hit (up_to 1 ∷ []))))))))))
     ≡ place right_once (up_to 1 ∷ []) ∷ place counted_join left_cuts ∷ []
 made_within_earlier = refl
+
+-- ---- the pieces that are read
+
+-- a group over a filter takes the rows of each extent in as soon as it is read
+pub one_gathered :
+    pieces_of (computed (plan.Group above_one (0 ∷ []) (Count ∷ [])) new) ≡ Gathered (plan.Group above_one (0 ∷ []) (Count ∷ [])) new ∷ []
+one_gathered = refl
+
+-- the kept result, then the old distinct's extent, then the new one
+pub pieces_of_grown :
+    pieces_of (Node counted_once new (Tail (hit old) (Change once old new (OfDistinct (Node once old (One (scanned 0 1))) (scan_delta 0)))))
+    ≡ Entry 1 ∷ Gathered once old ∷ Gathered (scan 0) (record { from = 1; to = 2 } ∷ []) ∷ []
+pieces_of_grown = refl
 
 -- ---- overflow
 

@@ -7,4 +7,5 @@ pub mod Lists
 pub mod MadePlaces
 pub mod Making
 pub mod Parts
+pub mod Pieces
 pub mod Trees

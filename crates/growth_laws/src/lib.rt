@@ -10,6 +10,7 @@ pub mod given;
 pub mod grown;
 pub mod lists;
 pub mod parts;
+pub mod pieces;
 pub mod places;
 pub mod trees;
 
@@ -21,6 +22,7 @@ pub use given::rows_of_ungrown_rewritings;
 pub use grown::{joins_that_grow, results_that_grow};
 pub use lists::{lists_of_two_inputs, rows_of_each_extent, rows_of_longer_intervals};
 pub use parts::{machine_times_of_parts, results_of_parts};
+pub use pieces::{files_of_pieces, results_of_pieces};
 pub use places::results_of_made_places;
 pub use trees::{
     one_result_of_lists, results_of_deltas, results_of_entries, results_of_rewritings,
