@@ -1,0 +1,80 @@
+//! The table.
+ghost use Rattle.std.specs.Prelude.{◌≡◌, [], ◌∷◌, ◌++◌, length, None};
+ghost use Rattle.std.specs.Prelude.{IfSome, IfNone, OnOk, IfErr, OnErr};
+ghost use Rattle.job_table.specs.Jobs.{place_of, is_held, IsTakenOut};
+
+use rows_core::Name;
+use std::alloc::{AllocFailed, Global};
+
+/// A job that is open: its name, and the ids of the kept results that it holds until it ends.
+#[derive(Drop)]
+pub struct OpenJob<J> {
+    pub name: Name,
+    pub job: J,
+    pub holds: Vec<u32>,
+}
+
+/// The open jobs, in the order in which they were opened.
+#[derive(Drop)]
+pub struct JobTable<J> {
+    pub jobs: Vec<OpenJob<J>>,
+}
+
+impl<J: Drop> JobTable<J> {
+    /// No jobs. It takes no memory.
+    pub fn new(alloc: Global) -> JobTable<J>
+        ensures { result.jobs.items ≡ [] }
+    {
+        JobTable {
+            jobs: Vec::new(alloc),
+        }
+    }
+
+    /// How many jobs are open.
+    pub fn count(&self) -> usize
+        ensures { result ≡ length self.now.jobs.items }
+    {
+        self.jobs.len()
+    }
+
+    /// Opens a job behind the others. No open job has its name. Where memory is refused the job is given back,
+    /// and the table is as it was.
+    pub fn admit(&mut self, name: Name, job: J, holds: Vec<u32>) -> Result<(), J>
+        ensures admitted { OnOk result (self.new.jobs.items
+            ≡ self.old.jobs.items ++ record { name = name; job = job; holds = holds } ∷ []) }
+        ensures given_back { IfErr result (λ back. back ≡ job) }
+        ensures refused { OnErr result (self.new.jobs.items ≡ self.old.jobs.items) }
+    {
+        match self.jobs.push(OpenJob { name, job, holds }) {
+            Ok(()) => Ok(()),
+            Err(failed) => Err(failed.value.job),
+        }
+    }
+
+    /// The place of the job of this name, from 0; `None` exactly where no open job has it. It takes no memory.
+    pub fn place_of(&self, name: &Name) -> Option<usize>
+        ensures { result ≡ place_of self.now.jobs.items name.now }
+    {
+        self.jobs
+            .iter()
+            .position(|job| job.name.bytes() == name.bytes())
+    }
+
+    /// Takes the job of this name out, where it is open; the others stay in their order. It takes no memory.
+    pub fn give(&mut self, name: &Name) -> Option<J>
+        ensures some { IfSome result
+            (λ job. IsTakenOut name.now job self.old.jobs.items self.new.jobs.items) }
+        ensures none { IfNone result (place_of self.old.jobs.items name.now ≡ None) }
+        ensures stay { IfNone result (self.new.jobs.items ≡ self.old.jobs.items) }
+    {
+        let at = self.place_of(name)?;
+        Some(self.jobs.remove(at).job)
+    }
+
+    /// Whether an open job holds the kept result with this id. It takes no memory.
+    pub fn pinned(&self, id: u32) -> bool
+        ensures { result ≡ is_held self.now.jobs.items id }
+    {
+        self.jobs.iter().any(|job| job.holds.contains(&id))
+    }
+}
