@@ -37,7 +37,7 @@ impl<J: Drop> JobTable<J> {
         self.jobs.len()
     }
 
-    /// Opens a job behind the others. No open job has its name. Where memory is refused the job is given back,
+    /// Opens a job behind the others; who calls it keeps names apart. Where memory is refused the job is given back,
     /// and the table is as it was.
     pub fn admit(&mut self, name: Name, job: J, holds: Vec<u32>) -> Result<(), J>
         ensures admitted { OnOk result (self.new.jobs.items
