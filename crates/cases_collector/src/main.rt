@@ -1,8 +1,8 @@
-//! Cases of collections: a case a line on standard input, and on standard output a line for each, what it gives.
-//! `victims` with a tick, the bytes asked for and a lease, the pinned ids and the entries gives the ids that go;
-//! `order` with a tick and two entries says which goes first. An entry is its id, the length of its file, its last
-//! use, its uses, its machine time and its making. ` | ` stands between the parts, and `, ` between entries. A line
-//! that is empty or begins with `#` is no case.
+//! Cases of collections: a case a line on standard input, and on standard output a line for each, what it
+//! gives. `victims` with a tick, the bytes asked for and a lease, the pinned ids and the entries gives the
+//! ids that go; `order` with a tick and two entries says which goes first. An entry is its id, the length of
+//! its file, its last use, its uses, its machine time and its making. ` | ` stands between the parts, and `,
+//! ` between entries. A line that is empty or begins with `#` is no case.
 #![tactic(auto)]
 
 mod given;

@@ -65,8 +65,8 @@ fn entries_of(alloc: Global, text: &str) -> Result<Vec<Entry>> {
     Ok(entries)
 }
 
-/// A kept result: its id, the length of its file, its cut and its plan, as `7 48 0-1 s0 distinct`. All have the
-/// same keys, so that a look-up by them alone would err.
+/// A kept result: its id, the length of its file, its cut and its plan, as `7 48 0-1 s0 distinct`. All have
+/// the same keys, so that a look-up by them alone would err.
 fn entry_of(alloc: Global, text: &str) -> Result<Entry> {
     let (id, others) = text.split_once(' ').context("no length")?;
     let (len, others) = others.split_once(' ').context("no cut")?;

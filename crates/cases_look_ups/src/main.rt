@@ -1,7 +1,7 @@
-//! Cases of look-ups: a case a line on standard input, and on standard output a line for each, what it gives. A
-//! case is a plan (`postfix_plans` says how plans are written), a cut, the ids that are left out, and the kept
-//! results, with ` | ` between them. The answer is the result of the plan and cut and the earlier one, each by its
-//! id and the length of its file. A line that is empty or begins with `#` is no case.
+//! Cases of look-ups: a case a line on standard input, and on standard output a line for each, what it gives.
+//! A case is a plan (`postfix_plans` says how plans are written), a cut, the ids that are left out, and the
+//! kept results, with ` | ` between them. The answer is the result of the plan and cut and the earlier one,
+//! each by its id and the length of its file. A line that is empty or begins with `#` is no case.
 #![tactic(auto)]
 
 mod given;

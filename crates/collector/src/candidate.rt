@@ -36,8 +36,8 @@ impl Candidate {
         }
     }
 
-    /// The greater ratio first, and of the same ones the smaller id. Ratios are compared by cross-multiplication,
-    /// so nothing is rounded.
+    /// The greater ratio first, and of the same ones the smaller id. Ratios are compared by
+    /// cross-multiplication, so nothing is rounded.
     pub fn cmp_by_ratio(&self, other: &Candidate) -> Ordering
         ensures { result ≡ standing_cmp (standing self.now) (standing other.now) }
     {

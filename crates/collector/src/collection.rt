@@ -12,10 +12,10 @@ use catalog_types::Entry;
 use rows_core::Memory;
 use std::alloc::Global;
 
-/// The ids of the entries that go at the tick `now` so that at least `reclaim` bytes of result files are freed, in
-/// the order in which they go, which is that of `ratio_cmp`: as few from the front as are enough, or all that may
-/// go. An entry may go unless its id is one of `pinned`, or fewer than `lease` ticks have passed since it was made;
-/// a lease of 0 holds nothing back. It takes no longer than a sort.
+/// The ids of the entries that go at the tick `now` so that at least `reclaim` bytes of result files are
+/// freed, in the order in which they go, which is that of `ratio_cmp`: as few from the front as are enough,
+/// or all that may go. An entry may go unless its id is one of `pinned`, or fewer than `lease` ticks have
+/// passed since it was made; a lease of 0 holds nothing back. It takes no longer than a sort.
 pub fn victims(
     alloc: Global,
     entries: &[Entry],

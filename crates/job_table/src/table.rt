@@ -37,8 +37,8 @@ impl<J: Drop> JobTable<J> {
         self.jobs.len()
     }
 
-    /// Opens a job behind the others; who calls it keeps names apart. Where memory is refused the job is given back,
-    /// and the table is as it was.
+    /// Opens a job behind the others; who calls it keeps names apart. Where memory is refused the job is
+    /// given back, and the table is as it was.
     pub fn admit(&mut self, name: Name, job: J, holds: Vec<u32>) -> Result<(), J>
         ensures admitted { OnOk result (self.new.jobs.items
             ≡ self.old.jobs.items ++ record { name = name; job = job; holds = holds } ∷ []) }
@@ -51,7 +51,8 @@ impl<J: Drop> JobTable<J> {
         }
     }
 
-    /// The place of the job of this name, from 0; `None` exactly where no open job has it. It takes no memory.
+    /// The place of the job of this name, from 0; `None` exactly where no open job has it. It takes no
+    /// memory.
     pub fn place_of(&self, name: &Name) -> Option<usize>
         ensures { result ≡ place_of self.now.jobs.items name.now }
     {
