@@ -1,5 +1,5 @@
 -- What a crash may leave of a file, and how the calls change it.
-use Rattle.std.specs.Prelude.{◌⊎◌, ℕ, zero, suc, ◌+◌, Bool, true, false, ◌&&◌, ◌||◌, ◌==◌, not, nat_le, nat_lt, max, List, [], ◌∷◌, ◌++◌, ◌-◌, replicate, length, take, map, filter, find, Option, None, Some, unwrap_or, IsTrue, if◌then◌else◌}
+use Rattle.std.specs.Prelude.{◌⊎◌, ℕ, zero, suc, ◌+◌, Bool, true, false, ◌&&◌, ◌||◌, ◌==◌, not, nat_le, nat_lt, max, List, [], ◌∷◌, ◌++◌, ◌-◌, replicate, length, take, map, find, Option, None, Some, unwrap_or, IsTrue, if◌then◌else◌}
 use Rattle.std.specs.List.{list_all}
 use Rattle.outside_traits.specs.Calls.{overlaid}
 use Rattle.mem_outside.specs.Shown.{Loose, Shown}

@@ -57,8 +57,8 @@ pub(crate) fn empty(alloc: Global) -> History
 }
 
 // Goes on to the next moment, with this file changed. The others have their removed files, or lose them,
-// which is done by the moment of the last sync alone. Room for the undo is asked for first, so that all stays as it
-// was where there is none.
+// which is done by the moment of the last sync alone. Room for the undo is asked for first, so that all stays
+// as it was where there is none.
 fn change(history: &mut History, state: FileState, all: bool) -> Result<(), Memory>
     requires history { IsTrue (is_history history.old) }
     ensures history { IsTrue (is_history history.new) }

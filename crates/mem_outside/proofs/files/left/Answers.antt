@@ -1,4 +1,4 @@
-use Rattle.std.proofs.Common.{◌≡◌, ◌++◌, [], List, Bool, IsTrue, ℕ, length, map, refl, sym, ap, ◌∙◌, subst, append-nil, rules}
+use Rattle.std.proofs.Common.{◌≡◌, ◌++◌, [], List, IsTrue, ℕ, length, map, sym, ap, ◌∙◌, subst, append-nil, rules}
 use Rattle.std.specs.List.{list_all}
 use Rattle.mem_outside.specs.declared.history.Version.{Version}
 use Rattle.mem_outside.specs.declared.history.Undo.{Undo}
