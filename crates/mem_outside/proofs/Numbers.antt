@@ -6,9 +6,9 @@ use Rattle.std.proofs.lemmas.Bool.{cases_eq}
 use Rattle.std.proofs.lemmas.List.{get_or_default}
 use Rattle.std.proofs.lemmas.Bool.Decides.{nat_tests}
 use Rattle.mem_outside.specs.Shown.{Shown}
-use Rattle.mem_outside.specs.Outcomes.{absent, numbers_differ, state_in, with_file, left_of}
+use Rattle.mem_outside.specs.Outcomes.{absent, numbers_differ, state_in, with_file, left_of, kept}
 use Rattle.mem_outside.specs.Loosening.{both, and_of}
-use Rattle.mem_outside.specs.Sound.{look_same, look_other, rest_of, rest_dropped, rest_kept}
+use Rattle.mem_outside.specs.Sound.{look_same, look_other, with_here, with_later}
 use Rattle.mem_outside.proofs.Nearest.{number_at, lower_still}
 
 not_equal : (a b : ℕ) → a ≢ b → IsTrue (not (a == b))
@@ -21,38 +21,42 @@ differs a b other = grind (arith, nat_tests)
 abbrev pub has_no : ℕ → List Shown → Bool
 has_no number files = list_all (λ (t : Shown). not (t.number == number)) files
 
-module _ (all : Bool) (n : ℕ) where
-  pub rest_has_no : (number : ℕ) (files : List Shown) → IsTrue (has_no number files) → IsTrue (has_no number (rest_of all n files))
-  rest_has_no number [] none = refl
-  rest_has_no number (t ∷ files) none =
-      let parts = both (not (t.number == number)) (has_no number files) none in
-      elim (cases_eq t.number n) [
-        | inl dropped ↦ subst (λ (l : List Shown). IsTrue (has_no number l)) (sym (rest_dropped all n t files dropped)) (rest_has_no number files parts.1)
-        | inr stays ↦ subst (λ (l : List Shown). IsTrue (has_no number l)) (sym (rest_kept all n t files stays))
-            (and_of (not (t.number == number)) (has_no number (rest_of all n files)) parts.0 (rest_has_no number files parts.1))
-      ]
+module _ (all : Bool) where
+  kept_has_no : (number : ℕ) (files : List Shown) → has_no number (map (kept all) files) ≡ has_no number files
+  kept_has_no number [] = refl
+  kept_has_no number (t ∷ files) = ap (λ (b : Bool). not (t.number == number) && b) (kept_has_no number files)
 
-  pub rest_has_not_it : (files : List Shown) → IsTrue (has_no n (rest_of all n files))
-  rest_has_not_it [] = refl
-  rest_has_not_it (t ∷ files) = elim (cases_eq t.number n) [
-    | inl dropped ↦ subst (λ (l : List Shown). IsTrue (has_no n l)) (sym (rest_dropped all n t files dropped)) (rest_has_not_it files)
-    | inr stays ↦ subst (λ (l : List Shown). IsTrue (has_no n l)) (sym (rest_kept all n t files stays))
-        (and_of (not (t.number == n)) (has_no n (rest_of all n files)) (not_equal t.number n stays) (rest_has_not_it files))
-  ]
+  kept_differ : (files : List Shown) → numbers_differ (map (kept all) files) ≡ numbers_differ files
+  kept_differ [] = refl
+  kept_differ (t ∷ files) =
+      ap (λ (b : Bool). b && numbers_differ (map (kept all) files)) (kept_has_no t.number files)
+      ∙ ap (λ (b : Bool). has_no t.number files && b) (kept_differ files)
 
-  pub rest_differ : (files : List Shown) → IsTrue (numbers_differ files) → IsTrue (numbers_differ (rest_of all n files))
-  rest_differ [] differ = refl
-  rest_differ (t ∷ files) differ =
-      let parts = both (has_no t.number files) (numbers_differ files) differ in
-      elim (cases_eq t.number n) [
-        | inl dropped ↦ subst (λ (l : List Shown). IsTrue (numbers_differ l)) (sym (rest_dropped all n t files dropped)) (rest_differ files parts.1)
-        | inr stays ↦ subst (λ (l : List Shown). IsTrue (numbers_differ l)) (sym (rest_kept all n t files stays))
-            (and_of (has_no t.number (rest_of all n files)) (numbers_differ (rest_of all n files)) (rest_has_no t.number files parts.0) (rest_differ files parts.1))
-      ]
+  module _ (s : Shown) where
+    with_has_no : (number : ℕ) (files : List Shown) → s.number ≢ number → IsTrue (has_no number files) → IsTrue (has_no number (with_file all s files))
+    with_has_no number [] other none = and_of (not (s.number == number)) true (not_equal s.number number other) refl
+    with_has_no number (t ∷ files) other none =
+        let parts = both (not (t.number == number)) (has_no number files) none in
+        elim (cases_eq t.number s.number) [
+          | inl here ↦ subst (λ (l : List Shown). IsTrue (has_no number l)) (sym (with_here all s t files here))
+              (and_of (not (s.number == number)) (has_no number (map (kept all) files)) (not_equal s.number number other) (subst IsTrue (sym (kept_has_no number files)) parts.1))
+          | inr later ↦ subst (λ (l : List Shown). IsTrue (has_no number l)) (sym (with_later all s t files later))
+              (and_of (not (t.number == number)) (has_no number (with_file all s files)) parts.0 (with_has_no number files other parts.1))
+        ]
 
-pub with_file_differ : (all : Bool) (s : Shown) (files : List Shown) → IsTrue (numbers_differ files) → IsTrue (numbers_differ (with_file all s files))
-with_file_differ all s files differ =
-    and_of (has_no s.number (rest_of all s.number files)) (numbers_differ (rest_of all s.number files)) (rest_has_not_it all s.number files) (rest_differ all s.number files differ)
+    pub with_file_differ : (files : List Shown) → IsTrue (numbers_differ files) → IsTrue (numbers_differ (with_file all s files))
+    with_file_differ [] differ = refl
+    with_file_differ (t ∷ files) differ =
+        let parts = both (has_no t.number files) (numbers_differ files) differ in
+        elim (cases_eq t.number s.number) [
+          | inl here ↦ subst (λ (l : List Shown). IsTrue (numbers_differ l)) (sym (with_here all s t files here))
+              (and_of (has_no s.number (map (kept all) files)) (numbers_differ (map (kept all) files))
+              (subst (λ (n : ℕ). IsTrue (has_no n (map (kept all) files))) here (subst IsTrue (sym (kept_has_no t.number files)) parts.0))
+              (subst IsTrue (sym (kept_differ files)) parts.1))
+          | inr later ↦ subst (λ (l : List Shown). IsTrue (numbers_differ l)) (sym (with_later all s t files later))
+              (and_of (has_no t.number (with_file all s files)) (numbers_differ (with_file all s files))
+              (with_has_no t.number files (λ is. later (sym is)) parts.0) (with_file_differ files parts.1))
+        ]
 
 pub changed_differ : (all : Bool) (s : Shown) (xs ys : List Shown) → ys ≡ with_file all s xs → IsTrue (numbers_differ xs) → IsTrue (numbers_differ ys)
 changed_differ all s xs ys is differ = subst (λ (l : List Shown). IsTrue (numbers_differ l)) (sym is) (with_file_differ all s xs differ)

@@ -1,5 +1,5 @@
 -- What a crash may leave of a file, and how the calls change it.
-use Rattle.std.specs.Prelude.{◌⊎◌, ℕ, zero, suc, ◌+◌, Bool, true, false, ◌&&◌, ◌||◌, ◌==◌, not, nat_le, nat_lt, max, List, [], ◌∷◌, ◌++◌, ◌-◌, replicate, length, take, map, filter, find, Option, None, Some, unwrap_or, IsTrue, if◌then◌else◌}
+use Rattle.std.specs.Prelude.{◌⊎◌, ℕ, zero, suc, ◌+◌, Bool, true, false, ◌&&◌, ◌||◌, ◌==◌, not, nat_le, nat_lt, max, List, [], ◌∷◌, ◌++◌, ◌-◌, replicate, length, take, map, find, Option, None, Some, unwrap_or, IsTrue, if◌then◌else◌}
 use Rattle.std.specs.List.{list_all}
 use Rattle.outside_traits.specs.Calls.{overlaid}
 use Rattle.mem_outside.specs.Shown.{Loose, Shown}
@@ -79,9 +79,10 @@ abbrev pub numbers_differ : List Shown → Bool
 numbers_differ [] = true
 numbers_differ (s ∷ files) = list_all (λ (t : Shown). not (t.number == s.number)) files && numbers_differ files
 
--- the files with this one in place of that of its number
+-- the files with this one in place of that of its number, or behind the others; these with their removed files, or without
 abbrev pub with_file : Bool → Shown → List Shown → List Shown
-with_file all s files = s ∷ map (kept all) (filter (λ (t : Shown). not (t.number == s.number)) files)
+with_file all s [] = s ∷ []
+with_file all s (t ∷ files) = if t.number == s.number then s ∷ map (kept all) files else kept all t ∷ with_file all s files
 
 -- what reads give is an outcome, and an absent file is empty after each crash, but for removed ones
 abbrev pub is_sound : Shown → Bool

@@ -1,6 +1,6 @@
 -- Each state of a file is sound, and each outcome after a call is one before it after the call's step.
 use Rattle.std.proofs.Common.{◌≡◌, ◌≢◌, inl, inr, ℕ, ◌+◌, ◌≤◌, max, Bool, true, false, ◌&&◌, ◌||◌, List, [], ◌∷◌, Option, Some, IsTrue, length, take, map, refl, sym, ap, ◌∙◌, subst, arith, length-take}
-use Rattle.std.specs.Prelude.{◌==◌, not, nat_le, filter, find, unwrap_or, cond}
+use Rattle.std.specs.Prelude.{◌==◌, nat_le, find, unwrap_or, cond}
 use Rattle.std.specs.List.{list_all}
 use Rattle.std.proofs.lemmas.Bool.Decides.{nat_tests}
 use Rattle.std.proofs.lemmas.Bool.{cases_Bool, cases_eq, false≢true}
@@ -200,52 +200,66 @@ state_sound (s ∷ files) file all =
       | inr other ↦ subst (λ (t : Shown). IsTrue (is_sound t)) (sym (look_other s files file other)) (state_sound files file parts.1)
     ]
 
-module _ (all : Bool) (n : ℕ) where
-  abbrev pub rest_of : List Shown → List Shown
-  rest_of files = map (kept all) (filter (λ (t : Shown). not (t.number == n)) files)
-
-  pub rest_dropped : (t : Shown) (files : List Shown) → t.number ≡ n → rest_of (t ∷ files) ≡ rest_of files
-  rest_dropped t files same =
-      let test : (t.number == n) ≡ true = subst (λ (m : ℕ). IsTrue (t.number == m)) same (same_test t.number) in
-      ap (λ (b : Bool). map (kept all) (cond (not b) (t ∷ filter (λ (u : Shown). not (u.number == n)) files) (filter (λ (u : Shown). not (u.number == n)) files))) test
-
-  pub rest_kept : (t : Shown) (files : List Shown) → t.number ≢ n → rest_of (t ∷ files) ≡ kept all t ∷ rest_of files
-  rest_kept t files other =
-      ap (λ (b : Bool). map (kept all) (cond (not b) (t ∷ filter (λ (u : Shown). not (u.number == n)) files) (filter (λ (u : Shown). not (u.number == n)) files))) (test_false t.number n other)
-
+module _ (all : Bool) where
   kept_absent : (b : Bool) (g : ℕ) → absent g ≡ kept b (absent g)
   kept_absent true g = refl
   kept_absent false g = refl
 
-  pub rest_found : (files : List Shown) (g : ℕ) → g ≢ n → state_in (rest_of files) g ≡ kept all (state_in files g)
-  rest_found [] g other = kept_absent all g
-  rest_found (t ∷ files) g other = elim (cases_eq t.number n) [
-    | inl dropped ↦
-        ap (λ (l : List Shown). state_in l g) (rest_dropped t files dropped) ∙ rest_found files g other
-        ∙ ap (kept all) (sym (look_other t files g (λ same. other (sym same ∙ dropped))))
-    | inr stays ↦ ap (λ (l : List Shown). state_in l g) (rest_kept t files stays) ∙ (elim (cases_eq t.number g) [
-      | inl same ↦ look_same (kept all t) (rest_of files) g same ∙ ap (kept all) (sym (look_same t files g same))
-      | inr further ↦ look_other (kept all t) (rest_of files) g further ∙ rest_found files g other ∙ ap (kept all) (sym (look_other t files g further))
-    ])
+  kept_found : (files : List Shown) (g : ℕ) → state_in (map (kept all) files) g ≡ kept all (state_in files g)
+  kept_found [] g = kept_absent all g
+  kept_found (t ∷ files) g = elim (cases_eq t.number g) [
+    | inl same ↦ look_same (kept all t) (map (kept all) files) g same ∙ ap (kept all) (sym (look_same t files g same))
+    | inr other ↦ look_other (kept all t) (map (kept all) files) g other ∙ kept_found files g ∙ ap (kept all) (sym (look_other t files g other))
   ]
 
-  pub rest_sound : (files : List Shown) → IsTrue (list_all is_sound files) → IsTrue (list_all is_sound (rest_of files))
-  rest_sound [] sound = refl
-  rest_sound (t ∷ files) sound =
+  all_kept_sound : (files : List Shown) → IsTrue (list_all is_sound files) → IsTrue (list_all is_sound (map (kept all) files))
+  all_kept_sound [] sound = refl
+  all_kept_sound (t ∷ files) sound =
       let parts = both (is_sound t) (list_all is_sound files) sound in
-      elim (cases_eq t.number n) [
-        | inl dropped ↦ subst (λ (l : List Shown). IsTrue (list_all is_sound l)) (sym (rest_dropped t files dropped)) (rest_sound files parts.1)
-        | inr stays ↦ subst (λ (l : List Shown). IsTrue (list_all is_sound l)) (sym (rest_kept t files stays))
-            (and_of (is_sound (kept all t)) (list_all is_sound (rest_of files)) (kept_sound all t parts.0) (rest_sound files parts.1))
-      ]
+      and_of (is_sound (kept all t)) (list_all is_sound (map (kept all) files)) (kept_sound all t parts.0) (all_kept_sound files parts.1)
 
--- the changed file is found, and each other as it was, with its removed files or without
-pub with_file_same : (all : Bool) (s : Shown) (files : List Shown) (file : ℕ) → s.number ≡ file → state_in (with_file all s files) file ≡ s
-with_file_same all s files file same = look_same s (rest_of all s.number files) file same
+  module _ (s : Shown) where
+    pub with_here : (t : Shown) (files : List Shown) → t.number ≡ s.number → with_file all s (t ∷ files) ≡ s ∷ map (kept all) files
+    with_here t files same =
+        let test : (t.number == s.number) ≡ true = subst (λ (m : ℕ). IsTrue (t.number == m)) same (same_test t.number) in
+        ap (λ (b : Bool). cond b (s ∷ map (kept all) files) (kept all t ∷ with_file all s files)) test
 
-pub with_file_other : (all : Bool) (s : Shown) (files : List Shown) (g : ℕ) → g ≢ s.number → state_in (with_file all s files) g ≡ kept all (state_in files g)
-with_file_other all s files g other =
-    look_other s (rest_of all s.number files) g (λ same. other (sym same)) ∙ rest_found all s.number files g other
+    pub with_later : (t : Shown) (files : List Shown) → t.number ≢ s.number → with_file all s (t ∷ files) ≡ kept all t ∷ with_file all s files
+    with_later t files other =
+        ap (λ (b : Bool). cond b (s ∷ map (kept all) files) (kept all t ∷ with_file all s files)) (test_false t.number s.number other)
 
-pub with_file_sound : (all : Bool) (s : Shown) (files : List Shown) → IsTrue (is_sound s) → IsTrue (list_all is_sound files) → IsTrue (list_all is_sound (with_file all s files))
-with_file_sound all s files sound rest = and_of (is_sound s) (list_all is_sound (rest_of all s.number files)) sound (rest_sound all s.number files rest)
+    -- the changed file is found, and each other as it was, with its removed files or without
+    pub with_file_same : (files : List Shown) (file : ℕ) → s.number ≡ file → state_in (with_file all s files) file ≡ s
+    with_file_same [] file same = look_same s [] file same
+    with_file_same (t ∷ files) file same = elim (cases_eq t.number s.number) [
+      | inl here ↦ ap (λ (l : List Shown). state_in l file) (with_here t files here) ∙ look_same s (map (kept all) files) file same
+      | inr later ↦
+          ap (λ (l : List Shown). state_in l file) (with_later t files later)
+          ∙ look_other (kept all t) (with_file all s files) file (λ is. later (is ∙ sym same)) ∙ with_file_same files file same
+    ]
+
+    pub with_file_other : (files : List Shown) (g : ℕ) → g ≢ s.number → state_in (with_file all s files) g ≡ kept all (state_in files g)
+    with_file_other [] g other = look_other s [] g (λ is. other (sym is)) ∙ kept_absent all g
+    with_file_other (t ∷ files) g other = elim (cases_eq t.number s.number) [
+      | inl here ↦
+          ap (λ (l : List Shown). state_in l g) (with_here t files here)
+          ∙ look_other s (map (kept all) files) g (λ is. other (sym is)) ∙ kept_found files g
+          ∙ ap (kept all) (sym (look_other t files g (λ is. other (sym is ∙ here))))
+      | inr later ↦ ap (λ (l : List Shown). state_in l g) (with_later t files later) ∙ (elim (cases_eq t.number g) [
+        | inl same ↦ look_same (kept all t) (with_file all s files) g same ∙ ap (kept all) (sym (look_same t files g same))
+        | inr further ↦
+            look_other (kept all t) (with_file all s files) g further ∙ with_file_other files g other
+            ∙ ap (kept all) (sym (look_other t files g further))
+      ])
+    ]
+
+    pub with_file_sound : (files : List Shown) → IsTrue (is_sound s) → IsTrue (list_all is_sound files) → IsTrue (list_all is_sound (with_file all s files))
+    with_file_sound [] sound rest = and_of (is_sound s) true sound refl
+    with_file_sound (t ∷ files) sound rest =
+        let parts = both (is_sound t) (list_all is_sound files) rest in
+        elim (cases_eq t.number s.number) [
+          | inl here ↦ subst (λ (l : List Shown). IsTrue (list_all is_sound l)) (sym (with_here t files here))
+              (and_of (is_sound s) (list_all is_sound (map (kept all) files)) sound (all_kept_sound files parts.1))
+          | inr later ↦ subst (λ (l : List Shown). IsTrue (list_all is_sound l)) (sym (with_later t files later))
+              (and_of (is_sound (kept all t)) (list_all is_sound (with_file all s files)) (kept_sound all t parts.0) (with_file_sound files sound parts.1))
+        ]

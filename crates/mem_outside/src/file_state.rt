@@ -27,8 +27,7 @@ impl Model for Loosened {
 }
 
 /// A file as it reads, with what a crash may leave of it, and of removed files of its number. Copies share
-/// their bytes, so that a file which a call leaves alone is kept at each moment for the cost of a few
-/// pointers.
+/// their bytes, and so a copy costs a few pointers.
 #[derive(Drop)]
 pub struct FileState {
     number: u64,

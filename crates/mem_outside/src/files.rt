@@ -1,207 +1,213 @@
 //! The files of a store in memory, and their states at past moments.
 ghost use Rattle.std.specs.Prelude.{◌≡◌, ◌↔◌, ℕ, ◌+◌, ◌^◌, ◌<◌, ◌≤◌, ◌≢◌, map, Bool, true, false, ◌++◌, []};
 ghost use Rattle.std.specs.Prelude.{◌∷◌, length, take, IsTrue, IfOk, OnOk, OnErr, MatchOption, IfSome};
-ghost use Rattle.std.specs.Prelude.{IsSomeAnd, Some, ◌⊎◌};
+ghost use Rattle.std.specs.Prelude.{IsSomeAnd, Some, ◌⊎◌, if◌then◌else◌};
 ghost use Rattle.std.specs.List.{list_all};
 ghost use Rattle.outside_traits.specs.Calls.{Passes, Acts, Torn, Shortened, Same, Gone, NextIs};
 ghost use Rattle.mem_outside.specs.Outcomes.{absent, is_sound, numbers_differ, state_in, with_file, written};
 ghost use Rattle.mem_outside.specs.Outcomes.{shortened};
 ghost use Rattle.mem_outside.specs.Outcomes.{synced, removed, kept, left_of, stable_file};
 ghost use Rattle.mem_outside.specs.Moments.{view_of};
+ghost use Rattle.mem_outside.specs.History.{shown_at, current_of, past_of, is_history};
 
 use crate::file_state::FileState;
-use rows_core::{Memory, Seq};
+use crate::history::{History, Undo, Version};
+use indexmap::IndexMap;
+use rows_core::Memory;
 use std::alloc::Global;
-use std::mem;
 
-// The entry of the file of this number.
-fn entry_of(files: &[FileState], file: u64) -> Option<&FileState>
-    ensures { MatchOption result (state_in files.now file ≡ absent file)
-        (λ state. state.now ≡ state_in files.now file) }
+// The file as it is now.
+fn state_of(alloc: Global, version: &Version, synced: usize) -> Result<FileState, Memory>
+    ensures { IfOk result (λ state. state ≡ shown_at synced version.now) }
 {
-    for state in files {
-        if state.number() == file {
-            return Some(state);
-        }
-    }
-    None
+    version.state.try_copy(alloc, synced <= version.made)
 }
 
 // The state of the file of this number.
-pub(crate) fn state_in(alloc: Global, files: &[FileState], file: u64) -> Result<FileState, Memory>
-    ensures { IfOk result (λ state. state ≡ state_in files.now file) }
+fn state_in(alloc: Global, history: &History, file: u64) -> Result<FileState, Memory>
+    requires { IsTrue (is_history history.now) }
+    ensures { IfOk result (λ state. state ≡ state_in (current_of history.now) file) }
 {
-    match entry_of(files, file) {
-        Some(state) => state.try_copy(alloc, true),
+    match history.versions.get(&file) {
+        Some(version) => state_of(alloc, version, history.synced),
         None => FileState::absent(alloc, file),
     }
 }
 
-pub(crate) fn bytes_in(files: &[FileState], file: u64) -> &[u8]
-    ensures { result.now ≡ (state_in files.now file).bytes }
+pub(crate) fn bytes_in(history: &History, file: u64) -> &[u8]
+    requires { IsTrue (is_history history.now) }
+    ensures { result.now ≡ (state_in (current_of history.now) file).bytes }
 {
-    match entry_of(files, file) {
-        Some(state) => state.bytes(),
+    match history.versions.get(&file) {
+        Some(version) => version.state.bytes(),
         None => &[],
     }
 }
 
-// The files with this one in place of that of its number. The others have their removed files, or lose them.
-fn with_file(
-    alloc: Global,
-    files: &[FileState],
-    state: FileState,
-    all: bool,
-) -> Result<Vec<FileState>, Memory>
-    ensures { IfOk result (λ next. next.items ≡ with_file all state files.now) }
+pub(crate) fn empty(alloc: Global) -> History
+    ensures history { IsTrue (is_history result) }
+    ensures current { current_of result ≡ [] }
+    ensures past { past_of result ≡ [] }
 {
-    let number = state.number();
-    let mut next = Vec::new(alloc);
-    next.push(state)?;
-    for entry in files {
-        if entry.number() != number {
-            next.push(entry.try_copy(alloc, all)?)?;
-        }
+    History {
+        versions: IndexMap::new(alloc),
+        undo: Vec::new(alloc),
+        synced: 0,
     }
-    Ok(next)
 }
 
-// Goes on to the next moment, with this file changed.
-fn change(
-    alloc: Global,
-    current: &mut Vec<FileState>,
-    past: &mut Vec<Seq<FileState>>,
-    state: FileState,
-    all: bool,
-) -> Result<(), Memory>
-    ensures current { OnOk result (current.new.items ≡ with_file all state current.old.items) }
-    ensures past { OnOk result (past.new.items ≡ past.old.items ++ current.old.items ∷ []) }
-    ensures current_stays { OnErr result (current.new.items ≡ current.old.items) }
-    ensures past_stays { OnErr result (past.new.items ≡ past.old.items) }
+// Goes on to the next moment, with this file changed. The others have their removed files, or lose them,
+// which is done by the moment of the last sync alone. Room for the undo is asked for first, so that all stays
+// as it was where there is none.
+fn change(history: &mut History, state: FileState, all: bool) -> Result<(), Memory>
+    requires history { IsTrue (is_history history.old) }
+    ensures history { IsTrue (is_history history.new) }
+    ensures current { OnOk result (current_of history.new ≡ with_file all state (current_of history.old)) }
+    ensures past { OnOk result (past_of history.new ≡ past_of history.old ++ current_of history.old ∷ []) }
+    ensures current_stays { OnErr result (current_of history.new ≡ current_of history.old) }
+    ensures past_stays { OnErr result (past_of history.new ≡ past_of history.old) }
 {
-    let next = with_file(alloc, current, state, all)?;
-    let old = mem::replace(current, next);
-    match past.push(Seq::new(old)) {
+    history.undo.reserve(1)?;
+    let number = state.number();
+    let made = history.undo.len() + 1;
+    let earlier = history.versions.insert(number, Version { state, made })?;
+    let undo = Undo {
+        number,
+        earlier,
+        synced: history.synced,
+    };
+    history.synced = last_sync(all, history.synced, made);
+    match history.undo.push(undo) {
         Ok(()) => Ok(()),
-        Err(refused) => {
-            *current = refused.value.into_vec();
-            Err(Memory)
-        }
+        Err(_) => unreachable!(),
     }
+}
+
+// The moment after the last sync: this one, where the other files lose their removed files.
+fn last_sync(all: bool, synced: usize, made: usize) -> usize
+    ensures { result ≡ (if all then synced else made) }
+{
+    if all { synced } else { made }
 }
 
 // A write, or one that failed.
 pub(crate) fn write(
     alloc: Global,
-    current: &mut Vec<FileState>,
-    past: &mut Vec<Seq<FileState>>,
+    history: &mut History,
     file: u64,
     at: u64,
     bytes: &[u8],
     done: bool,
 ) -> Result<(), Memory>
-    requires sound { IsTrue (list_all is_sound current.old.items) }
+    requires history { IsTrue (is_history history.old) }
+    requires sound { IsTrue (list_all is_sound (current_of history.old)) }
     requires room { at + length bytes.now < 2 ^ 64 }
-    ensures sound { IsTrue (list_all is_sound current.new.items) }
-    ensures differ { IsTrue (numbers_differ current.old.items) → IsTrue (numbers_differ current.new.items) }
+    ensures history { IsTrue (is_history history.new) }
+    ensures sound { IsTrue (list_all is_sound (current_of history.new)) }
+    ensures differ { IsTrue (numbers_differ (current_of history.old))
+        → IsTrue (numbers_differ (current_of history.new)) }
     ensures state { OnOk result
-        (state_in current.new.items file ≡ written at bytes.now done (state_in current.old.items file)) }
+        (state_in (current_of history.new) file
+        ≡ written at bytes.now done (state_in (current_of history.old) file)) }
     ensures others { OnOk result
-        ((g : ℕ) → g ≢ file → state_in current.new.items g ≡ state_in current.old.items g) }
-    ensures stays { OnErr result (current.new.items ≡ current.old.items) }
-    ensures acts { Acts file (Torn at (length bytes.now)) (view_of past.old.items current.old.items)
-        (view_of past.new.items current.new.items) }
+        ((g : ℕ) → g ≢ file → state_in (current_of history.new) g ≡ state_in (current_of history.old) g) }
+    ensures stays { OnErr result (current_of history.new ≡ current_of history.old) }
+    ensures acts { Acts file (Torn at (length bytes.now))
+        (view_of (past_of history.old) (current_of history.old))
+        (view_of (past_of history.new) (current_of history.new)) }
 {
-    let state = state_in(alloc, current, file)?;
+    let state = state_in(alloc, history, file)?;
     let next = state.written(alloc, at, bytes, done)?;
-    change(alloc, current, past, next, true)?;
+    change(history, next, true)?;
     Ok(())
 }
 
 // A cut, or one that failed.
 pub(crate) fn cut(
     alloc: Global,
-    current: &mut Vec<FileState>,
-    past: &mut Vec<Seq<FileState>>,
+    history: &mut History,
     file: u64,
     len: u64,
     done: bool,
 ) -> Result<(), Memory>
-    requires sound { IsTrue (list_all is_sound current.old.items) }
-    ensures sound { IsTrue (list_all is_sound current.new.items) }
-    ensures differ { IsTrue (numbers_differ current.old.items) → IsTrue (numbers_differ current.new.items) }
+    requires history { IsTrue (is_history history.old) }
+    requires sound { IsTrue (list_all is_sound (current_of history.old)) }
+    ensures history { IsTrue (is_history history.new) }
+    ensures sound { IsTrue (list_all is_sound (current_of history.new)) }
+    ensures differ { IsTrue (numbers_differ (current_of history.old))
+        → IsTrue (numbers_differ (current_of history.new)) }
     ensures state { OnOk result
-        (state_in current.new.items file ≡ shortened len done (state_in current.old.items file)) }
+        (state_in (current_of history.new) file
+        ≡ shortened len done (state_in (current_of history.old) file)) }
     ensures others { OnOk result
-        ((g : ℕ) → g ≢ file → state_in current.new.items g ≡ state_in current.old.items g) }
-    ensures stays { OnErr result (current.new.items ≡ current.old.items) }
-    ensures acts { Acts file (Shortened len) (view_of past.old.items current.old.items)
-        (view_of past.new.items current.new.items) }
+        ((g : ℕ) → g ≢ file → state_in (current_of history.new) g ≡ state_in (current_of history.old) g) }
+    ensures stays { OnErr result (current_of history.new ≡ current_of history.old) }
+    ensures acts { Acts file (Shortened len) (view_of (past_of history.old) (current_of history.old))
+        (view_of (past_of history.new) (current_of history.new)) }
 {
-    let state = state_in(alloc, current, file)?;
+    let state = state_in(alloc, history, file)?;
     let next = state.shortened(alloc, len, done)?;
-    change(alloc, current, past, next, true)?;
+    change(history, next, true)?;
     Ok(())
 }
 
 // A sync.
-pub(crate) fn sync(
-    alloc: Global,
-    current: &mut Vec<FileState>,
-    past: &mut Vec<Seq<FileState>>,
-    file: u64,
-) -> Result<(), Memory>
-    requires sound { IsTrue (list_all is_sound current.old.items) }
-    ensures sound { IsTrue (list_all is_sound current.new.items) }
-    ensures differ { IsTrue (numbers_differ current.old.items) → IsTrue (numbers_differ current.new.items) }
-    ensures state { OnOk result (state_in current.new.items file ≡ synced (state_in current.old.items file)) }
+pub(crate) fn sync(alloc: Global, history: &mut History, file: u64) -> Result<(), Memory>
+    requires history { IsTrue (is_history history.old) }
+    requires sound { IsTrue (list_all is_sound (current_of history.old)) }
+    ensures history { IsTrue (is_history history.new) }
+    ensures sound { IsTrue (list_all is_sound (current_of history.new)) }
+    ensures differ { IsTrue (numbers_differ (current_of history.old))
+        → IsTrue (numbers_differ (current_of history.new)) }
+    ensures state { OnOk result
+        (state_in (current_of history.new) file ≡ synced (state_in (current_of history.old) file)) }
     ensures others { OnOk result
-        ((g : ℕ) → g ≢ file → state_in current.new.items g ≡ kept false (state_in current.old.items g)) }
-    ensures stays { OnErr result (current.new.items ≡ current.old.items) }
-    ensures all_gone { OnOk result ((g : ℕ) → (state_in current.new.items g).gone ≡ []) }
-    ensures there { (state_in current.new.items file).there ≡ (state_in current.old.items file).there }
-    ensures acts { Acts file Same (view_of past.old.items current.old.items)
-        (view_of past.new.items current.new.items) }
+        ((g : ℕ) → g ≢ file
+        → state_in (current_of history.new) g ≡ kept false (state_in (current_of history.old) g)) }
+    ensures stays { OnErr result (current_of history.new ≡ current_of history.old) }
+    ensures all_gone { OnOk result ((g : ℕ) → (state_in (current_of history.new) g).gone ≡ []) }
+    ensures there { (state_in (current_of history.new) file).there
+        ≡ (state_in (current_of history.old) file).there }
+    ensures acts { Acts file Same (view_of (past_of history.old) (current_of history.old))
+        (view_of (past_of history.new) (current_of history.new)) }
 {
-    let state = state_in(alloc, current, file)?;
+    let state = state_in(alloc, history, file)?;
     let next = state.synced(alloc)?;
-    change(alloc, current, past, next, false)?;
+    change(history, next, false)?;
     Ok(())
 }
 
 // A removal.
-pub(crate) fn remove(
-    alloc: Global,
-    current: &mut Vec<FileState>,
-    past: &mut Vec<Seq<FileState>>,
-    file: u64,
-) -> Result<(), Memory>
-    requires sound { IsTrue (list_all is_sound current.old.items) }
-    ensures sound { IsTrue (list_all is_sound current.new.items) }
-    ensures differ { IsTrue (numbers_differ current.old.items) → IsTrue (numbers_differ current.new.items) }
+pub(crate) fn remove(alloc: Global, history: &mut History, file: u64) -> Result<(), Memory>
+    requires history { IsTrue (is_history history.old) }
+    requires sound { IsTrue (list_all is_sound (current_of history.old)) }
+    ensures history { IsTrue (is_history history.new) }
+    ensures sound { IsTrue (list_all is_sound (current_of history.new)) }
+    ensures differ { IsTrue (numbers_differ (current_of history.old))
+        → IsTrue (numbers_differ (current_of history.new)) }
     ensures state { OnOk result
-        (state_in current.new.items file ≡ removed (state_in current.old.items file)) }
+        (state_in (current_of history.new) file ≡ removed (state_in (current_of history.old) file)) }
     ensures others { OnOk result
-        ((g : ℕ) → g ≢ file → state_in current.new.items g ≡ state_in current.old.items g) }
-    ensures stays { OnErr result (current.new.items ≡ current.old.items) }
-    ensures acts { Acts file Gone (view_of past.old.items current.old.items)
-        (view_of past.new.items current.new.items) }
+        ((g : ℕ) → g ≢ file → state_in (current_of history.new) g ≡ state_in (current_of history.old) g) }
+    ensures stays { OnErr result (current_of history.new ≡ current_of history.old) }
+    ensures acts { Acts file Gone (view_of (past_of history.old) (current_of history.old))
+        (view_of (past_of history.new) (current_of history.new)) }
 {
-    let state = state_in(alloc, current, file)?;
+    let state = state_in(alloc, history, file)?;
     let next = state.removed(alloc)?;
-    change(alloc, current, past, next, true)?;
+    change(history, next, true)?;
     Ok(())
 }
 
 // The least number of a file that is there, at or above `from`.
-pub(crate) fn next_from(files: &[FileState], from: u64) -> Option<u64>
-    requires { IsTrue (numbers_differ files.now) }
+pub(crate) fn next_from(history: &History, from: u64) -> Option<u64>
+    requires { IsTrue (numbers_differ (current_of history.now)) }
     ensures bound { IfSome result (λ file. from ≤ file) }
-    ensures next { NextIs (λ file. (state_in files.now file).there) from result }
+    ensures next { NextIs (λ file. (state_in (current_of history.now) file).there) from result }
 {
     let mut next = None;
-    for state in files {
-        next = nearer(state, from, next);
+    for version in history.versions.values() {
+        next = nearer(&version.state, from, next);
     }
     next
 }
@@ -226,43 +232,62 @@ fn nearer(state: &FileState, from: u64, next: Option<u64>) -> Option<u64>
 // The files after a crash, each as one of its outcomes.
 pub(crate) fn left(
     alloc: Global,
-    files: &[FileState],
+    history: &History,
     greatest: bool,
     filler: u8,
     removed_too: bool,
-) -> Result<Vec<FileState>, Memory>
-    requires { IsTrue (list_all is_sound files.now) }
-    ensures left { IfOk result (λ left. left.items ≡ map (left_of greatest filler removed_too) files.now) }
-    ensures sound { IfOk result (λ left. IsTrue (list_all is_sound left.items)) }
-    ensures differ { IsTrue (numbers_differ files.now)
-        → IfOk result (λ left. IsTrue (numbers_differ left.items)) }
+) -> Result<History, Memory>
+    requires history { IsTrue (is_history history.now) }
+    requires sound { IsTrue (list_all is_sound (current_of history.now)) }
+    ensures history { IfOk result (λ left. IsTrue (is_history left)) }
+    ensures left { IfOk result (λ left. current_of left
+        ≡ map (left_of greatest filler removed_too) (current_of history.now)) }
+    ensures past { IfOk result (λ left. past_of left ≡ []) }
+    ensures sound { IfOk result (λ left. IsTrue (list_all is_sound (current_of left))) }
+    ensures differ { IsTrue (numbers_differ (current_of history.now))
+        → IfOk result (λ left. IsTrue (numbers_differ (current_of left))) }
 {
-    let mut left = Vec::new(alloc);
-    for state in files {
-        left.push(state.left(alloc, greatest, filler, removed_too)?)?;
+    let mut versions = IndexMap::new(alloc);
+    for (number, version) in history.versions.iter() {
+        let state = state_of(alloc, version, history.synced)?;
+        let left = state.left(alloc, greatest, filler, removed_too)?;
+        versions.insert(
+            *number,
+            Version {
+                state: left,
+                made: 0,
+            },
+        )?;
     }
-    Ok(left)
+    Ok(History {
+        versions,
+        undo: Vec::new(alloc),
+        synced: 0,
+    })
 }
 
 // A file with these bytes, which are stable.
 pub(crate) fn put(
     alloc: Global,
-    current: &mut Vec<FileState>,
-    past: &mut Vec<Seq<FileState>>,
+    history: &mut History,
     file: u64,
     bytes: &[u8],
 ) -> Result<(), Memory>
-    requires sound { IsTrue (list_all is_sound current.old.items) }
-    ensures sound { IsTrue (list_all is_sound current.new.items) }
-    ensures differ { IsTrue (numbers_differ current.old.items) → IsTrue (numbers_differ current.new.items) }
-    ensures state { OnOk result (state_in current.new.items file ≡ stable_file file bytes.now) }
+    requires history { IsTrue (is_history history.old) }
+    requires sound { IsTrue (list_all is_sound (current_of history.old)) }
+    ensures history { IsTrue (is_history history.new) }
+    ensures sound { IsTrue (list_all is_sound (current_of history.new)) }
+    ensures differ { IsTrue (numbers_differ (current_of history.old))
+        → IsTrue (numbers_differ (current_of history.new)) }
+    ensures state { OnOk result (state_in (current_of history.new) file ≡ stable_file file bytes.now) }
     ensures stays { OnErr result
-        ((current.new.items ≡ current.old.items) × (past.new.items ≡ past.old.items)) }
-    ensures others { (g : ℕ) → g ≢ file → state_in current.new.items g ≡ state_in current.old.items g }
-    ensures time { Passes (view_of past.old.items current.old.items)
-        (view_of past.new.items current.new.items) }
+        ((current_of history.new ≡ current_of history.old) × (past_of history.new ≡ past_of history.old)) }
+    ensures others { (g : ℕ) → g ≢ file
+        → state_in (current_of history.new) g ≡ state_in (current_of history.old) g }
+    ensures time { Passes (view_of (past_of history.old) (current_of history.old))
+        (view_of (past_of history.new) (current_of history.new)) }
 {
     let state = FileState::stable(alloc, file, bytes)?;
-    change(alloc, current, past, state, true)?;
+    change(history, state, true)?;
     Ok(())
 }

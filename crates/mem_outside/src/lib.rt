@@ -3,6 +3,7 @@
 
 pub mod file_state;
 mod files;
+pub mod history;
 mod schedule;
 pub mod sink;
 pub mod source;

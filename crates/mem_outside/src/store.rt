@@ -7,6 +7,7 @@ ghost use Rattle.mem_outside.specs.Shown.{Shown};
 ghost use Rattle.mem_outside.specs.Outcomes.{is_sound, state_in, stable_file, written, shortened, synced};
 ghost use Rattle.mem_outside.specs.Outcomes.{numbers_differ, removed, kept, left_of};
 ghost use Rattle.mem_outside.specs.Moments.{view_of};
+ghost use Rattle.mem_outside.specs.History.{current_of, past_of, is_history};
 ghost use Rattle.mem_outside.specs.Laws.{state_reads, state_absent};
 ghost use Rattle.mem_outside.specs.Schedule.{Schedule, next_fails, called, from_call};
 ghost use Rattle.mem_outside.specs.Refused.{LeavesFailed};
@@ -30,21 +31,21 @@ ghost use Rattle.outside_traits.specs.Calls.{
   CountsTaken,
 };
 
-use crate::file_state::FileState;
 use crate::files;
+use crate::history::History;
 use crate::schedule::next_call_fails;
 use outside_traits::{Failed, Store};
-use rows_core::{Memory, Seq};
+use rows_core::Memory;
 use std::alloc::Global;
 
 /// A store in memory, which keeps what a crash may have left at each moment. Its calls are numbered from 0; a
 /// call fails where its number is listed, where it is at or above that of `fail_from`, or where it finds no
-/// memory.
+/// memory. A changing call costs a look-up and what the file that it changes takes, however many other files
+/// there are.
 #[derive(Drop)]
 pub struct MemStore {
     alloc: Global,
-    current: Vec<FileState>,
-    past: Vec<Seq<FileState>>,
+    history: History,
     fails: Vec<u64>,
     fail_from: Option<u64>,
     next_call: u64,
@@ -53,8 +54,9 @@ pub struct MemStore {
     removes: u64,
     taken: u64,
     refused: u64,
-    ghost sound: { IsTrue (list_all is_sound current.items) },
-    ghost differ: { IsTrue (numbers_differ current.items) },
+    ghost kept: { IsTrue (is_history history) },
+    ghost sound: { IsTrue (list_all is_sound (current_of history)) },
+    ghost differ: { IsTrue (numbers_differ (current_of history)) },
 }
 
 impl MemStore {
@@ -71,8 +73,7 @@ impl MemStore {
     {
         MemStore {
             alloc,
-            current: Vec::new(alloc),
-            past: Vec::new(alloc),
+            history: files::empty(alloc),
             fails,
             fail_from: None,
             next_call: 0,
@@ -119,7 +120,7 @@ impl MemStore {
         ensures schedule { ⟦<MemStore as InMemory>⟧.schedule self.new
             ≡ ⟦<MemStore as InMemory>⟧.schedule self.old }
     {
-        files::put(self.alloc, &mut self.current, &mut self.past, file, bytes)?;
+        files::put(self.alloc, &mut self.history, file, bytes)?;
         Ok(())
     }
 
@@ -149,11 +150,10 @@ impl MemStore {
         let greatest = pick % 2 == 1;
         let filler = (pick / 2 % 2) as u8;
         let removed_too = pick / 4 % 2 == 1;
-        let current = files::left(self.alloc, &self.current, greatest, filler, removed_too)?;
+        let history = files::left(self.alloc, &self.history, greatest, filler, removed_too)?;
         Ok(MemStore {
             alloc: self.alloc,
-            current,
-            past: Vec::new(self.alloc),
+            history,
             fails: Vec::new(self.alloc),
             fail_from: None,
             next_call: 0,
@@ -169,7 +169,7 @@ impl MemStore {
     pub fn bytes(&self, file: u64) -> &[u8]
         ensures { result.now ≡ (⟦<MemStore as Store>⟧.view self.now).files file }
     {
-        files::bytes_in(&self.current, file)
+        files::bytes_in(&self.history, file)
     }
 }
 
@@ -186,7 +186,7 @@ pub trait InMemory {
 }
 
 impl InMemory for MemStore {
-    ghost shown = { λ s. s.current.items };
+    ghost shown = { λ s. current_of s.history };
 
     ghost schedule = { λ s. record { listed = s.fails.items; from = s.fail_from; next = s.next_call } };
 
@@ -196,7 +196,7 @@ impl InMemory for MemStore {
 impl Store for MemStore {
     ghost tells = { true };
 
-    ghost view = { λ s. view_of s.past.items s.current.items };
+    ghost view = { λ s. view_of (past_of s.history) (current_of s.history) };
 
     ghost counts = { λ s. record {
       reads = s.reads;
@@ -205,9 +205,9 @@ impl Store for MemStore {
       taken = s.taken;
     } };
 
-    ghost reads_outcome = { λ s file. state_reads s.past.items s.current.items s.sound file };
+    ghost reads_outcome = { λ s file. state_reads (past_of s.history) (current_of s.history) s.sound file };
 
-    ghost absent_is_empty = { λ s file gone. state_absent s.current.items s.sound file gone };
+    ghost absent_is_empty = { λ s file gone. state_absent (current_of s.history) s.sound file gone };
 
     fn attach(&mut self, _folder: &str) -> Result<(), Failed>
         ensures idles { Idles (⟦<MemStore as Store>⟧.view self.old) (⟦<MemStore as Store>⟧.view self.new) }
@@ -260,7 +260,7 @@ impl Store for MemStore {
             self.reads = self.reads.saturating_add(1);
             return Err(Failed);
         }
-        Ok(files::bytes_in(&self.current, file).len() as u64)
+        Ok(files::bytes_in(&self.history, file).len() as u64)
     }
 
     fn read(&mut self, file: u64, at: u64, buf: &mut [u8]) -> Result<usize, Failed>
@@ -292,7 +292,7 @@ impl Store for MemStore {
             self.reads = self.reads.saturating_add(1);
             return Err(Failed);
         }
-        let count = copy_front(files::bytes_in(&self.current, file), at, buf);
+        let count = copy_front(files::bytes_in(&self.history, file), at, buf);
         self.taken = self.taken.saturating_add(count as u64);
         Ok(count)
     }
@@ -331,15 +331,7 @@ impl Store for MemStore {
             ≡ called (⟦<MemStore as InMemory>⟧.schedule self.old) }
     {
         let fails = next_call_fails(&self.fails, self.fail_from, &mut self.next_call);
-        match files::write(
-            self.alloc,
-            &mut self.current,
-            &mut self.past,
-            file,
-            at,
-            bytes,
-            !fails,
-        ) {
+        match files::write(self.alloc, &mut self.history, file, at, bytes, !fails) {
             Ok(()) if !fails => Ok(()),
             Ok(()) => {
                 self.writes = self.writes.saturating_add(1);
@@ -391,14 +383,7 @@ impl Store for MemStore {
             ≡ called (⟦<MemStore as InMemory>⟧.schedule self.old) }
     {
         let fails = next_call_fails(&self.fails, self.fail_from, &mut self.next_call);
-        match files::cut(
-            self.alloc,
-            &mut self.current,
-            &mut self.past,
-            file,
-            len,
-            !fails,
-        ) {
+        match files::cut(self.alloc, &mut self.history, file, len, !fails) {
             Ok(()) if !fails => Ok(()),
             Ok(()) => {
                 self.writes = self.writes.saturating_add(1);
@@ -452,7 +437,7 @@ impl Store for MemStore {
             self.writes = self.writes.saturating_add(1);
             return Err(Failed);
         }
-        match files::sync(self.alloc, &mut self.current, &mut self.past, file) {
+        match files::sync(self.alloc, &mut self.history, file) {
             Ok(()) => Ok(()),
             Err(Memory) => {
                 self.refused = self.refused.saturating_add(1);
@@ -496,7 +481,7 @@ impl Store for MemStore {
             self.removes = self.removes.saturating_add(1);
             return Err(Failed);
         }
-        match files::remove(self.alloc, &mut self.current, &mut self.past, file) {
+        match files::remove(self.alloc, &mut self.history, file) {
             Ok(()) => Ok(()),
             Err(Memory) => {
                 self.refused = self.refused.saturating_add(1);
@@ -531,7 +516,7 @@ impl Store for MemStore {
             self.reads = self.reads.saturating_add(1);
             return Err(Failed);
         }
-        Ok(files::next_from(&self.current, from))
+        Ok(files::next_from(&self.history, from))
     }
 }
 

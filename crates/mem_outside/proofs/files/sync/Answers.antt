@@ -3,58 +3,59 @@ use Rattle.outside_traits.specs.Calls.{Same}
 use Rattle.mem_outside.specs.Shown.{Shown}
 use Rattle.mem_outside.specs.Outcomes.{Outcome, state_in, synced, is_sound}
 use Rattle.mem_outside.specs.Sound.{number_of, synced_sound}
+use Rattle.mem_outside.specs.History.{current_of, past_of}
 use Rattle.mem_outside.proofs.Changes.{changed_state, changed_sound, changed_acts, others_stay, none_gone, here_sound, sync_here}
 use Rattle.mem_outside.proofs.Numbers.{changed_differ}
 use Rattle.mem_outside.proofs.files.sync.Goals as goal
 
 pub returns-clause-sound : goal.returns-clause-sound
 returns-clause-sound c =
-    let old : Shown = state_in c.args.current.now.items c.args.file in
-    let from : c.in_ok-state.state ≡ old = c.in_ok-state.ensures ∙ ap (λ (l : List Shown). state_in l c.args.file) c.deref.ensures.value in
+    let old : Shown = state_in (current_of c.args.history.now) c.args.file in
+    let from : c.in_ok-state.state ≡ old = c.in_ok-state.ensures in
     let next_is = c.in_ok-next.ensures ∙ ap (λ (s : Shown). synced s) from in
-    changed_sound c.args.file false _ c.args.current.now.items _ c.in_ok-change.ensures.current
-    (ap (λ (s : Shown). s.number) next_is ∙ number_of c.args.file c.args.current.now.items)
-    (subst (λ (s : Shown). IsTrue (is_sound s)) (sym next_is) (synced_sound old (here_sound c.args.file c.args.current.now.items c.requires.sound)))
+    changed_sound c.args.file false _ (current_of c.args.history.now) _ c.in_ok-change.ensures.current
+    (ap (λ (s : Shown). s.number) next_is ∙ number_of c.args.file (current_of c.args.history.now))
+    (subst (λ (s : Shown). IsTrue (is_sound s)) (sym next_is) (synced_sound old (here_sound c.args.file (current_of c.args.history.now) c.requires.sound)))
     c.requires.sound
 
 pub returns-clause-state : goal.returns-clause-state
 returns-clause-state c =
-    let old : Shown = state_in c.args.current.now.items c.args.file in
-    let from : c.in_ok-state.state ≡ old = c.in_ok-state.ensures ∙ ap (λ (l : List Shown). state_in l c.args.file) c.deref.ensures.value in
+    let old : Shown = state_in (current_of c.args.history.now) c.args.file in
+    let from : c.in_ok-state.state ≡ old = c.in_ok-state.ensures in
     let next_is = c.in_ok-next.ensures ∙ ap (λ (s : Shown). synced s) from in
-    changed_state c.args.file false _ c.args.current.now.items _ c.in_ok-change.ensures.current
-    (ap (λ (s : Shown). s.number) next_is ∙ number_of c.args.file c.args.current.now.items) ∙ next_is
+    changed_state c.args.file false _ (current_of c.args.history.now) _ c.in_ok-change.ensures.current
+    (ap (λ (s : Shown). s.number) next_is ∙ number_of c.args.file (current_of c.args.history.now)) ∙ next_is
 
 pub returns-clause-acts : goal.returns-clause-acts
 returns-clause-acts c =
-    let old : Shown = state_in c.args.current.now.items c.args.file in
-    let from : c.in_ok-state.state ≡ old = c.in_ok-state.ensures ∙ ap (λ (l : List Shown). state_in l c.args.file) c.deref.ensures.value in
+    let old : Shown = state_in (current_of c.args.history.now) c.args.file in
+    let from : c.in_ok-state.state ≡ old = c.in_ok-state.ensures in
     let next_is = c.in_ok-next.ensures ∙ ap (λ (s : Shown). synced s) from in
     let step : List ℕ → List ℕ → Type 0 = Same in
-    changed_acts c.args.file false _ c.args.current.now.items _ c.in_ok-change.ensures.current
-    (ap (λ (s : Shown). s.number) next_is ∙ number_of c.args.file c.args.current.now.items)
-    step c.args.past.now.items _ c.in_ok-change.ensures.past
+    changed_acts c.args.file false _ (current_of c.args.history.now) _ c.in_ok-change.ensures.current
+    (ap (λ (s : Shown). s.number) next_is ∙ number_of c.args.file (current_of c.args.history.now))
+    step (past_of c.args.history.now) _ c.in_ok-change.ensures.past
     (subst (λ (s : Shown). step old.bytes s.bytes) (sym next_is) (refl))
-    (λ x now. sync_here c.args.file c.args.current.now.items c.requires.sound x (subst (λ (s : Shown). Outcome s x) next_is now))
+    (λ x now. sync_here c.args.file (current_of c.args.history.now) c.requires.sound x (subst (λ (s : Shown). Outcome s x) next_is now))
 
 pub returns-clause-there : goal.returns-clause-there
 returns-clause-there c = ap (λ (s : Shown). s.there) (returns-clause-state c)
 
 pub returns-clause-all_gone : goal.returns-clause-all_gone
 returns-clause-all_gone c = λ g.
-    let old : Shown = state_in c.args.current.now.items c.args.file in
-    let from : c.in_ok-state.state ≡ old = c.in_ok-state.ensures ∙ ap (λ (l : List Shown). state_in l c.args.file) c.deref.ensures.value in
+    let old : Shown = state_in (current_of c.args.history.now) c.args.file in
+    let from : c.in_ok-state.state ≡ old = c.in_ok-state.ensures in
     let next_is = c.in_ok-next.ensures ∙ ap (λ (s : Shown). synced s) from in
-    none_gone c.args.file false _ c.args.current.now.items _ c.in_ok-change.ensures.current
-    (ap (λ (s : Shown). s.number) next_is ∙ number_of c.args.file c.args.current.now.items)
+    none_gone c.args.file false _ (current_of c.args.history.now) _ c.in_ok-change.ensures.current
+    (ap (λ (s : Shown). s.number) next_is ∙ number_of c.args.file (current_of c.args.history.now))
     refl (ap (λ (s : Shown). s.gone) next_is) g
 
 pub returns-clause-others : goal.returns-clause-others
 returns-clause-others c =
-    let from = c.in_ok-state.ensures ∙ ap (λ (l : List Shown). state_in l c.args.file) c.deref.ensures.value in
+    let from = c.in_ok-state.ensures in
     let next_is = c.in_ok-next.ensures ∙ ap (λ (s : Shown). synced s) from in
-    others_stay c.args.file false _ c.args.current.now.items _ c.in_ok-change.ensures.current
-    (ap (λ (s : Shown). s.number) next_is ∙ number_of c.args.file c.args.current.now.items)
+    others_stay c.args.file false _ (current_of c.args.history.now) _ c.in_ok-change.ensures.current
+    (ap (λ (s : Shown). s.number) next_is ∙ number_of c.args.file (current_of c.args.history.now))
 
 pub returns-clause-differ : goal.returns-clause-differ
-returns-clause-differ c = changed_differ false _ c.args.current.now.items _ c.in_ok-change.ensures.current
+returns-clause-differ c = changed_differ false _ (current_of c.args.history.now) _ c.in_ok-change.ensures.current

@@ -3,46 +3,47 @@ use Rattle.outside_traits.specs.Calls.{Torn}
 use Rattle.mem_outside.specs.Shown.{Shown}
 use Rattle.mem_outside.specs.Outcomes.{Outcome, state_in, written, is_sound}
 use Rattle.mem_outside.specs.Sound.{number_of, written_sound, written_outcome}
+use Rattle.mem_outside.specs.History.{current_of, past_of}
 use Rattle.mem_outside.proofs.Changes.{changed_state, changed_sound, changed_acts, others_stay, here_sound, write_seen}
 use Rattle.mem_outside.proofs.Numbers.{changed_differ}
 use Rattle.mem_outside.proofs.files.write.Goals as goal
 
 pub returns-clause-sound : goal.returns-clause-sound
 returns-clause-sound c =
-    let old : Shown = state_in c.args.current.now.items c.args.file in
-    let from : c.in_ok-state.state ≡ old = c.in_ok-state.ensures ∙ ap (λ (l : List Shown). state_in l c.args.file) c.deref.ensures.value in
+    let old : Shown = state_in (current_of c.args.history.now) c.args.file in
+    let from : c.in_ok-state.state ≡ old = c.in_ok-state.ensures in
     let next_is = c.in_ok-next.ensures ∙ ap (λ (s : Shown). written c.args.at c.args.bytes.now c.args.done s) from in
-    changed_sound c.args.file true _ c.args.current.now.items _ c.in_ok-change.ensures.current
-    (ap (λ (s : Shown). s.number) next_is ∙ number_of c.args.file c.args.current.now.items)
-    (subst (λ (s : Shown). IsTrue (is_sound s)) (sym next_is) (written_sound c.args.at c.args.bytes.now c.args.done old (here_sound c.args.file c.args.current.now.items c.requires.sound)))
+    changed_sound c.args.file true _ (current_of c.args.history.now) _ c.in_ok-change.ensures.current
+    (ap (λ (s : Shown). s.number) next_is ∙ number_of c.args.file (current_of c.args.history.now))
+    (subst (λ (s : Shown). IsTrue (is_sound s)) (sym next_is) (written_sound c.args.at c.args.bytes.now c.args.done old (here_sound c.args.file (current_of c.args.history.now) c.requires.sound)))
     c.requires.sound
 
 pub returns-clause-state : goal.returns-clause-state
 returns-clause-state c =
-    let old : Shown = state_in c.args.current.now.items c.args.file in
-    let from : c.in_ok-state.state ≡ old = c.in_ok-state.ensures ∙ ap (λ (l : List Shown). state_in l c.args.file) c.deref.ensures.value in
+    let old : Shown = state_in (current_of c.args.history.now) c.args.file in
+    let from : c.in_ok-state.state ≡ old = c.in_ok-state.ensures in
     let next_is = c.in_ok-next.ensures ∙ ap (λ (s : Shown). written c.args.at c.args.bytes.now c.args.done s) from in
-    changed_state c.args.file true _ c.args.current.now.items _ c.in_ok-change.ensures.current
-    (ap (λ (s : Shown). s.number) next_is ∙ number_of c.args.file c.args.current.now.items) ∙ next_is
+    changed_state c.args.file true _ (current_of c.args.history.now) _ c.in_ok-change.ensures.current
+    (ap (λ (s : Shown). s.number) next_is ∙ number_of c.args.file (current_of c.args.history.now)) ∙ next_is
 
 pub returns-clause-acts : goal.returns-clause-acts
 returns-clause-acts c =
-    let old : Shown = state_in c.args.current.now.items c.args.file in
-    let from : c.in_ok-state.state ≡ old = c.in_ok-state.ensures ∙ ap (λ (l : List Shown). state_in l c.args.file) c.deref.ensures.value in
+    let old : Shown = state_in (current_of c.args.history.now) c.args.file in
+    let from : c.in_ok-state.state ≡ old = c.in_ok-state.ensures in
     let next_is = c.in_ok-next.ensures ∙ ap (λ (s : Shown). written c.args.at c.args.bytes.now c.args.done s) from in
     let step : List ℕ → List ℕ → Type 0 = Torn c.args.at (length c.args.bytes.now) in
-    changed_acts c.args.file true _ c.args.current.now.items _ c.in_ok-change.ensures.current
-    (ap (λ (s : Shown). s.number) next_is ∙ number_of c.args.file c.args.current.now.items)
-    step c.args.past.now.items _ c.in_ok-change.ensures.past
-    (subst (λ (s : Shown). step old.bytes s.bytes) (sym next_is) (write_seen c.args.file c.args.current.now.items c.requires.sound c.args.at c.args.bytes.now c.args.done))
-    (λ x now. written_outcome c.args.at c.args.bytes.now c.args.done old (here_sound c.args.file c.args.current.now.items c.requires.sound) x (subst (λ (s : Shown). Outcome s x) next_is now))
+    changed_acts c.args.file true _ (current_of c.args.history.now) _ c.in_ok-change.ensures.current
+    (ap (λ (s : Shown). s.number) next_is ∙ number_of c.args.file (current_of c.args.history.now))
+    step (past_of c.args.history.now) _ c.in_ok-change.ensures.past
+    (subst (λ (s : Shown). step old.bytes s.bytes) (sym next_is) (write_seen c.args.file (current_of c.args.history.now) c.requires.sound c.args.at c.args.bytes.now c.args.done))
+    (λ x now. written_outcome c.args.at c.args.bytes.now c.args.done old (here_sound c.args.file (current_of c.args.history.now) c.requires.sound) x (subst (λ (s : Shown). Outcome s x) next_is now))
 
 pub returns-clause-others : goal.returns-clause-others
 returns-clause-others c =
-    let from = c.in_ok-state.ensures ∙ ap (λ (l : List Shown). state_in l c.args.file) c.deref.ensures.value in
+    let from = c.in_ok-state.ensures in
     let next_is = c.in_ok-next.ensures ∙ ap (λ (s : Shown). written c.args.at c.args.bytes.now c.args.done s) from in
-    others_stay c.args.file true _ c.args.current.now.items _ c.in_ok-change.ensures.current
-    (ap (λ (s : Shown). s.number) next_is ∙ number_of c.args.file c.args.current.now.items)
+    others_stay c.args.file true _ (current_of c.args.history.now) _ c.in_ok-change.ensures.current
+    (ap (λ (s : Shown). s.number) next_is ∙ number_of c.args.file (current_of c.args.history.now))
 
 pub returns-clause-differ : goal.returns-clause-differ
-returns-clause-differ c = changed_differ true _ c.args.current.now.items _ c.in_ok-change.ensures.current
+returns-clause-differ c = changed_differ true _ (current_of c.args.history.now) _ c.in_ok-change.ensures.current

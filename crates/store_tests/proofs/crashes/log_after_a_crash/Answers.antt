@@ -1,6 +1,7 @@
 use Rattle.std.proofs.Common.{[], ◌∷◌, List, ℕ, length, slice_index_or, refl, sym, ◌∙◌, subst}
 use Rattle.mem_outside.specs.Shown.{Shown}
 use Rattle.mem_outside.specs.Outcomes.{Outcome, state_in}
+use Rattle.mem_outside.specs.History.{current_of, past_of}
 use Rattle.store_tests.proofs.Commits.{left_of_run, outcome_of_committed, bodies_left, is_log_left, same_error}
 use Rattle.store_tests.proofs.crashes.log_after_a_crash.Goals as goal
 
@@ -23,7 +24,7 @@ returns-in-Err-read-clause-is_log c at is =
 
 pub returns-in-Ok-read-clause-image : goal.returns-in-Ok-read-clause-image
 returns-in-Ok-read-clause-image c = λ file.
-    let past = c.commit.new.store.past.items in
-    let current : List Shown = c.commit.new.store.current.items in
+    let past = past_of c.commit.new.store.history in
+    let current : List Shown = current_of c.commit.new.store.history in
     subst (λ (x : List ℕ). Outcome (state_in (slice_index_or past (length past) current) file) x)
     (sym (c.read.ensures.narrows.same file)) (c.in-Ok-image.ensures.image file)
