@@ -8,8 +8,8 @@ use Rattle.estimator.specs.Cuts.{Cuts}
 use Rattle.catalog_types.specs.PlainEntry.{PlainEntry}
 use Rattle.rewrite_core.specs.declared.rewriting.Hit.{Hit}
 use Rattle.rewrite_core.specs.Entries.{entry_of, IsWhole, IsEarlier, AnswersWhole}
-use Rattle.result_list.specs.Looking.{IsAt, ComesBefore, IsFurther, IsBestOf}
-use Rattle.result_list.proofs.Lists.{whole_first, whole_behind, best_first, best_behind, never, holds}
+use Rattle.rewrite_core.specs.Looking.{IsAt, ComesBefore, IsFurther, IsBestOf}
+use Rattle.rewrite_core.proofs.Looking.{whole_first, whole_behind, best_first, best_behind, never, holds}
 use Rattle.cache_index.specs.Asked.{entry, is_asked, asked}
 
 -- the entries behind the first one, as a slice

@@ -2,13 +2,12 @@
 ghost use Rattle.std.specs.Prelude.{◌≡◌, ◌↔◌, IsTrue, IfOk};
 ghost use Rattle.plan_core.specs.PlainPlan.{plan_of};
 ghost use Rattle.rewrite_core.specs.Entries.{AnswersWhole, entry_of};
-ghost use Rattle.result_list.specs.Looking.{IsAt, ComesBefore, IsFurther, IsBestOf};
+ghost use Rattle.rewrite_core.specs.Looking.{IsAt, ComesBefore, IsFurther, IsBestOf};
 ghost use Rattle.cache_index.specs.Asked.{entry as looked_at, is_asked, asked};
 
 use catalog_types::Entry;
-use estimator::are_same_cuts;
+use estimator::{are_at_or_before, are_same_cuts, reach};
 use plan_core::Plan;
-use result_list::{are_at_or_before, reach};
 use rewrite_core::Hit;
 use rows_core::{Cut, Memory};
 use std::alloc::Global;

@@ -7,5 +7,5 @@ pub mod cuts;
 pub mod sizes;
 
 pub use bytes::{new_bytes, sides, whole_bytes};
-pub use cuts::are_same_cuts;
+pub use cuts::{are_at_or_before, are_same_cuts, reach};
 pub use sizes::Sizes;

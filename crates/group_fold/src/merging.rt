@@ -1,5 +1,6 @@
 //! Groups of joined lists.
-ghost use Rattle.std.specs.Prelude.{◌≡◌, ℕ, ◌+◌, ◌<◌, ◌≤◌, List, [], ◌∷◌, ◌++◌, length, IfSome, IfOk, OnOk, OnErr};
+ghost use Rattle.std.specs.Prelude.{◌≡◌, ℕ, ◌+◌, ◌<◌, ◌≤◌, List, [], ◌∷◌, ◌++◌, length};
+ghost use Rattle.std.specs.Prelude.{IfSome, IfOk, OnOk, OnErr};
 ghost use Rattle.rows_core.specs.Value.{row_eq};
 ghost use Rattle.row_blob.specs.Kept.{AreEach};
 ghost use Rattle.plan_core.specs.Columns.{Rows};

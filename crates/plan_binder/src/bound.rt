@@ -116,7 +116,8 @@ fn select(
     exprs: Vec<Expr>,
 ) -> Result<Bound, BindRefusal>
     ensures { Resolves bound_of result
-        (projected (bound_of input) (map (λ column. column.name) columns.now) (map bound.expr_of exprs.items)) }
+        (projected (bound_of input) (map (λ column. column.name) columns.now)
+        (map bound.expr_of exprs.items)) }
 {
     let columns = select_columns(alloc, &input.columns, columns, exprs.as_slice())?;
     project(alloc, input.plan, exprs, columns)

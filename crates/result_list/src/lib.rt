@@ -8,6 +8,5 @@ mod results;
 mod soundness;
 
 pub use extents::{ExtentLens, are_in_streams};
-pub use looking::{are_at_or_before, reach};
 pub use results::{ListedResult, ResultList};
 pub use soundness::are_sound;

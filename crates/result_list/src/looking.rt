@@ -1,13 +1,12 @@
 //! Look-ups in a list of kept results.
-ghost use Rattle.std.specs.Prelude.{◌≡◌, ◌↔◌, ◌*◌, ◌≤◌, length, IsTrue, IfOk};
+ghost use Rattle.std.specs.Prelude.{◌↔◌, IsTrue, IfOk};
 ghost use Rattle.plan_core.specs.PlainPlan.{plan_of};
-ghost use Rattle.estimator.specs.Cuts.{AreAtOrBefore, reach};
 ghost use Rattle.rewrite_core.specs.Entries.{AnswersWhole};
 ghost use Rattle.result_list.specs.Listed.{entry, entries_of};
-ghost use Rattle.result_list.specs.Looking.{IsAt, ComesBefore, IsFurther, IsBestOf};
+ghost use Rattle.rewrite_core.specs.Looking.{IsAt, ComesBefore, IsFurther, IsBestOf};
 
 use crate::results::ListedResult;
-use estimator::are_same_cuts;
+use estimator::{are_at_or_before, are_same_cuts, reach};
 use plan_core::Plan;
 use rewrite_core::Hit;
 use rows_core::{Cut, Memory};
@@ -81,39 +80,4 @@ fn is_further(listed: &ListedResult, best: &Option<Hit>) -> bool
             old < new || (old == new && listed.id < best.id)
         }
     }
-}
-
-/// Whether each interval begins and ends at or before the one at its place.
-pub fn are_at_or_before(cuts: &[Cut], others: &[Cut]) -> bool
-    ensures { IsTrue result ↔ AreAtOrBefore cuts.now others.now }
-{
-    match cuts {
-        [] => matches!(others, []),
-        [cut, cuts @ ..] => match others {
-            [] => false,
-            [other, others @ ..] => {
-                cut.from <= other.from && cut.to <= other.to && are_at_or_before(cuts, others)
-            }
-        },
-    }
-}
-
-/// The sum of the ends of the intervals.
-pub fn reach(cuts: &[Cut]) -> u128
-    ensures exact { result ≡ reach cuts.now }
-    ensures bound { result ≤ length cuts.now * 4294967295 }
-{
-    match cuts {
-        [] => 0,
-        [cut, cuts @ ..] => {
-            let _count = cuts.len();
-            u128::from(end_of(cut)) + reach(cuts)
-        }
-    }
-}
-
-fn end_of(cut: &Cut) -> u32
-    ensures { result ≡ cut.now.to }
-{
-    cut.to
 }

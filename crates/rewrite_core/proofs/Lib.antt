@@ -1,3 +1,4 @@
 pub mod FileLemmas
 pub mod Ids
+pub mod Looking
 pub mod ComputedTrees

@@ -4,4 +4,5 @@ pub mod Estimate
 pub mod Examples
 pub mod Files
 pub mod IsRewriting
+pub mod Looking
 pub mod PlainRewriting

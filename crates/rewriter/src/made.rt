@@ -331,7 +331,8 @@ pub fn delta_of_child<L: Lookup, Z: Sizes>(
     lookup: &L,
     sizes: &Z,
 ) -> Result<Option<PricedDelta>, Memory>
-    requires cuts { AreCutsOf (Z.lengths sizes.now) (plan_of stretch.plan.now) stretch.old.now stretch.new.now }
+    requires cuts { AreCutsOf (Z.lengths sizes.now) (plan_of stretch.plan.now)
+        stretch.old.now stretch.new.now }
     requires by { IncreasesByChild (L.entries lookup.now) (Z.lengths sizes.now) (plan_of stretch.plan.now)
         stretch.old.now stretch.new.now child }
     requires delta { LeastDeltaIfAny want (L.entries lookup.now) (Z.lengths sizes.now)
@@ -361,7 +362,8 @@ pub fn delta_of_distinct<L: Lookup, Z: Sizes>(
     lookup: &L,
     sizes: &Z,
 ) -> Result<Option<PricedDelta>, Memory>
-    requires cuts { AreCutsOf (Z.lengths sizes.now) (plan_of stretch.plan.now) stretch.old.now stretch.new.now }
+    requires cuts { AreCutsOf (Z.lengths sizes.now) (plan_of stretch.plan.now)
+        stretch.old.now stretch.new.now }
     requires by { IncreasesByPair (λ d r. OfDistinct r d) (L.entries lookup.now) (Z.lengths sizes.now)
         (plan_of stretch.plan.now) stretch.old.now stretch.new.now child before }
     requires pair { LeastPairIfAny want (L.entries lookup.now) (Z.lengths sizes.now) child before pair }
@@ -391,7 +393,8 @@ pub fn delta_of_join<L: Lookup, Z: Sizes>(
     lookup: &L,
     sizes: &Z,
 ) -> Result<Option<PricedDelta>, Memory>
-    requires cuts { AreCutsOf (Z.lengths sizes.now) (plan_of stretch.plan.now) stretch.old.now stretch.new.now }
+    requires cuts { AreCutsOf (Z.lengths sizes.now) (plan_of stretch.plan.now)
+        stretch.old.now stretch.new.now }
     requires by { IncreasesByPair (λ d r. OfJoin d r) (L.entries lookup.now) (Z.lengths sizes.now)
         (plan_of stretch.plan.now) stretch.old.now stretch.new.now left right }
     requires pair { LeastPairIfAny want (L.entries lookup.now) (Z.lengths sizes.now) left right pair }

@@ -62,8 +62,8 @@ impl KnownDelta<'_> {
     }
 }
 
-/// The choices and the prices of deltas, by the keys of their places and cuts. What a key gives is compared with
-/// what is asked, so that one key for two of them costs time alone.
+/// The choices and the prices of deltas, by the keys of their places and cuts. What a key gives is compared
+/// with what is asked, so that one key for two of them costs time alone.
 #[derive(Drop)]
 pub struct Found<'p> {
     choices: IndexMap<u64, KnownChoice<'p>>,

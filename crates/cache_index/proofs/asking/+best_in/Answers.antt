@@ -1,5 +1,5 @@
 use Rattle.plan_core.specs.PlainPlan.{plan_of}
-use Rattle.result_list.proofs.Lists.{never, holds}
+use Rattle.rewrite_core.proofs.Looking.{never, holds}
 use Rattle.cache_index.proofs.Answering.{first_best, best_among}
 use Rattle.cache_index.proofs.asking.+best_in.Goals.{else-comes_before-via-then-comes_before+else-is_further, else-comes_before-via-else-comes_before}
 use Rattle.cache_index.proofs.asking.+best_in.Goals as goal

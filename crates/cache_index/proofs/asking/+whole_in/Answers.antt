@@ -1,5 +1,5 @@
 use Rattle.plan_core.specs.PlainPlan.{plan_of}
-use Rattle.result_list.proofs.Lists.{never, holds}
+use Rattle.rewrite_core.proofs.Looking.{never, holds}
 use Rattle.cache_index.proofs.Answering.{first_whole, whole_among}
 use Rattle.cache_index.proofs.asking.+whole_in.Goals as goal
 

@@ -1,5 +1,6 @@
 use Rattle.plan_core.specs.PlainPlan.{plan_of}
-use Rattle.result_list.proofs.Lists.{first_best, best_among, holds, never}
+use Rattle.rewrite_core.proofs.Looking.{holds, never}
+use Rattle.result_list.proofs.Lists.{first_best, best_among}
 use Rattle.result_list.proofs.looking.+best_in.Goals.{else-comes_before-via-then-comes_before+else-is_further, else-comes_before-via-else-comes_before}
 use Rattle.result_list.proofs.looking.+best_in.Goals as goal
 

@@ -1,5 +1,6 @@
 use Rattle.plan_core.specs.PlainPlan.{plan_of}
-use Rattle.result_list.proofs.Lists.{whole_among, never}
+use Rattle.rewrite_core.proofs.Looking.{never}
+use Rattle.result_list.proofs.Lists.{whole_among}
 use Rattle.result_list.proofs.looking.+whole_in.Goals as goal
 
 pub returns-in_ok-found-in-len1-up : goal.returns-in_ok-found-in-len1-up

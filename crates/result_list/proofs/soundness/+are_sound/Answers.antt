@@ -1,6 +1,7 @@
 use Rattle.std.specs.Bool.{IsTrue}
 use Rattle.std.proofs.Common.{sym, subst}
-use Rattle.result_list.proofs.Lists.{all_sound, holds}
+use Rattle.rewrite_core.proofs.Looking.{holds}
+use Rattle.result_list.proofs.Lists.{all_sound}
 use Rattle.result_list.proofs.soundness.+are_sound.Goals as goal
 
 pub returns-then-are_apart : goal.returns-then-are_apart
