@@ -137,12 +137,12 @@ mutual
   pub files_are : (r : PlainRewriting) (q : PlainPlan) (c : Cuts) → IsRewriting whichever q c r → files_of r ≡ flat_map piece_files (pieces_of r)
   files_are (Node p cuts way) q c (e, f, is) = by (is_gathered (Node p cuts way)) refl (way_files_are p cuts way q c is)
     where
-      by : (b : Bool) → is_gathered (Node p cuts way) ≡ b → (is_gathered (Node p cuts way) ≡ false → way_files p cuts way ≡ flat_map piece_files (pieces_in way))
-          → way_files p cuts way ≡ flat_map piece_files (cond b (Gathered p cuts ∷ []) (pieces_in way))
+      by : (b : Bool) → is_gathered (Node p cuts way) ≡ b → (is_gathered (Node p cuts way) ≡ false → way_files p cuts way ≡ flat_map piece_files (pieces_in p way))
+          → way_files p cuts way ≡ flat_map piece_files (cond b (Gathered p cuts ∷ []) (pieces_in p way))
       by true whole parts = all_gathered (Node p cuts way) p cuts (refl, refl, subst_both (λ q c. IsWay whichever q c way) q p c cuts (sym e) (sym f) is) whole ∙ one_piece p cuts
       by false none parts = parts none
 
-  way_files_are : (p : PlainPlan) (cuts : Cuts) (way : PlainWay) (q : PlainPlan) (c : Cuts) → IsWay whichever q c way → is_gathered (Node p cuts way) ≡ false → way_files p cuts way ≡ flat_map piece_files (pieces_in way)
+  way_files_are : (p : PlainPlan) (cuts : Cuts) (way : PlainWay) (q : PlainPlan) (c : Cuts) → IsWay whichever q c way → is_gathered (Node p cuts way) ≡ false → way_files p cuts way ≡ flat_map piece_files (pieces_in p way)
   way_files_are p cuts Scan q c is parts = absurd (false≢true (sym parts ∙ scan_is_gathered p cuts))
   way_files_are p cuts (One r) q c is parts = let of = one_child q is in files_are r of.0 c of.1
   way_files_are p cuts (Two l r) q c is parts =

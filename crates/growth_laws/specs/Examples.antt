@@ -266,7 +266,7 @@ one_gathered = refl
 -- the kept result, then the old distinct's extent, then the new one
 pub pieces_of_grown :
     pieces_of (Node counted_once new (Tail (hit old) (Change once old new (OfDistinct (Node once old (One (scanned 0 1))) (scan_delta 0)))))
-    ≡ Entry 1 ∷ Gathered once old ∷ Gathered (scan 0) (record { from = 1; to = 2 } ∷ []) ∷ []
+    ≡ Entry counted_once 1 ∷ Gathered once old ∷ Gathered (scan 0) (record { from = 1; to = 2 } ∷ []) ∷ []
 pieces_of_grown = refl
 
 -- ---- overflow

@@ -13,9 +13,9 @@ use Rattle.growth_laws.specs.KeptResults.{KeptResults}
 use Rattle.growth_laws.specs.Lists.{Extents, plan_lists}
 use Rattle.growth_laws.specs.Making.{kept_rows, made_before}
 
--- a kept result, by its id; or a plan over the extents of its one stream in this interval
+-- the kept result of a plan, by its id; or a plan over the extents of its one stream in this interval
 pub data Piece : Type 0 where
-  Entry : ℕ → Piece
+  Entry : PlainPlan → ℕ → Piece
   Gathered : PlainPlan → Cuts → Piece
 
 -- a computed scan, with computed filters and projections over it, or none
@@ -40,17 +40,17 @@ is_chain_delta _ = false
 
 abbrev mutual
   pub pieces_of : PlainRewriting → List Piece
-  pieces_of (Node p c way) = if is_gathered (Node p c way) then Gathered p c ∷ [] else pieces_in way
+  pieces_of (Node p c way) = if is_gathered (Node p c way) then Gathered p c ∷ [] else pieces_in p way
 
-  pub pieces_in : PlainWay → List Piece
-  pieces_in Scan = []
-  pieces_in (One r) = pieces_of r
-  pieces_in (Two l r) = pieces_of l ++ pieces_of r
-  pieces_in (Read hit) = Entry hit.id ∷ []
-  pieces_in (Tail hit d) = Entry hit.id ∷ pieces_of_delta d
-  pieces_in (LeftGrew hit d r) = Entry hit.id ∷ (pieces_of_delta d ++ pieces_of r)
-  pieces_in (RightGrew hit l d) = Entry hit.id ∷ (pieces_of l ++ pieces_of_delta d)
-  pieces_in (BothGrew hit l rd ld r) = Entry hit.id ∷ (pieces_of l ++ pieces_of_delta rd ++ pieces_of_delta ld ++ pieces_of r)
+  pub pieces_in : PlainPlan → PlainWay → List Piece
+  pieces_in p Scan = []
+  pieces_in p (One r) = pieces_of r
+  pieces_in p (Two l r) = pieces_of l ++ pieces_of r
+  pieces_in p (Read hit) = Entry p hit.id ∷ []
+  pieces_in p (Tail hit d) = Entry p hit.id ∷ pieces_of_delta d
+  pieces_in p (LeftGrew hit d r) = Entry p hit.id ∷ (pieces_of_delta d ++ pieces_of r)
+  pieces_in p (RightGrew hit l d) = Entry p hit.id ∷ (pieces_of l ++ pieces_of_delta d)
+  pieces_in p (BothGrew hit l rd ld r) = Entry p hit.id ∷ (pieces_of l ++ pieces_of_delta rd ++ pieces_of_delta ld ++ pieces_of r)
 
   pub pieces_of_delta : PlainDelta → List Piece
   pieces_of_delta (Change p old new way) =
@@ -71,13 +71,13 @@ gathered_files (stream ∷ []) (cut ∷ []) = extents_from stream cut.from (cut.
 gathered_files _ _ = []
 
 abbrev pub piece_files : Piece → List FileName
-piece_files (Entry id) = ResultFile id ∷ []
+piece_files (Entry plan id) = ResultFile id ∷ []
 piece_files (Gathered plan cuts) = gathered_files (leaves plan) cuts
 
 -- ---- what is made of a piece
 
 abbrev pub made_of_piece : Extents → KeptResults → Piece → Result Made Overflow
-made_of_piece extents results (Entry id) = Ok (made_before (results id))
+made_of_piece extents results (Entry plan id) = Ok (made_before (results id))
 made_of_piece extents results (Gathered plan cuts) = whole_made plan (plan_lists extents plan cuts)
 
 -- what is made of new extents is added
