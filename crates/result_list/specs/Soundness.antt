@@ -3,7 +3,7 @@ use Rattle.std.specs.Prelude.{◌≡◌, ◌≢◌, [], ◌∷◌, length}
 use Rattle.plan_core.specs.PlainPlan.{leaf_count}
 use Rattle.estimator.specs.Cuts.{AreIntervals}
 use Rattle.rewrite_core.specs.Entries.{Entry, Entries}
-use Rattle.result_list.specs.Looking.{IsAt}
+use Rattle.rewrite_core.specs.Looking.{IsAt}
 
 -- neither their ids nor their plans and cuts are the same
 abbrev pub IsApart : Entry → Entry → Type 0
