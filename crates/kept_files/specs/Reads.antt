@@ -1,0 +1,45 @@
+-- What reading a kept form from its file gives, and why it doesn't give one.
+use Rattle.std.specs.Prelude.{◌≡◌, ◌≢◌, ◌⊎◌, ℕ, List, length, ⊤}
+use Rattle.rows_core.specs.declared.file_ref.FileRef.{FileRef}
+use Rattle.row_blob.specs.Kept.{IsKept}
+use Rattle.row_blob.specs.Place.{StopsAt}
+use Rattle.row_blob.specs.Spelling.{kept_spelling}
+use Rattle.row_blob.specs.declared.kept.Kept.{Kept}
+use Rattle.row_blob.specs.declared.shape.Shape.{Shape}
+use Rattle.outside_traits.specs.Counts.{Rose}
+use Rattle.outside_traits.specs.View.{Counts}
+use Rattle.outside_traits.specs.Calls.{CountsTaken}
+use Rattle.extent_files.specs.Files.{digest_of}
+use Rattle.kept_files.specs.declared.refusal.ReadRefusal.{ReadRefusal}
+use Rattle.kept_files.specs.declared.refusal.ReadRefusal.TheVariants.{Fault, Damaged, Unreadable, Memory}
+
+-- the bytes spell this form, and it is one of the shape
+abbrev pub Spells : Shape → List ℕ → Kept → Type 0
+Spells shape bytes kept = IsKept shape kept × (bytes ≡ kept_spelling kept)
+
+-- no form of the shape is spelled so, and reading stops at this byte
+abbrev pub SpellsNone : Shape → List ℕ → ℕ → Type 0
+SpellsNone shape bytes place = ((kept : Kept) → Spells shape bytes kept → ⊥) × StopsAt shape bytes place
+
+abbrev pub IsFaultOrMemory : ReadRefusal → Type 0
+IsFaultOrMemory Fault = ⊤
+IsFaultOrMemory (Damaged file kept found) = ⊥
+IsFaultOrMemory (Unreadable file place) = ⊥
+IsFaultOrMemory Memory = ⊤
+
+-- On every store: a fault comes only where the count of failed looks rose, and nothing else raises it; each refusal names
+-- the file; damage comes only where the digests differ; after a fault nothing was taken.
+abbrev pub HasCause : FileRef → Counts → Counts → ReadRefusal → Type 0
+HasCause at old new Fault = Rose old.reads new.reads × (new.taken ≡ old.taken)
+HasCause at old new (Damaged file kept found) = (file ≡ at.file) × (kept ≡ at.digest) × (found ≢ at.digest) × (new.reads ≡ old.reads)
+HasCause at old new (Unreadable file place) = (file ≡ at.file) × (new.reads ≡ old.reads)
+HasCause at old new Memory = new.reads ≡ old.reads
+
+-- Where the store tells its files, and these are the first bytes of the one named: damage shows their digest; unreadable
+-- bytes have the kept one, and where reading of them stops is told; and what was taken.
+abbrev pub FoundIn : Shape → FileRef → List ℕ → Counts → Counts → ReadRefusal → Type 0
+FoundIn shape at bytes old new Fault = ⊤
+FoundIn shape at bytes old new (Damaged file kept found) = (found ≡ digest_of bytes) × CountsTaken (length bytes) old new
+FoundIn shape at bytes old new (Unreadable file place) =
+    (digest_of bytes ≡ at.digest) × SpellsNone shape bytes place × CountsTaken (length bytes) old new
+FoundIn shape at bytes old new Memory = (new.taken ≡ old.taken) ⊎ CountsTaken (length bytes) old new

@@ -1,0 +1,62 @@
+//! Why a kept form isn't given.
+ghost use Rattle.std.specs.Prelude.{◌≡◌};
+ghost use Rattle.kept_files.specs.declared.refusal.ReadRefusal.TheVariants as read;
+ghost use Rattle.kept_files.specs.Refusals.{file_as, blob_as};
+
+use extent_files::FileRefusal;
+use row_blob::BlobRefusal;
+use rows_core::{Digest, Memory};
+use thiserror::Error;
+
+/// Why the kept form of a file isn't given.
+#[derive(Clone, Copy, Debug, PartialEq, Eq, Error)]
+pub enum ReadRefusal {
+    /// The store failed.
+    #[error("the store failed")]
+    Fault,
+    /// The file's bytes have the digest `found` where `kept` was kept.
+    #[error("file {file} is damaged")]
+    Damaged {
+        file: u64,
+        kept: Digest,
+        found: Digest,
+    },
+    /// The file's bytes are the kept ones, and spell no form of the shape: reading stops at byte `at`.
+    #[error("file {file} is unreadable: byte {at}")]
+    Unreadable {
+        file: u64,
+        at: u64,
+    },
+    /// Memory was refused.
+    #[error("out of memory")]
+    Memory,
+}
+
+impl From<Memory> for ReadRefusal {
+    ghost from_gives = { λ _ e. e ≡ read.Memory };
+
+    fn from(_memory: Memory) -> ReadRefusal {
+        ReadRefusal::Memory
+    }
+}
+
+// Why a form isn't read, where its file isn't.
+pub(crate) fn of_file(file: u64, refusal: FileRefusal) -> ReadRefusal
+    ensures { result ≡ file_as file refusal }
+{
+    match refusal {
+        FileRefusal::Fault => ReadRefusal::Fault,
+        FileRefusal::Damaged { kept, found } => ReadRefusal::Damaged { file, kept, found },
+        FileRefusal::Memory => ReadRefusal::Memory,
+    }
+}
+
+// Why a form isn't read, where its file's bytes spell none.
+pub(crate) fn of_blob(file: u64, refusal: BlobRefusal) -> ReadRefusal
+    ensures { result ≡ blob_as file refusal }
+{
+    match refusal {
+        BlobRefusal::NotBlob { at } => ReadRefusal::Unreadable { file, at },
+        BlobRefusal::Memory => ReadRefusal::Memory,
+    }
+}
