@@ -1,7 +1,8 @@
 -- How tokens are read as an expression: what is read at their front, and what stands behind it. Expressions within `most` are
 -- kept. The laws that tie it to the grammar are in proofs.
 use Prim.Native.Nat.{zero, suc}
-use Rattle.std.specs.Prelude.{ℕ, true, false, nat_lt, nat_le, nat_eq, if◌then◌else◌, List, [], ◌∷◌, Option, None, Some, pos, neg_ℤ}
+use Rattle.std.specs.Prelude.{ℕ, true, false, nat_lt, nat_le, nat_eq, if◌then◌else◌, List, [], ◌∷◌, Option, None, Some, Box, pos, neg_ℤ}
+use Rattle.std.specs.declared.alloc.Global.{Global}
 use Rattle.scalar_ops.specs.declared.cell.Cell.TheVariants as cell
 use Rattle.scalar_ops.specs.declared.table.Op.{Op}
 use Rattle.scalar_ops.specs.declared.table.Op.TheVariants as op
@@ -87,7 +88,7 @@ abbrev pub Operand : Type 0
 Operand = PlainDraft × Rule
 
 -- what the code has of it says
-abbrev pub seen_operand : Draft code.NamedExpr × ℕ → Operand
+abbrev pub seen_operand : Draft (Box code.NamedExpr Global) × ℕ → Operand
 seen_operand operand = (seen operand.0, operand.1)
 
 -- what was read by the rule

@@ -129,7 +129,7 @@ impl Parser<'_> {
     {
         let name = self.named()?;
         let expr = self.expr(levels)?;
-        Ok(with_column(columns, name, expr)?)
+        with_column(columns, name, expr)
     }
 
     /// The columns of a projection.
