@@ -12,11 +12,12 @@ use Rattle.plan_grammar.specs.declared.token.Mark as the_mark
 use Rattle.plan_grammar.specs.declared.token.Mark.TheVariants as mark
 use Rattle.plan_grammar.specs.declared.token.Word as the_word
 use Rattle.plan_grammar.specs.declared.token.Word.TheVariants as word
+use Rattle.plan_grammar.specs.declared.operator.Operator.TheVariants as operator
 use Rattle.plan_grammar.specs.declared.operator.Infix.{Infix}
 use Rattle.plan_grammar.specs.declared.operator.Prefix.{Prefix}
 use Rattle.plan_grammar.specs.Token.{greatest_number}
-use Rattle.plan_grammar.specs.PlainNamed.{Column, Literal, Call1, Call2, If}
-use Rattle.plan_grammar.specs.Operators.{Rule, E, ATOM, joined, infix_of, prefix_of}
+use Rattle.plan_grammar.specs.PlainNamed.{Column, Literal, Call1, Binary, If}
+use Rattle.plan_grammar.specs.Operators.{Rule, E, ATOM, infix_of, prefix_of}
 use Rattle.plan_grammar.specs.declared.expr.NamedExpr as code
 use Rattle.plan_parser.specs.declared.counts.Counts.{Counts}
 use Rattle.plan_parser.specs.declared.draft.Draft.{Draft}
@@ -43,7 +44,7 @@ abbrev pub call1_at : Counts → Readers → Op → Reader
 call1_at most inner o ts = and_then (argument inner Close ts) (λ a rest. Some (with1 most (Call1 o) a, rest))
 
 abbrev pub call2_at : Counts → Readers → Op → Reader
-call2_at most inner o ts = and_then (argument inner Comma ts) (λ a next. and_then (argument inner Close next) (λ b rest. Some (with2 most (Call2 o) a b, rest)))
+call2_at most inner o ts = and_then (argument inner Comma ts) (λ a next. and_then (argument inner Close next) (λ b rest. Some (with2 most (Binary (operator.Call o)) a b, rest)))
 
 abbrev pub choice_at : Counts → Readers → Reader
 choice_at most inner ts = and_then (argument inner Comma ts) (λ c next. and_then (argument inner Comma next) (λ a last. and_then (argument inner Close last) (λ b rest. Some (with3 most If c a b, rest))))
@@ -122,7 +123,7 @@ operator_at rule (t ∷ ts) = operator_step rule ts (infix_of t)
 
 -- one operand more, to the right of what was read
 abbrev pub joined_onto : Counts → Readers → Infix → PlainDraft → Reader
-joined_onto most operands o left ts = and_then (operands o.right ts) (λ b rest. Some (with2 most (joined o.operator) left b, rest))
+joined_onto most operands o left ts = and_then (operands o.right ts) (λ b rest. Some (with2 most (Binary o.operator) left b, rest))
 
 -- where the operator may have before it what was read
 abbrev pub operand_onto : Counts → Readers → Infix → Operand → ReaderOf Operand

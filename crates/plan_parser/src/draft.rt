@@ -1,7 +1,6 @@
 //! What is kept of a part of a plan while it is read, and of an expression.
 ghost use Rattle.std.specs.Prelude.{◌≡◌, IfOk};
-ghost use Rattle.plan_grammar.specs.Operators.{joined};
-ghost use Rattle.plan_grammar.specs.PlainNamed.{expr_of, Call1, If};
+ghost use Rattle.plan_grammar.specs.PlainNamed.{expr_of, Call1, Binary, If};
 ghost use Rattle.plan_parser.specs.Draft.{limits, kept, counted, paired, seen, kept_one, with1, with2, with3};
 ghost use Rattle.plan_parser.specs.Reader.{Makes};
 
@@ -65,11 +64,18 @@ pub fn boxed<T: Drop>(alloc: Global, value: T) -> Result<Box<T>, Memory>
 }
 
 /// An expression of one node.
-pub fn one(alloc: Global, expr: NamedExpr) -> Result<ExprDraft, TextRefusal>
-    ensures { Makes seen result (kept_one limits (expr_of expr)) }
+pub fn one_node(alloc: Global, expr: NamedExpr) -> Result<ExprDraft, Memory>
+    ensures { IfOk result (λ draft. seen draft ≡ kept_one limits (expr_of expr)) }
 {
     let part = Some(boxed(alloc, expr)?);
     Ok(Draft { part, counts: EXPR })
+}
+
+/// An expression of one node, which is all that is read.
+pub fn one(alloc: Global, expr: NamedExpr) -> Result<ExprDraft, TextRefusal>
+    ensures { Makes seen result (kept_one limits (expr_of expr)) }
+{
+    Ok(one_node(alloc, expr)?)
 }
 
 /// The operation on the argument.
@@ -91,24 +97,21 @@ pub fn join(
     left: ExprDraft,
     right: ExprDraft,
 ) -> Result<ExprDraft, TextRefusal>
-    ensures { Makes seen result (with2 limits (joined operator) (seen left) (seen right)) }
+    ensures { Makes seen result (with2 limits (Binary operator) (seen left) (seen right)) }
 {
     let Draft { part, counts } = left.with(right).counting(EXPR);
     let Some((left, right)) = part else {
         return Ok(Draft { part: None, counts });
     };
-    let part = Some(boxed(alloc, joined(operator, left, right))?);
+    let part = Some(boxed(
+        alloc,
+        NamedExpr::Binary {
+            operator,
+            left,
+            right,
+        },
+    )?);
     Ok(Draft { part, counts })
-}
-
-fn joined(operator: Operator, left: Box<NamedExpr>, right: Box<NamedExpr>) -> NamedExpr
-    ensures { expr_of result ≡ joined operator (expr_of left.value) (expr_of right.value) }
-{
-    match operator {
-        Operator::Call(op) => NamedExpr::Call2 { op, left, right },
-        Operator::And => NamedExpr::And(left, right),
-        Operator::Or => NamedExpr::Or(left, right),
-    }
 }
 
 /// The choice by the test.

@@ -12,7 +12,7 @@ ghost use Rattle.plan_parser.specs.Reading.{word_atom, mark_atom, atom_at, prefi
 ghost use Rattle.plan_parser.specs.Reading.{operator_at, operand_onto, operands_at, below};
 ghost use Rattle.plan_parser.specs.Reading.{rule_at, expr_at};
 
-use crate::draft::{ExprDraft, call1, choice, join, one};
+use crate::draft::{ExprDraft, call1, choice, join, one, one_node};
 use crate::parser::{Parser, Terminal};
 use crate::refusal::TextRefusal;
 use plan_grammar::{ATOM, EXPRESSION, Infix, Mark, NamedExpr, Operator, Prefix, Token, Word};
@@ -59,7 +59,7 @@ impl Parser<'_> {
         ensures { (rest : List Token) → Reads seen result rest (number_atom limits number rest) }
     {
         match i64::try_from(number) {
-            Ok(number) => one(alloc, NamedExpr::Literal(Cell::Int(number))),
+            Ok(number) => Ok(one_node(alloc, NamedExpr::Literal(Cell::Int(number)))?),
             Err(_) => Err(TextRefusal::Syntax),
         }
     }
@@ -73,7 +73,7 @@ impl Parser<'_> {
         };
         self.rest = rest;
         match 0_i64.checked_sub_unsigned(*number) {
-            Some(number) => one(self.alloc, NamedExpr::Literal(Cell::Int(number))),
+            Some(number) => { Ok(one_node(self.alloc, NamedExpr::Literal(Cell::Int(number)))?) }
             None => Err(TextRefusal::Syntax),
         }
     }
@@ -91,7 +91,7 @@ impl Parser<'_> {
 
     /// What the rule reads within a construct.
     #[cycle(expression)]
-    #[tactic(auto, using(crate::proofs::ReadingLemmas::inner_rule))]
+    #[tactic(auto, using(crate::proofs::Levels::inner_rule))]
     fn within(&mut self, rule: u8, levels: u32) -> Result<ExprDraft, TextRefusal>
         ensures { Reads seen result self.new.rest.now (inner limits levels rule self.old.rest.now) }
     {
@@ -255,7 +255,7 @@ impl Parser<'_> {
 
     /// One operand more, to the right of what was read.
     #[cycle(expression)]
-    #[tactic(auto, using(crate::proofs::ReadingLemmas::below_is))]
+    #[tactic(auto, using(crate::proofs::Levels::below_is))]
     fn operand_onto(
         &mut self,
         rule: u8,

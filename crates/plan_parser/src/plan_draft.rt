@@ -42,7 +42,11 @@ pub fn filtered(alloc: Global, plan: PlanDraft, test: ExprDraft) -> Result<PlanD
 }
 
 /// The columns of each of the plan's rows.
-pub fn projected(alloc: Global, plan: PlanDraft, columns: ColumnsDraft) -> Result<PlanDraft, TextRefusal>
+pub fn projected(
+    alloc: Global,
+    plan: PlanDraft,
+    columns: ColumnsDraft,
+) -> Result<PlanDraft, TextRefusal>
     ensures { Makes seen_plan result (select_draft limits (seen_plan plan) (seen_columns columns)) }
 {
     let Draft { part, counts } = plan.with(columns).counting(NARROW);
@@ -81,7 +85,14 @@ pub fn grouped(
     };
     let keys = Seq::new(keys);
     let results = Seq::new(results);
-    let part = Some(boxed(alloc, NamedTree::Group { child, keys, results })?);
+    let part = Some(boxed(
+        alloc,
+        NamedTree::Group {
+            child,
+            keys,
+            results,
+        },
+    )?);
     Ok(Draft { part, counts })
 }
 
@@ -104,7 +115,11 @@ pub fn joined(
 }
 
 /// The rows of one plan, then those of another.
-pub fn concatenated(alloc: Global, first: PlanDraft, last: PlanDraft) -> Result<PlanDraft, TextRefusal>
+pub fn concatenated(
+    alloc: Global,
+    first: PlanDraft,
+    last: PlanDraft,
+) -> Result<PlanDraft, TextRefusal>
     ensures { Makes seen_plan result (concat_draft limits (seen_plan first) (seen_plan last)) }
 {
     let Draft { part, counts } = first.with(last).counting(WIDE);
@@ -116,7 +131,11 @@ pub fn concatenated(alloc: Global, first: PlanDraft, last: PlanDraft) -> Result<
 }
 
 /// The plan's rows in the order of the keys.
-pub fn ordered(alloc: Global, plan: PlanDraft, keys: Vec<NamedKey>) -> Result<PlanDraft, TextRefusal>
+pub fn ordered(
+    alloc: Global,
+    plan: PlanDraft,
+    keys: Vec<NamedKey>,
+) -> Result<PlanDraft, TextRefusal>
     ensures { Makes seen_plan result (order_draft limits (seen_plan plan) keys.items) }
 {
     let Draft { part, counts } = plan.counting(NARROW);

@@ -70,7 +70,7 @@ impl Parser<'_> {
 
     /// A plan within parentheses.
     #[cycle(plan)]
-    #[tactic(auto, using(crate::proofs::StageLemmas::inner_plan_with_levels))]
+    #[tactic(auto, using(crate::proofs::Levels::inner_plan_with_levels))]
     fn plan_within(&mut self, levels: u32) -> Result<PlanDraft, TextRefusal>
         ensures { Reads seen_plan result self.new.rest.now (inner_plan limits levels self.old.rest.now) }
     {
