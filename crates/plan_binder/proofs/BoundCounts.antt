@@ -19,7 +19,7 @@ use Rattle.plan_binder.proofs.CallRowLaws.{two_some, three_some, all_cons, bound
 -- ---- expressions
 
 module _ (names : Names) (kinds : Kinds) where
-  operated_size : (o : Operator) (x y : bound.PlainExpr) → size (operated kinds o x y) ≡ 1 + (size x + size y)
+  operated_size : (o : Operator) (x y : bound.PlainExpr) → size (operated kinds o x y) ≡ 1 + size x + size y
   operated_size (operator.Call op) x y = refl
   operated_size operator.And x y = refl
   operated_size operator.Or x y = refl
