@@ -1,5 +1,5 @@
 -- A bound plan with a typing has a row for each call.
-use Rattle.std.proofs.Common.{◌≡◌, ◌∙◌, refl, sym, ap, ℕ, Bool, true, false, ◌||◌, cond, List, [], ◌∷◌, map, Option, None, Some, Ok}
+use Rattle.std.proofs.Common.{◌≡◌, ◌∙◌, refl, sym, ap, ℕ, Bool, true, false, cond, List, [], ◌∷◌, map, Option, None, Some, Ok}
 use Rattle.std.proofs.lemmas.Bool.{false≢true, or_from}
 use Rattle.std.specs.Option.{option_and_then, is_none, is_some}
 use Rattle.std.specs.List.{list_any}
@@ -12,15 +12,16 @@ use Rattle.plan_core.specs.PlainExpr as bound
 use Rattle.plan_core.specs.PlainPlan.{PlainPlan}
 use Rattle.plan_core.specs.ExpressionKind.{of_both, call_kind, both_truths, choice_kind, expression_kind}
 use Rattle.plan_core.specs.PlanTyping.{Kinds, all_there, is_empty, is_truth, column_kind, column_kind_of, plan_kinds, filter_kinds, project_kinds, group_kinds, join_kinds, concat_kinds, order_kinds}
+use Rattle.plan_grammar.specs.declared.operator.Operator.{Operator}
+use Rattle.plan_grammar.specs.declared.operator.Operator.TheVariants as operator
 use Rattle.plan_grammar.specs.PlainNamed as named
-use Rattle.plan_grammar.specs.PlainNamed.{PlainColumn, PlainTree, From, Where, Select}
+use Rattle.plan_grammar.specs.PlainNamed.{PlainColumn, PlainTree}
 use Rattle.plan_binder.specs.OpRows.{row_for}
-use Rattle.plan_binder.specs.Binding.{Names, Bound, call1, call2, of_two, of_three, bound_expr, bound_tree, absent_stream, present_or, plan_or_ill_typed, binding}
-use Rattle.plan_binder.specs.CallRows.{has_no_row, bound_kind, lacks_row, test_lacks_row, columns_lack_row, plan_lacks_row}
+use Rattle.plan_binder.specs.Binding.{Names, Bound, call1, call2, operated, of_two, of_three, bound_expr, bound_tree, absent_stream, present_or, plan_or_ill_typed, binding}
+use Rattle.plan_binder.specs.CallRows.{has_no_row, operator_lacks_row, bound_kind, lacks_row, test_lacks_row, columns_lack_row, plan_lacks_row}
 use Rattle.plan_binder.proofs.OpRowLaws.{chosen_found}
 use Rattle.plan_core.proofs.ValueKinds.{then_some, map_some, both_some, unless_some}
-use Rattle.plan_binder.proofs.BoundParts.{BoundAs, scan, filter, select, distinct, group, join, concat, order, parts}
-use Rattle.plan_binder.proofs.BoundKinds.{bound_kinds}
+use Rattle.plan_binder.proofs.BoundPlans.{BoundAs, scan, filter, select, distinct, group, join, concat, order, parts, bound_kinds}
 
 -- what is refused wherever it is found isn't there
 pub not_there : {A : Type 0} (o : Option A) (lacks : Bool) → ((x : A) → o ≡ Some x → lacks ≡ false) → lacks ≡ true → o ≡ None
@@ -129,12 +130,14 @@ module _ (names : Names) (kinds : Kinds) where
   kind_there : (e : named.PlainExpr) (x : bound.PlainExpr) → bound_expr names kinds e ≡ Some x → expression_kind kinds x ≡ bound_kind names kinds e
   kind_there e x is = sym (ap (option_and_then (expression_kind kinds)) is)
 
-  of_parts : (a b : named.PlainExpr) → HasRows a → HasRows b → (x y : bound.PlainExpr) (k : CellKind)
-      → bound_expr names kinds a ≡ Some x → bound_expr names kinds b ≡ Some y → both_truths (expression_kind kinds x) (expression_kind kinds y) ≡ Some k
-      → (lacks_row names kinds a || lacks_row names kinds b) ≡ false
-  of_parts a b first second x y k is_x is_y typed =
-      let both = both_typed (expression_kind kinds x) (expression_kind kinds y) k typed in
-      or_from _ _ (first x both.0 is_x both.2.0) (second y both.1 is_y both.2.1)
+  operands_typed : (o : Operator) (x y : bound.PlainExpr) (k : CellKind) → expression_kind kinds (operated kinds o x y) ≡ Some k
+      → (operator_lacks_row o (expression_kind kinds x) (expression_kind kinds y) ≡ false)
+      × ((j : CellKind) × (l : CellKind) × ((expression_kind kinds x ≡ Some j) × (expression_kind kinds y ≡ Some l)))
+  operands_typed (operator.Call op) x y k typed =
+      let its = both_some _ (expression_kind kinds x) (expression_kind kinds y) k (unless_some _ _ k typed) in
+      (call2_row kinds op x y k typed, (its.left, its.right, (its.left_there, its.right_there)))
+  operands_typed operator.And x y k typed = (refl, both_typed (expression_kind kinds x) (expression_kind kinds y) k typed)
+  operands_typed operator.Or x y k typed = (refl, both_typed (expression_kind kinds x) (expression_kind kinds y) k typed)
 
   typed_rows : (e : named.PlainExpr) → HasRows e
   typed_rows (named.Column name) x k is typed = refl
@@ -144,22 +147,14 @@ module _ (names : Names) (kinds : Kinds) where
       let call : expression_kind kinds (call1 kinds op arg.0) ≡ Some k = ap (expression_kind kinds) arg.1.1 ∙ typed in
       let its = then_some _ (expression_kind kinds arg.0) k call in
       or_from _ _ (ap (λ o. has_no_row op (o ∷ [])) (sym (kind_there a arg.0 arg.1.0)) ∙ call1_row kinds op arg.0 k call) (typed_rows a arg.0 its.0 arg.1.0 its.1.0)
-  typed_rows (named.Call2 op a b) x k is typed =
-      let args = two_some (call2 kinds op) (bound_expr names kinds a) (bound_expr names kinds b) x is in
-      let call : expression_kind kinds (call2 kinds op args.left args.right) ≡ Some k = ap (expression_kind kinds) args.gives ∙ typed in
-      let its = both_some _ (expression_kind kinds args.left) (expression_kind kinds args.right) k (unless_some _ _ k call) in
+  typed_rows (named.Binary o a b) x k is typed =
+      let args = two_some (operated kinds o) (bound_expr names kinds a) (bound_expr names kinds b) x is in
+      let its = operands_typed o args.left args.right k (ap (expression_kind kinds) args.gives ∙ typed) in
       or_from _ _
       (or_from _ _
-      ((λ i. has_no_row op (sym (kind_there a args.left args.left_there) i ∷ sym (kind_there b args.right args.right_there) i ∷ []))
-      ∙ call2_row kinds op args.left args.right k call)
-      (typed_rows a args.left its.left args.left_there its.left_there))
-      (typed_rows b args.right its.right args.right_there its.right_there)
-  typed_rows (named.And a b) x k is typed =
-      let parts = two_some bound.And (bound_expr names kinds a) (bound_expr names kinds b) x is in
-      of_parts a b (typed_rows a) (typed_rows b) parts.left parts.right k parts.left_there parts.right_there (ap (expression_kind kinds) parts.gives ∙ typed)
-  typed_rows (named.Or a b) x k is typed =
-      let parts = two_some bound.Or (bound_expr names kinds a) (bound_expr names kinds b) x is in
-      of_parts a b (typed_rows a) (typed_rows b) parts.left parts.right k parts.left_there parts.right_there (ap (expression_kind kinds) parts.gives ∙ typed)
+      ((λ i. operator_lacks_row o (sym (kind_there a args.left args.left_there) i) (sym (kind_there b args.right args.right_there) i)) ∙ its.0)
+      (typed_rows a args.left its.1.0 args.left_there its.1.2.0))
+      (typed_rows b args.right its.1.1 args.right_there its.1.2.1)
   typed_rows (named.If c a b) x k is typed =
       let parts = three_some (bound_expr names kinds c) (bound_expr names kinds a) (bound_expr names kinds b) x is in
       let its = choice_typed (expression_kind kinds parts.test) (expression_kind kinds parts.first) (expression_kind kinds parts.second) k

@@ -1,10 +1,6 @@
-pub mod ResolvesLaws
-pub mod CollectLaws
+pub mod Collecting
 pub mod BindingLaws
-pub mod BoundParts
-pub mod BoundKinds
-pub mod BoundLeaves
+pub mod BoundPlans
 pub mod CallRowLaws
 pub mod OpRowLaws
-pub mod BindingExamples
 pub mod BoundCounts

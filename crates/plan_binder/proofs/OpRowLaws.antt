@@ -49,23 +49,7 @@ with_operation o kinds i e =
 first_operation : (o : Op) → op_at (first_row o) ≡ o
 unfolding first_row
 first_operation op.Add = refl
-first_operation op.Sub = refl
-first_operation op.Mul = refl
-first_operation op.Neg = refl
-first_operation op.Abs = refl
-first_operation op.Div = refl
-first_operation op.Mod = refl
-first_operation op.Least = refl
-first_operation op.Most = refl
-first_operation op.Eq = refl
-first_operation op.Ne = refl
-first_operation op.Lt = refl
-first_operation op.Le = refl
-first_operation op.Gt = refl
-first_operation op.Ge = refl
-first_operation op.Len = refl
-first_operation op.Starts = refl
-first_operation op.Not = refl
+first_operation _ = refl
 
 pub keeps_operation : (o : Op) (kinds : List (Option CellKind)) → op_at (row_for o kinds) ≡ o
 keeps_operation o kinds = go (all_there kinds)

@@ -18,6 +18,10 @@ use Rattle.plan_core.specs.PlainExpr.{Column, Literal, And, Or, If}
 use Rattle.plan_core.specs.PlainPlan.{PlainPlan, Scan, Filter, Project, Distinct, Group, Join, Concat, Order, plan_of}
 use Rattle.plan_core.specs.ExpressionKind.{of_both, expression_kind}
 use Rattle.plan_core.specs.PlanTyping.{Kinds, all_there, column_kind_of, agg_kind}
+use Rattle.plan_grammar.specs.declared.operator.Operator.{Operator}
+use Rattle.plan_grammar.specs.declared.operator.Operator.TheVariants as operator
+use Rattle.plan_grammar.specs.declared.plan.AggFunction as named_function
+use Rattle.plan_grammar.specs.declared.plan.AggFunction.TheVariants as function
 use Rattle.plan_grammar.specs.declared.plan.NamedAgg.{NamedAgg}
 use Rattle.plan_grammar.specs.declared.plan.NamedAgg.TheVariants as named_agg
 use Rattle.plan_grammar.specs.declared.plan.NamedResult.{NamedResult}
@@ -53,6 +57,12 @@ call1 kinds op a = bound.Call1 (row_for op (expression_kind kinds a ∷ [])) a
 abbrev pub call2 : Kinds → Op → bound.PlainExpr → bound.PlainExpr → bound.PlainExpr
 call2 kinds op a b = bound.Call2 (row_for op (expression_kind kinds a ∷ expression_kind kinds b ∷ [])) a b
 
+-- what an operator makes of its operands
+abbrev pub operated : Kinds → Operator → bound.PlainExpr → bound.PlainExpr → bound.PlainExpr
+operated kinds (operator.Call op) = call2 kinds op
+operated kinds operator.And = And
+operated kinds operator.Or = Or
+
 -- what is made of two, or of three, that are all there
 abbrev pub of_two : (bound.PlainExpr → bound.PlainExpr → bound.PlainExpr) → Option bound.PlainExpr → Option bound.PlainExpr → Option bound.PlainExpr
 of_two make (Some x) (Some y) = Some (make x y)
@@ -66,9 +76,7 @@ abbrev pub bound_expr : Names → Kinds → named.PlainExpr → Option bound.Pla
 bound_expr names kinds (named.Column name) = option_map Column (place_of names name)
 bound_expr names kinds (named.Literal cell) = Some (Literal cell)
 bound_expr names kinds (named.Call1 op a) = option_map (call1 kinds op) (bound_expr names kinds a)
-bound_expr names kinds (named.Call2 op a b) = of_two (call2 kinds op) (bound_expr names kinds a) (bound_expr names kinds b)
-bound_expr names kinds (named.And a b) = of_two And (bound_expr names kinds a) (bound_expr names kinds b)
-bound_expr names kinds (named.Or a b) = of_two Or (bound_expr names kinds a) (bound_expr names kinds b)
+bound_expr names kinds (named.Binary o a b) = of_two (operated kinds o) (bound_expr names kinds a) (bound_expr names kinds b)
 bound_expr names kinds (named.If c a b) = of_three If (bound_expr names kinds c) (bound_expr names kinds a) (bound_expr names kinds b)
 
 -- ---- operators
@@ -112,14 +120,18 @@ bound_select columns input =
 abbrev pub bound_distinct : Bound → Bound
 bound_distinct input = record { plan = Distinct input.plan; names = input.names; kinds = input.kinds }
 
+-- the aggregate of the column at a place
+abbrev pub column_agg : named_function.AggFunction → ℕ → Agg
+column_agg function.Sum = agg.Sum
+column_agg function.Min = agg.Min
+column_agg function.Max = agg.Max
+column_agg function.First = agg.First
+column_agg function.Last = agg.Last
+column_agg function.Avg = agg.Avg
+
 abbrev pub bound_agg : Names → NamedAgg → Option Agg
 bound_agg names named_agg.Count = Some agg.Count
-bound_agg names (named_agg.Sum column) = option_map agg.Sum (place_of names column)
-bound_agg names (named_agg.Min column) = option_map agg.Min (place_of names column)
-bound_agg names (named_agg.Max column) = option_map agg.Max (place_of names column)
-bound_agg names (named_agg.First column) = option_map agg.First (place_of names column)
-bound_agg names (named_agg.Last column) = option_map agg.Last (place_of names column)
-bound_agg names (named_agg.Avg column) = option_map agg.Avg (place_of names column)
+bound_agg names (named_agg.Of f column) = option_map (column_agg f) (place_of names column)
 
 -- the groups by the columns at these places
 abbrev pub grouped : Bound → Names → List ℕ → List Agg → Option Bound

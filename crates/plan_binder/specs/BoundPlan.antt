@@ -1,16 +1,13 @@
--- What a bound plan of the code says, and what an operator makes of its operands.
+-- What a bound plan of the code says.
 use Rattle.std.specs.Prelude.{ℕ, List, Vec, Box}
 use Rattle.std.specs.declared.alloc.Global.{Global}
 use Rattle.plan_core.specs.declared.agg.Agg.{Agg}
 use Rattle.plan_core.specs.declared.expr.Expr as code_expr
-use Rattle.plan_core.specs.PlainExpr.{PlainExpr, And, Or, expr_of}
+use Rattle.plan_core.specs.PlainExpr.{PlainExpr, expr_of}
 use Rattle.plan_core.specs.PlainPlan.{plan_of}
-use Rattle.plan_core.specs.PlanTyping.{Kinds}
 use Rattle.plan_binder.specs.declared.bind_names.GroupParts.{GroupParts}
 use Rattle.plan_binder.specs.declared.bound.Bound as code
-use Rattle.plan_grammar.specs.declared.operator.Operator.{Operator}
-use Rattle.plan_grammar.specs.declared.operator.Operator.TheVariants as operator
-use Rattle.plan_binder.specs.Binding.{Bound, call2}
+use Rattle.plan_binder.specs.Binding.{Bound}
 
 abbrev pub bound_of : code.Bound → Bound
 bound_of b = record { plan = plan_of b.plan.value; names = b.columns.names; kinds = b.columns.kinds }
@@ -18,11 +15,6 @@ bound_of b = record { plan = plan_of b.plan.value; names = b.columns.names; kind
 -- what a boxed expression of the code says
 abbrev pub boxed_expr_of : Box code_expr.Expr Global → PlainExpr
 boxed_expr_of e = expr_of e.value
-
-abbrev pub operated : Kinds → Operator → PlainExpr → PlainExpr → PlainExpr
-operated kinds (operator.Call op) = call2 kinds op
-operated kinds operator.And = And
-operated kinds operator.Or = Or
 
 -- the places of a group's keys, and its aggregates
 abbrev pub parts_of : GroupParts → List ℕ × List Agg

@@ -7,13 +7,20 @@ use Rattle.scalar_ops.specs.declared.cell.CellKind.{CellKind}
 use Rattle.scalar_ops.specs.declared.table.Op.{Op}
 use Rattle.plan_core.specs.ExpressionKind.{expression_kind}
 use Rattle.plan_core.specs.PlanTyping.{Kinds, all_there}
-use Rattle.plan_grammar.specs.PlainNamed.{PlainExpr, Column, Literal, Call1, Call2, And, Or, If, PlainColumn, PlainTree, From, Where, Select, Distinct, Group, Join, Concat, Order}
+use Rattle.plan_grammar.specs.declared.operator.Operator.{Operator}
+use Rattle.plan_grammar.specs.declared.operator.Operator.TheVariants as operator
+use Rattle.plan_grammar.specs.PlainNamed.{PlainExpr, Column, Literal, Call1, Binary, If, PlainColumn, PlainTree, From, Where, Select, Distinct, Group, Join, Concat, Order}
 use Rattle.plan_binder.specs.OpRows.{row_with}
 use Rattle.plan_binder.specs.Binding.{Names, Bound, bound_expr, bound_tree}
 
 -- the table has no row for this operation at arguments of these kinds
 abbrev pub has_no_row : Op → List (Option CellKind) → Bool
 has_no_row op kinds = is_none (option_and_then (row_with op) (all_there kinds))
+
+-- the operator calls an operation that has no row for operands of these kinds
+abbrev pub operator_lacks_row : Operator → Option CellKind → Option CellKind → Bool
+operator_lacks_row (operator.Call op) a b = has_no_row op (a ∷ b ∷ [])
+operator_lacks_row _ a b = false
 
 -- ---- expressions, over columns with these names and kinds
 
@@ -26,10 +33,8 @@ abbrev pub lacks_row : Names → Kinds → PlainExpr → Bool
 lacks_row names kinds (Column name) = false
 lacks_row names kinds (Literal cell) = false
 lacks_row names kinds (Call1 op a) = has_no_row op (bound_kind names kinds a ∷ []) || lacks_row names kinds a
-lacks_row names kinds (Call2 op a b) =
-    has_no_row op (bound_kind names kinds a ∷ bound_kind names kinds b ∷ []) || lacks_row names kinds a || lacks_row names kinds b
-lacks_row names kinds (And a b) = lacks_row names kinds a || lacks_row names kinds b
-lacks_row names kinds (Or a b) = lacks_row names kinds a || lacks_row names kinds b
+lacks_row names kinds (Binary o a b) =
+    operator_lacks_row o (bound_kind names kinds a) (bound_kind names kinds b) || lacks_row names kinds a || lacks_row names kinds b
 lacks_row names kinds (If c a b) = lacks_row names kinds c || lacks_row names kinds a || lacks_row names kinds b
 
 abbrev pub test_lacks_row : PlainExpr → Option Bound → Bool

@@ -4,8 +4,8 @@ ghost use Rattle.std.specs.Option.{option_map};
 ghost use Rattle.plan_core.specs.PlainExpr as bound;
 ghost use Rattle.plan_core.specs.PlanTyping.{all_there};
 ghost use Rattle.plan_grammar.specs.PlainNamed.{expr_of};
-ghost use Rattle.plan_binder.specs.Binding.{bound_expr, place_of, call1, call2, of_two, of_three};
-ghost use Rattle.plan_binder.specs.BoundPlan.{boxed_expr_of, operated};
+ghost use Rattle.plan_binder.specs.Binding.{bound_expr, place_of, call1, call2, operated, of_two, of_three};
+ghost use Rattle.plan_binder.specs.BoundPlan.{boxed_expr_of};
 ghost use Rattle.plan_binder.specs.Resolves.{Resolves};
 
 use crate::allocation::{boxed, push};
@@ -31,11 +31,11 @@ pub fn bind_expr(alloc: Global, columns: &Columns, e: &NamedExpr) -> Result<Box<
             let arg = bind_expr(alloc, columns, arg)?;
             call(alloc, columns, *op, arg)
         }
-        NamedExpr::Call2 { op, left, right } => {
-            bind_operands(alloc, columns, Operator::Call(*op), left, right)
-        }
-        NamedExpr::And(left, right) => { bind_operands(alloc, columns, Operator::And, left, right) }
-        NamedExpr::Or(left, right) => bind_operands(alloc, columns, Operator::Or, left, right),
+        NamedExpr::Binary {
+            operator,
+            left,
+            right,
+        } => bind_operands(alloc, columns, *operator, left, right),
         NamedExpr::If(test, first, last) => bind_choice(alloc, columns, test, first, last),
     }
 }

@@ -1,15 +1,16 @@
 //! Places of names among names.
-ghost use Rattle.std.specs.Prelude.{◌≡◌, map, Some};
+ghost use Rattle.std.specs.Prelude.{◌≡◌, map, Option, Some};
 ghost use Rattle.plan_core.specs.ExpressionKind.{of_both};
 ghost use Rattle.plan_core.specs.PlanTyping.{all_there};
-ghost use Rattle.plan_binder.specs.Binding.{place_of, is_there, has_repeat, bound_pair, bound_key, bound_agg};
+ghost use Rattle.plan_binder.specs.Binding.{Names, place_of, is_there, has_repeat, bound_pair, bound_key};
+ghost use Rattle.plan_binder.specs.Binding.{column_agg, bound_agg};
 ghost use Rattle.plan_binder.specs.BoundPlan.{items_of, parts_of};
 ghost use Rattle.plan_binder.specs.Resolves.{Resolves};
 
 use crate::allocation::push;
 use crate::refusal::BindRefusal;
 use plan_core::Agg;
-use plan_grammar::{NamedAgg, NamedKey, NamedPair, NamedResult};
+use plan_grammar::{AggFunction, NamedAgg, NamedKey, NamedPair, NamedResult};
 use rows_core::{Key, Name};
 use std::alloc::Global;
 
@@ -71,20 +72,66 @@ pub fn bind_parts(
         (of_both (λ places aggs. Some (places, aggs)) (all_there (map (place_of names.now) keys.now))
         (all_there (map (λ result. bound_agg names.now result.agg) results.now))) }
 {
-    let places = bind_columns(alloc, names, keys)?;
-    let aggs = bind_aggs(alloc, names, results)?;
+    let places = bind_all(alloc, names, keys)?;
+    let aggs = bind_all(alloc, names, results)?;
     Ok(GroupParts { places, aggs })
 }
 
-/// The places of these names.
+/// What has numbers in place of names, among columns with these names.
+pub trait Bind {
+    type Bound: Drop;
+
+    ghost bound: { Names → Self → Option Self.Bound };
+
+    fn bind(&self, names: &[Name]) -> Result<Self::Bound, BindRefusal>
+        ensures { Resolves (λ bound. bound) result (bound names.now self.now) };
+}
+
+impl Bind for Name {
+    type Bound = u32;
+
+    ghost bound = { place_of };
+
+    fn bind(&self, names: &[Name]) -> Result<u32, BindRefusal> {
+        place_of(names, self.bytes())
+    }
+}
+
+impl Bind for NamedKey {
+    type Bound = Key;
+
+    ghost bound = { bound_key };
+
+    fn bind(&self, names: &[Name]) -> Result<Key, BindRefusal> {
+        let down = self.down;
+        let column = place_of(names, self.column.bytes())?;
+        Ok(Key { column, down })
+    }
+}
+
+impl Bind for NamedResult {
+    type Bound = Agg;
+
+    ghost bound = { λ names result. bound_agg names result.agg };
+
+    fn bind(&self, names: &[Name]) -> Result<Agg, BindRefusal> {
+        bind_agg(names, &self.agg)
+    }
+}
+
+/// The items with numbers.
 #[tactic(auto, using(plan_core::specs::AllThere::found))]
-fn bind_columns(alloc: Global, names: &[Name], columns: &[Name]) -> Result<Vec<u32>, BindRefusal>
-    ensures { Resolves items_of result (all_there (map (place_of names.now) columns.now)) }
+pub fn bind_all<T: Bind>(
+    alloc: Global,
+    names: &[Name],
+    items: &[T],
+) -> Result<Vec<T::Bound>, BindRefusal>
+    ensures { Resolves items_of result (all_there (map (T.bound names.now) items.now)) }
 {
-    let mut found = Vec::with_capacity(alloc, columns.len())?;
-    for column in columns {
-        let place = place_of(names, column.bytes())?;
-        push(&mut found, place)?;
+    let mut found = Vec::with_capacity(alloc, items.len())?;
+    for named in items {
+        let bound = named.bind(names)?;
+        push(&mut found, bound)?;
     }
     Ok(found)
 }
@@ -115,55 +162,28 @@ fn bind_pair(lefts: &[Name], rights: &[Name], pair: &NamedPair) -> Result<(u32, 
     Ok((left, right))
 }
 
-/// The keys with numbers.
-#[tactic(auto, using(plan_core::specs::AllThere::found))]
-pub fn bind_keys(alloc: Global, names: &[Name], keys: &[NamedKey]) -> Result<Vec<Key>, BindRefusal>
-    ensures { Resolves items_of result (all_there (map (bound_key names.now) keys.now)) }
-{
-    let mut found = Vec::with_capacity(alloc, keys.len())?;
-    for key in keys {
-        let bound = bind_key(names, key)?;
-        push(&mut found, bound)?;
-    }
-    Ok(found)
-}
-
-fn bind_key(names: &[Name], key: &NamedKey) -> Result<Key, BindRefusal>
-    ensures { Resolves (λ bound. bound) result (bound_key names.now key.now) }
-{
-    let down = key.down;
-    let column = place_of(names, key.column.bytes())?;
-    Ok(Key { column, down })
-}
-
-/// The aggregates of the results with numbers.
-#[tactic(auto, using(plan_core::specs::AllThere::found))]
-fn bind_aggs(
-    alloc: Global,
-    names: &[Name],
-    results: &[NamedResult],
-) -> Result<Vec<Agg>, BindRefusal>
-    ensures { Resolves items_of result
-        (all_there (map (λ result. bound_agg names.now result.agg) results.now)) }
-{
-    let mut found = Vec::with_capacity(alloc, results.len())?;
-    for result in results {
-        let agg = bind_agg(names, &result.agg)?;
-        push(&mut found, agg)?;
-    }
-    Ok(found)
-}
-
 fn bind_agg(names: &[Name], agg: &NamedAgg) -> Result<Agg, BindRefusal>
     ensures { Resolves (λ bound. bound) result (bound_agg names.now agg.now) }
 {
     match agg {
         NamedAgg::Count => Ok(Agg::Count),
-        NamedAgg::Sum(column) => Ok(Agg::Sum(place_of(names, column.bytes())?)),
-        NamedAgg::Min(column) => Ok(Agg::Min(place_of(names, column.bytes())?)),
-        NamedAgg::Max(column) => Ok(Agg::Max(place_of(names, column.bytes())?)),
-        NamedAgg::First(column) => Ok(Agg::First(place_of(names, column.bytes())?)),
-        NamedAgg::Last(column) => Ok(Agg::Last(place_of(names, column.bytes())?)),
-        NamedAgg::Avg(column) => Ok(Agg::Avg(place_of(names, column.bytes())?)),
+        NamedAgg::Of(function, column) => {
+            let place = place_of(names, column.bytes())?;
+            Ok(column_agg(*function, place))
+        }
+    }
+}
+
+/// The aggregate of the column at the place.
+fn column_agg(function: AggFunction, place: u32) -> Agg
+    ensures { result ≡ column_agg function place }
+{
+    match function {
+        AggFunction::Sum => Agg::Sum(place),
+        AggFunction::Min => Agg::Min(place),
+        AggFunction::Max => Agg::Max(place),
+        AggFunction::First => Agg::First(place),
+        AggFunction::Last => Agg::Last(place),
+        AggFunction::Avg => Agg::Avg(place),
     }
 }

@@ -13,10 +13,10 @@ ghost use Rattle.plan_binder.specs.Resolves.{Resolves};
 
 use crate::allocation::boxed;
 use crate::bind_expr::{bind_expr, bind_exprs};
-use crate::bind_names::{GroupParts, bind_keys, bind_pairs, bind_parts, has_repeat};
+use crate::bind_names::{GroupParts, bind_all, bind_pairs, bind_parts, has_repeat};
 use crate::columns::{Columns, joined_columns};
 use crate::refusal::BindRefusal;
-use crate::result_columns::{group_columns, schema_kinds, schema_names, select_columns};
+use crate::result_columns::{group_columns, names_of, schema_kinds, select_columns};
 use crate::stream::{Stream, stream_place};
 use plan_core::{Expr, Plan};
 use plan_grammar::{NamedColumn, NamedExpr, NamedKey, NamedPair, NamedResult};
@@ -71,7 +71,7 @@ fn scan(alloc: Global, number: u32, schema: &Schema) -> Result<Bound, Memory>
         }) }
 {
     let plan = boxed(alloc, Plan::Scan { stream: number })?;
-    let names = schema_names(alloc, schema.columns())?;
+    let names = names_of(alloc, schema.columns())?;
     let kinds = schema_kinds(alloc, schema.columns())?;
     let columns = Columns::new(names, kinds);
     Ok(Bound { plan, columns })
@@ -230,7 +230,7 @@ pub fn bind_distinct(alloc: Global, input: Bound) -> Result<Bound, BindRefusal>
 pub fn bind_order(alloc: Global, input: Bound, keys: &[NamedKey]) -> Result<Bound, BindRefusal>
     ensures { Resolves bound_of result (bound_order keys.now (bound_of input)) }
 {
-    let keys = bind_keys(alloc, input.columns.names.items(), keys)?;
+    let keys = bind_all(alloc, input.columns.names.items(), keys)?;
     order(alloc, input, keys)
 }
 

@@ -1,5 +1,5 @@
 //! The names and kinds of a result's columns.
-ghost use Rattle.std.specs.Prelude.{◌≡◌, ◌++◌, map, slice_get, IfOk};
+ghost use Rattle.std.specs.Prelude.{◌≡◌, ◌++◌, ℕ, List, map, slice_get, IfOk};
 ghost use Rattle.rows_core.specs.Schema.{kinds_of};
 ghost use Rattle.plan_core.specs.PlainExpr as bound;
 ghost use Rattle.plan_core.specs.PlanTyping.{column_kind_of, agg_kind};
@@ -28,7 +28,7 @@ pub fn select_columns(
           kinds = map (λ e. kind_or_int (column_kind_of input.now.kinds (bound.expr_of e))) exprs.now;
         }) }
 {
-    let names = column_names(alloc, columns)?;
+    let names = names_of(alloc, columns)?;
     let kinds = expr_kinds(alloc, input.kinds.items(), exprs)?;
     Ok(Columns::new(names, kinds))
 }
@@ -55,12 +55,53 @@ pub fn group_columns(
     Ok(Columns::new(names, kinds))
 }
 
-pub fn schema_names(alloc: Global, columns: &[Column]) -> Result<Vec<Name>, Memory>
-    ensures { IfOk result (λ names. names.items ≡ map (λ column. column.name) columns.now) }
+/// What has a name of its own.
+pub trait Named {
+    ghost name_of: { Self → List ℕ };
+
+    fn name(&self) -> &Name
+        ensures { result.now ≡ name_of self.now };
+}
+
+impl Named for Name {
+    ghost name_of = { λ name. name };
+
+    fn name(&self) -> &Name {
+        self
+    }
+}
+
+impl Named for Column {
+    ghost name_of = { λ column. column.name };
+
+    fn name(&self) -> &Name {
+        &self.name
+    }
+}
+
+impl Named for NamedColumn {
+    ghost name_of = { λ column. column.name };
+
+    fn name(&self) -> &Name {
+        &self.name
+    }
+}
+
+impl Named for NamedResult {
+    ghost name_of = { λ result. result.name };
+
+    fn name(&self) -> &Name {
+        &self.name
+    }
+}
+
+/// Copies of the names of these.
+pub fn names_of<T: Named>(alloc: Global, items: &[T]) -> Result<Vec<Name>, Memory>
+    ensures { IfOk result (λ names. names.items ≡ map T.name_of items.now) }
 {
-    let mut names = Vec::with_capacity(alloc, columns.len())?;
-    for column in columns {
-        let name = column.name.try_copy(alloc)?;
+    let mut names = Vec::with_capacity(alloc, items.len())?;
+    for named in items {
+        let name = named.name().try_copy(alloc)?;
         push(&mut names, name)?;
     }
     Ok(names)
@@ -70,17 +111,6 @@ pub fn schema_kinds(alloc: Global, columns: &[Column]) -> Result<Vec<Kind>, Memo
     ensures { IfOk result (λ kinds. kinds.items ≡ kinds_of columns.now) }
 {
     Ok(columns.iter().map(|column| column.kind).collect(alloc)?)
-}
-
-fn column_names(alloc: Global, columns: &[NamedColumn]) -> Result<Vec<Name>, Memory>
-    ensures { IfOk result (λ names. names.items ≡ map (λ column. column.name) columns.now) }
-{
-    let mut names = Vec::with_capacity(alloc, columns.len())?;
-    for column in columns {
-        let name = column.name.try_copy(alloc)?;
-        push(&mut names, name)?;
-    }
-    Ok(names)
 }
 
 /// The kinds of these expressions as columns. One that has none counts as a number: typing refuses its plan.
@@ -106,27 +136,14 @@ fn expr_kind(kinds: &[Kind], expr: &Expr) -> Kind
     }
 }
 
-/// A second list of the same names.
-fn copy_names(alloc: Global, names: &[Name]) -> Result<Vec<Name>, Memory>
-    ensures { IfOk result (λ copies. copies.items ≡ names.now) }
-{
-    let mut copies = Vec::with_capacity(alloc, names.len())?;
-    for name in names {
-        let copy = name.try_copy(alloc)?;
-        push(&mut copies, copy)?;
-    }
-    Ok(copies)
-}
-
 /// The names of a group's columns: its keys and then its results.
+#[tactic(auto, using(crate::proofs::BindingLaws::same_names))]
 fn group_names(alloc: Global, keys: &[Name], results: &[NamedResult]) -> Result<Vec<Name>, Memory>
     ensures { IfOk result (λ names. names.items ≡ keys.now ++ map (λ result. result.name) results.now) }
 {
-    let mut names = copy_names(alloc, keys)?;
-    for result in results {
-        let name = result.name.try_copy(alloc)?;
-        push(&mut names, name)?;
-    }
+    let mut names = names_of(alloc, keys)?;
+    let mut others = names_of(alloc, results)?;
+    names.append(&mut others)?;
     Ok(names)
 }
 

@@ -6,14 +6,12 @@ use Rattle.plan_grammar.specs.declared.limit.PlanLimit.TheVariants.{Nodes, Wide,
 use Rattle.plan_grammar.specs.PlainNamed as plain
 use Rattle.plan_grammar.specs.PlainNamed.{PlainExpr, PlainColumn, PlainTree, From, Where, Select, Distinct, Group, Join, Concat, Order}
 
--- each operation, column, literal, `and`, `or` and `if` is one node
+-- each operation, operator, column, literal and `if` is one node
 abbrev pub expr_nodes : PlainExpr → ℕ
 expr_nodes (plain.Column name) = 1
 expr_nodes (plain.Literal c) = 1
 expr_nodes (plain.Call1 op a) = 1 + expr_nodes a
-expr_nodes (plain.Call2 op a b) = 1 + (expr_nodes a + expr_nodes b)
-expr_nodes (plain.And a b) = 1 + (expr_nodes a + expr_nodes b)
-expr_nodes (plain.Or a b) = 1 + (expr_nodes a + expr_nodes b)
+expr_nodes (plain.Binary operator a b) = 1 + (expr_nodes a + expr_nodes b)
 expr_nodes (plain.If c a b) = 1 + (expr_nodes c + (expr_nodes a + expr_nodes b))
 
 -- operators and leaves

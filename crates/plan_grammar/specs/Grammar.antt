@@ -10,22 +10,25 @@ use Rattle.plan_grammar.specs.declared.token.Token.TheVariants.{Name, Word, Numb
 use Rattle.plan_grammar.specs.declared.token.Mark.TheVariants as mark
 use Rattle.plan_grammar.specs.declared.token.Word as the_word
 use Rattle.plan_grammar.specs.declared.token.Word.TheVariants as word
+use Rattle.plan_grammar.specs.declared.plan.AggFunction as agg_function
+use Rattle.plan_grammar.specs.declared.plan.AggFunction.TheVariants as function
 use Rattle.plan_grammar.specs.declared.plan.NamedAgg.{NamedAgg}
 use Rattle.plan_grammar.specs.declared.plan.NamedAgg.TheVariants as agg
 use Rattle.plan_grammar.specs.declared.plan.NamedResult.{NamedResult}
 use Rattle.plan_grammar.specs.declared.plan.NamedPair.{NamedPair}
 use Rattle.plan_grammar.specs.declared.plan.NamedKey.{NamedKey}
+use Rattle.plan_grammar.specs.declared.operator.Operator.TheVariants as operator
 use Rattle.plan_grammar.specs.declared.operator.Infix.{Infix}
 use Rattle.plan_grammar.specs.declared.operator.Prefix.{Prefix}
-use Rattle.plan_grammar.specs.Operators.{Rule, E, ATOM, joined, infix_of, prefix_of, call1_op, call2_op}
-use Rattle.plan_grammar.specs.PlainNamed.{PlainExpr, Column, Literal, Call1, Call2, If, PlainColumn, PlainTree, From, Where, Select, Distinct, Group, Join, Concat, Order}
+use Rattle.plan_grammar.specs.Operators.{Rule, E, ATOM, infix_of, prefix_of, call1_op, call2_op}
+use Rattle.plan_grammar.specs.PlainNamed.{PlainExpr, Column, Literal, Call1, Binary, If, PlainColumn, PlainTree, From, Where, Select, Distinct, Group, Join, Concat, Order}
 
 -- by this rule, and with at most n levels open, the expression stands between `from` and `rest`
 pub data Spells : Rule → ℕ → PlainExpr → List Token → List Token → Type 0 where
   -- a looser rule spells what a tighter one does
   looser : {r s n : ℕ} {e : PlainExpr} {from rest : List Token} → r ≤ s → Spells r n e from rest → Spells s n e from rest
   -- OPERAND operator OPERAND
-  operation : {n : ℕ} {a b : PlainExpr} {from mid rest : List Token} (t : Token) {o : Infix} → infix_of t ≡ Some o → Spells o.left n a from (t ∷ mid) → Spells o.right n b mid rest → Spells o.rule n (joined o.operator a b) from rest
+  operation : {n : ℕ} {a b : PlainExpr} {from mid rest : List Token} (t : Token) {o : Infix} → infix_of t ≡ Some o → Spells o.left n a from (t ∷ mid) → Spells o.right n b mid rest → Spells o.rule n (Binary o.operator a b) from rest
   -- operation OPERAND
   prefixed : {n : ℕ} {a : PlainExpr} {mid rest : List Token} (t : Token) {p : Prefix} → prefix_of t ≡ Some p → Spells p.rule n a mid rest → Spells p.rule (suc n) (Call1 p.op a) (t ∷ mid) rest
   -- ATOM := INT | TEXT | true | false | NAME
@@ -37,7 +40,7 @@ pub data Spells : Rule → ℕ → PlainExpr → List Token → List Token → T
   -- | ( E ) | len ( E ) | abs ( E ) | starts ( E , E ) | least ( E , E ) | most ( E , E ) | if ( E , E , E )
   in_parens : {n : ℕ} {e : PlainExpr} {mid rest : List Token} → Spells E n e mid (Mark mark.Close ∷ rest) → Spells ATOM (suc n) e (Mark mark.Open ∷ mid) rest
   call1 : {n : ℕ} {a : PlainExpr} {mid rest : List Token} (w : the_word.Word) {o : Op} → call1_op w ≡ Some o → Spells E n a mid (Mark mark.Close ∷ rest) → Spells ATOM (suc n) (Call1 o a) (Word w ∷ Mark mark.Open ∷ mid) rest
-  call2 : {n : ℕ} {a b : PlainExpr} {mid next rest : List Token} (w : the_word.Word) {o : Op} → call2_op w ≡ Some o → Spells E n a mid (Mark mark.Comma ∷ next) → Spells E n b next (Mark mark.Close ∷ rest) → Spells ATOM (suc n) (Call2 o a b) (Word w ∷ Mark mark.Open ∷ mid) rest
+  call2 : {n : ℕ} {a b : PlainExpr} {mid next rest : List Token} (w : the_word.Word) {o : Op} → call2_op w ≡ Some o → Spells E n a mid (Mark mark.Comma ∷ next) → Spells E n b next (Mark mark.Close ∷ rest) → Spells ATOM (suc n) (Binary (operator.Call o) a b) (Word w ∷ Mark mark.Open ∷ mid) rest
   choice : {n : ℕ} {c a b : PlainExpr} {mid next last rest : List Token} → Spells E n c mid (Mark mark.Comma ∷ next) → Spells E n a next (Mark mark.Comma ∷ last) → Spells E n b last (Mark mark.Close ∷ rest) → Spells ATOM (suc n) (If c a b) (Word word.If ∷ Mark mark.Open ∷ mid) rest
 
 -- what may stand behind an expression in a plan: nothing, a bar, a comma or a parenthesis that closes
@@ -77,23 +80,21 @@ abbrev pub SpellsKey : NamedKey → List Token → List Token → Type 0
 SpellsKey key from rest = from ≡ Name key.column ∷ (if key.down then Word word.Desc ∷ rest else rest)
 
 -- the names of aggregates are no reserved words
+abbrev pub function_word : agg_function.AggFunction → List ℕ
+function_word function.Sum = codes "sum"
+function_word function.Min = codes "min"
+function_word function.Max = codes "max"
+function_word function.First = codes "first"
+function_word function.Last = codes "last"
+function_word function.Avg = codes "avg"
+
 abbrev pub agg_word : NamedAgg → List ℕ
 agg_word agg.Count = codes "count"
-agg_word (agg.Sum column) = codes "sum"
-agg_word (agg.Min column) = codes "min"
-agg_word (agg.Max column) = codes "max"
-agg_word (agg.First column) = codes "first"
-agg_word (agg.Last column) = codes "last"
-agg_word (agg.Avg column) = codes "avg"
+agg_word (agg.Of f column) = function_word f
 
 abbrev pub agg_argument : NamedAgg → List Token
 agg_argument agg.Count = []
-agg_argument (agg.Sum column) = Name column ∷ []
-agg_argument (agg.Min column) = Name column ∷ []
-agg_argument (agg.Max column) = Name column ∷ []
-agg_argument (agg.First column) = Name column ∷ []
-agg_argument (agg.Last column) = Name column ∷ []
-agg_argument (agg.Avg column) = Name column ∷ []
+agg_argument (agg.Of f column) = Name column ∷ []
 
 -- NAME = AGG, AGG being count ( ) | sum ( NAME ) and so on
 abbrev pub SpellsResult : ℕ → NamedResult → List Token → List Token → Type 0

@@ -9,7 +9,7 @@ use Rattle.plan_grammar.specs.contracts.plan.NamedTree as a_tree
 use Rattle.plan_grammar.specs.declared.expr.NamedExpr as expr
 use Rattle.plan_grammar.specs.declared.plan.NamedColumn as column
 use Rattle.plan_grammar.specs.declared.plan.NamedTree as tree
-use Rattle.plan_grammar.specs.PlainNamed.{PlainExpr, Column, Literal, Call1, Call2, And, Or, If, PlainColumn, PlainTree, From, Where, Select, Distinct, Group, Join, Concat, Order, expr_of, column_of, tree_of}
+use Rattle.plan_grammar.specs.PlainNamed.{PlainExpr, Column, Literal, Call1, Binary, If, PlainColumn, PlainTree, From, Where, Select, Distinct, Group, Join, Concat, Order, expr_of, column_of, tree_of}
 
 abbrev pub nowhere : Box (Unit {0}) Global
 nowhere = record { ptr = null_ptr; alloc = record { memory = record { seal = tt } }; value = tt }
@@ -18,18 +18,14 @@ abbrev pub to_expr : PlainExpr → expr.NamedExpr
 to_expr (Column name) = expr.Column name
 to_expr (Literal c) = expr.Literal c
 to_expr (Call1 op a) = expr.Call1' op nowhere (to_expr a)
-to_expr (Call2 op a b) = expr.Call2' op nowhere (to_expr a) nowhere (to_expr b)
-to_expr (And a b) = expr.And' nowhere (to_expr a) nowhere (to_expr b)
-to_expr (Or a b) = expr.Or' nowhere (to_expr a) nowhere (to_expr b)
+to_expr (Binary operator a b) = expr.Binary' operator nowhere (to_expr a) nowhere (to_expr b)
 to_expr (If c a b) = expr.If' nowhere (to_expr c) nowhere (to_expr a) nowhere (to_expr b)
 
 pub expr_of-to_expr : (e : PlainExpr) → expr_of (to_expr e) ≡ e
 expr_of-to_expr (Column name) = refl
 expr_of-to_expr (Literal c) = refl
 expr_of-to_expr (Call1 op a) = ap (Call1 op) (expr_of-to_expr a)
-expr_of-to_expr (Call2 op a b) = λ i. Call2 op (expr_of-to_expr a i) (expr_of-to_expr b i)
-expr_of-to_expr (And a b) = λ i. And (expr_of-to_expr a i) (expr_of-to_expr b i)
-expr_of-to_expr (Or a b) = λ i. Or (expr_of-to_expr a i) (expr_of-to_expr b i)
+expr_of-to_expr (Binary operator a b) = λ i. Binary operator (expr_of-to_expr a i) (expr_of-to_expr b i)
 expr_of-to_expr (If c a b) = λ i. If (expr_of-to_expr c i) (expr_of-to_expr a i) (expr_of-to_expr b i)
 
 abbrev pub to_column : PlainColumn → column.NamedColumn

@@ -8,11 +8,9 @@ use Rattle.plan_grammar.specs.declared.token.Mark as the_mark
 use Rattle.plan_grammar.specs.declared.token.Mark.TheVariants as mark
 use Rattle.plan_grammar.specs.declared.token.Word as the_word
 use Rattle.plan_grammar.specs.declared.token.Word.TheVariants as word
-use Rattle.plan_grammar.specs.declared.operator.Operator.{Operator}
 use Rattle.plan_grammar.specs.declared.operator.Operator.TheVariants as operator
 use Rattle.plan_grammar.specs.declared.operator.Infix.{Infix}
 use Rattle.plan_grammar.specs.declared.operator.Prefix.{Prefix}
-use Rattle.plan_grammar.specs.PlainNamed.{PlainExpr, Call2, And, Or}
 
 -- The rules of expressions, by how loosely they bind: each spells what the ones before it do too.
 abbrev pub Rule : Type 0
@@ -41,12 +39,6 @@ AND = 6
 
 abbrev pub E : Rule
 E = 7
-
--- what an operator makes of its operands
-abbrev pub joined : Operator → PlainExpr → PlainExpr → PlainExpr
-joined (operator.Call o) = Call2 o
-joined operator.And = And
-joined operator.Or = Or
 
 -- MUL := UN { ( * | / | % ) UN }, to the left
 abbrev pub multiplying : Op → Infix

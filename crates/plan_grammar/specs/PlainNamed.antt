@@ -2,6 +2,7 @@
 use Rattle.std.specs.Prelude.{ℕ, List, [], ◌∷◌, ◌++◌, map}
 use Rattle.scalar_ops.specs.declared.cell.Cell.{Cell}
 use Rattle.scalar_ops.specs.declared.table.Op.{Op}
+use Rattle.plan_grammar.specs.declared.operator.Operator.{Operator}
 use Rattle.plan_grammar.specs.declared.expr.NamedExpr as code
 use Rattle.plan_grammar.specs.declared.plan.NamedColumn as code_column
 use Rattle.plan_grammar.specs.declared.plan.NamedTree as code_tree
@@ -14,9 +15,7 @@ pub data PlainExpr : Type 0 where
   Column : List ℕ → PlainExpr
   Literal : Cell → PlainExpr
   Call1 : Op → PlainExpr → PlainExpr
-  Call2 : Op → PlainExpr → PlainExpr → PlainExpr
-  And : PlainExpr → PlainExpr → PlainExpr
-  Or : PlainExpr → PlainExpr → PlainExpr
+  Binary : Operator → PlainExpr → PlainExpr → PlainExpr
   If : PlainExpr → PlainExpr → PlainExpr → PlainExpr
 
 -- a column of a projection
@@ -40,9 +39,7 @@ abbrev pub expr_of : code.NamedExpr → PlainExpr
 expr_of (code.Column name) = Column name
 expr_of (code.Literal c) = Literal c
 expr_of (code.Call1' op p a) = Call1 op (expr_of a)
-expr_of (code.Call2' op p a q b) = Call2 op (expr_of a) (expr_of b)
-expr_of (code.And' p a q b) = And (expr_of a) (expr_of b)
-expr_of (code.Or' p a q b) = Or (expr_of a) (expr_of b)
+expr_of (code.Binary' operator p a q b) = Binary operator (expr_of a) (expr_of b)
 expr_of (code.If' p c q a r b) = If (expr_of c) (expr_of a) (expr_of b)
 
 abbrev pub column_of : code_column.NamedColumn → PlainColumn

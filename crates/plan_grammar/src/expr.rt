@@ -1,5 +1,6 @@
 //! Expressions with names.
 
+use crate::operator::Operator;
 use rows_core::Name;
 use scalar_ops::{Cell, Op};
 
@@ -14,13 +15,11 @@ pub enum NamedExpr {
         op: Op,
         arg: Box<NamedExpr>,
     },
-    /// An operation of two arguments, whatever their kinds.
-    Call2 {
-        op: Op,
+    /// An operator on two operands, whatever their kinds.
+    Binary {
+        operator: Operator,
         left: Box<NamedExpr>,
         right: Box<NamedExpr>,
     },
-    And(Box<NamedExpr>, Box<NamedExpr>),
-    Or(Box<NamedExpr>, Box<NamedExpr>),
     If(Box<NamedExpr>, Box<NamedExpr>, Box<NamedExpr>),
 }

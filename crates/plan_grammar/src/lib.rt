@@ -15,5 +15,5 @@ pub use operator::{
     ATOM, COMPARISON, CONJUNCTION, EXPRESSION, Infix, NEGATION, Operator, PRODUCT, Prefix, SIGNED,
     SUM,
 };
-pub use plan::{NamedAgg, NamedColumn, NamedKey, NamedPair, NamedResult, NamedTree};
+pub use plan::{AggFunction, NamedAgg, NamedColumn, NamedKey, NamedPair, NamedResult, NamedTree};
 pub use token::{Mark, Token, Word};

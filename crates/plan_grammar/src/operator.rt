@@ -23,7 +23,7 @@ pub const CONJUNCTION: u8 = 6;
 
 pub const EXPRESSION: u8 = 7;
 
-/// What stands between two operands, as a value of its own.
+/// What makes one of two operands: an operation of two arguments, `and` or `or`.
 #[derive(Clone, Copy, Debug, PartialEq, Eq)]
 pub enum Operator {
     Call(Op),

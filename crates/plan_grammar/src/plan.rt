@@ -1,6 +1,6 @@
 //! Plans with names.
 ghost use Rattle.std.specs.Prelude.{◌≡◌};
-ghost use Rattle.plan_grammar.specs.Grammar.{agg_word};
+ghost use Rattle.plan_grammar.specs.Grammar.{function_word, agg_word};
 
 use crate::expr::NamedExpr;
 use rows_core::{Name, Seq};
@@ -12,16 +12,22 @@ pub struct NamedColumn {
     pub expr: NamedExpr,
 }
 
-/// An aggregate of a group, over a column that it names.
+/// What an aggregate takes of a column's values.
+#[derive(Clone, Copy, Debug, PartialEq, Eq)]
+pub enum AggFunction {
+    Sum,
+    Min,
+    Max,
+    First,
+    Last,
+    Avg,
+}
+
+/// An aggregate of a group: the count of its rows, or a function of a column that it names.
 #[derive(Debug, Drop)]
 pub enum NamedAgg {
     Count,
-    Sum(Name),
-    Min(Name),
-    Max(Name),
-    First(Name),
-    Last(Name),
-    Avg(Name),
+    Of(AggFunction, Name),
 }
 
 /// An aggregate, with the name of the result's column.
@@ -83,6 +89,22 @@ pub enum NamedTree {
     },
 }
 
+impl AggFunction {
+    /// The name by which a plan calls the function.
+    pub fn word(&self) -> &[u8]
+        ensures { result.now ≡ function_word self.now }
+    {
+        match self {
+            AggFunction::Sum => b"sum",
+            AggFunction::Min => b"min",
+            AggFunction::Max => b"max",
+            AggFunction::First => b"first",
+            AggFunction::Last => b"last",
+            AggFunction::Avg => b"avg",
+        }
+    }
+}
+
 impl NamedAgg {
     /// The name by which a plan calls the aggregate.
     pub fn word(&self) -> &[u8]
@@ -90,12 +112,7 @@ impl NamedAgg {
     {
         match self {
             NamedAgg::Count => b"count",
-            NamedAgg::Sum(_) => b"sum",
-            NamedAgg::Min(_) => b"min",
-            NamedAgg::Max(_) => b"max",
-            NamedAgg::First(_) => b"first",
-            NamedAgg::Last(_) => b"last",
-            NamedAgg::Avg(_) => b"avg",
+            NamedAgg::Of(function, _) => function.word(),
         }
     }
 }

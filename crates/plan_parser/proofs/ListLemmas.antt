@@ -9,7 +9,7 @@ use Rattle.plan_parser.specs.declared.parser.Terminal.TheVariants.{Comma}
 use Rattle.plan_parser.specs.Reader.{ReadOf, and_then, terminal_at, all_repeated}
 use Rattle.plan_parser.specs.PlanReading.{item_onto, list_at, at_end}
 use Rattle.plan_parser.proofs.RepeatLemmas.{then_some, made_some, Repeats, Repeats-start, Repeats-next, Repeats-end, repeated_keeps}
-use Rattle.plan_parser.proofs.ReadingLemmas.{terminal_some}
+use Rattle.plan_parser.proofs.Levels.{terminal_some}
 
 -- an item that was read is spelled, and of it this is kept
 pub record ItemSo {X A : Type 0} (Item : X → List Token → List Token → Type 0) (value : X → A) (a : A) (from rest : List Token) : Type 0 where

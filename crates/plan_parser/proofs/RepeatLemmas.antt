@@ -4,7 +4,7 @@ use Rattle.std.proofs.Common.{◌≡◌, refl, sym, ap, ◌∙◌, subst, ℕ, �
 use Rattle.plan_grammar.specs.declared.token.Token.{Token}
 use Rattle.plan_parser.specs.declared.refusal.TextRefusal.{TextRefusal}
 use Rattle.plan_parser.specs.declared.refusal.TextRefusal.TheVariants as refusal
-use Rattle.plan_parser.specs.Reader.{ReadOf, ReaderOf, Reads, and_then, repeat_step, repeated, all_repeated}
+use Rattle.plan_parser.specs.Reader.{ReadOf, ReaderOf, Reads, Makes, and_then, repeat_step, repeated, all_repeated}
 use Rattle.plan_grammar.proofs.TokenLemmas.{both}
 
 -- what was read first, and what then
@@ -116,3 +116,7 @@ pub Reads-fail : {A B C D : Type 0} (e : TextRefusal) (view : A → B) (other_vi
 Reads-fail refusal.Syntax view other_view left other_left one other fails r = fails r
 Reads-fail (refusal.Limit what) view other_view left other_left one other fails r = r
 Reads-fail refusal.Memory view other_view left other_left one other fails r = tt
+
+-- where what was read could not be made into one, no more is known
+pub not_made : {A B C D : Type 0} (e : TextRefusal) (view : A → B) (other_view : C → D) (left : List Token) (made : B) (whole : ReadOf D) → Makes view (Err e) made → Reads other_view (Err e) left whole
+not_made e view other_view left made whole m = Reads-fail e view other_view left left (Some (made, left)) whole (λ none. absurd (cc none)) (m left)

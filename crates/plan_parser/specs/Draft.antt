@@ -1,7 +1,8 @@
 -- What is kept of a part of a plan while it is read: its counts, each up to one above the most, and the part itself where no
 -- count is above. So nothing large is built, and a text of any length is read to its end.
 use Prim.Native.Nat.{suc}
-use Rattle.std.specs.Prelude.{ℕ, ◌+◌, Bool, ◌&&◌, nat_le, nat_lt, if◌then◌else◌, Option, None, Some}
+use Rattle.std.specs.Prelude.{ℕ, ◌+◌, Bool, ◌&&◌, nat_le, nat_lt, if◌then◌else◌, Option, None, Some, Box}
+use Rattle.std.specs.declared.alloc.Global.{Global}
 use Rattle.std.specs.Option.{option_map, option_zip}
 use Rattle.plan_grammar.specs.declared.expr.NamedExpr as code
 use Rattle.plan_grammar.specs.declared.limit.PlanLimit.{PlanLimit}
@@ -63,8 +64,8 @@ abbrev pub PlainDraft : Type 0
 PlainDraft = Draft PlainExpr
 
 -- what a draft of the code says
-abbrev pub seen : Draft code.NamedExpr → PlainDraft
-seen d = mapped expr_of d
+abbrev pub seen : Draft (Box code.NamedExpr Global) → PlainDraft
+seen d = mapped (λ e. expr_of e.value) d
 
 -- an expression's node
 abbrev pub a_node : Counts

@@ -1,5 +1,5 @@
 -- What is kept of columns and of plans while they are read: of each operator, over what is kept of its inputs.
-use Rattle.std.specs.Prelude.{ℕ, List, [], ◌∷◌, ◌++◌, map, Vec}
+use Rattle.std.specs.Prelude.{ℕ, List, [], ◌∷◌, ◌++◌, map, Vec, Box}
 use Rattle.std.specs.List.{sum_by}
 use Rattle.std.specs.declared.alloc.Global.{Global}
 use Rattle.plan_grammar.specs.declared.plan.NamedResult.{NamedResult}
@@ -24,8 +24,8 @@ PlanDraft = Draft PlainTree
 abbrev pub seen_columns : Draft (Vec code_column.NamedColumn Global) → ColumnsDraft
 seen_columns d = mapped (λ columns. map column_of columns.items) d
 
-abbrev pub seen_plan : Draft code.NamedTree → PlanDraft
-seen_plan d = mapped tree_of d
+abbrev pub seen_plan : Draft (Box code.NamedTree Global) → PlanDraft
+seen_plan d = mapped (λ p. tree_of p.value) d
 
 -- what is kept of the columns of a projection
 abbrev pub columns_draft_of : Counts → List PlainColumn → ColumnsDraft

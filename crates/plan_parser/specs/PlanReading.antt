@@ -7,6 +7,8 @@ use Rattle.std.specs.Option.{option_map}
 use Rattle.plan_grammar.specs.declared.token.Token.TheVariants.{Name, Word, Mark}
 use Rattle.plan_grammar.specs.declared.token.Mark.TheVariants as mark
 use Rattle.plan_grammar.specs.declared.token.Word.TheVariants as word
+use Rattle.plan_grammar.specs.declared.plan.AggFunction as agg_function
+use Rattle.plan_grammar.specs.declared.plan.AggFunction.TheVariants as function
 use Rattle.plan_grammar.specs.declared.plan.NamedAgg.{NamedAgg}
 use Rattle.plan_grammar.specs.declared.plan.NamedAgg.TheVariants as agg
 use Rattle.plan_grammar.specs.declared.plan.NamedResult.{NamedResult}
@@ -59,15 +61,15 @@ key_of column rest = Some (record { column = column; down = false }, rest)
 abbrev pub key_at : ReaderOf NamedKey
 key_at ts = and_then (name_at ts) key_of
 
--- the aggregates of a column by their names
-abbrev pub agg_named : List ℕ → Option (List ℕ → NamedAgg)
-agg_named name =
-    if bytes_eq name (codes "sum") then Some agg.Sum else if bytes_eq name (codes "min") then Some agg.Min
-    else if bytes_eq name (codes "max") then Some agg.Max else if bytes_eq name (codes "first") then Some agg.First
-    else if bytes_eq name (codes "last") then Some agg.Last else if bytes_eq name (codes "avg") then Some agg.Avg else None
+-- the functions of a column by their names
+abbrev pub function_named : List ℕ → Option agg_function.AggFunction
+function_named name =
+    if bytes_eq name (codes "sum") then Some function.Sum else if bytes_eq name (codes "min") then Some function.Min
+    else if bytes_eq name (codes "max") then Some function.Max else if bytes_eq name (codes "first") then Some function.First
+    else if bytes_eq name (codes "last") then Some function.Last else if bytes_eq name (codes "avg") then Some function.Avg else None
 
 abbrev pub agg_of : List ℕ → List ℕ → Option NamedAgg
-agg_of name column = option_map (λ make. make column) (agg_named name)
+agg_of name column = option_map (λ f. agg.Of f column) (function_named name)
 
 abbrev pub count_of : List ℕ → Option NamedAgg
 count_of name = if bytes_eq name (codes "count") then Some agg.Count else None

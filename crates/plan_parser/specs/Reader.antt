@@ -55,6 +55,10 @@ Reads view (Err refusal.Syntax) left read = read ≡ None
 Reads view (Err (refusal.Limit what)) left read = ⊥
 Reads view (Err refusal.Memory) left read = Unit {0}
 
+-- the answer is this, whatever stands behind it
+abbrev pub Makes : {A B : Type 0} → (A → B) → Result A TextRefusal → B → Type 0
+Makes view result made = (rest : List Token) → Reads view result rest (Some (made, rest))
+
 -- what is read where it stands, else nothing, and all tokens are left
 abbrev pub ReadsSome : {A : Type 0} → Option A → List Token → List Token → ReadOf A → Type 0
 ReadsSome (Some found) tokens left read = read ≡ Some (found, left)

@@ -1,7 +1,8 @@
 -- How tokens are read as an expression: what is read at their front, and what stands behind it. Expressions within `most` are
 -- kept. The laws that tie it to the grammar are in proofs.
 use Prim.Native.Nat.{zero, suc}
-use Rattle.std.specs.Prelude.{ℕ, true, false, nat_lt, nat_le, nat_eq, if◌then◌else◌, List, [], ◌∷◌, Option, None, Some, pos, neg_ℤ}
+use Rattle.std.specs.Prelude.{ℕ, true, false, nat_lt, nat_le, nat_eq, if◌then◌else◌, List, [], ◌∷◌, Option, None, Some, Box, pos, neg_ℤ}
+use Rattle.std.specs.declared.alloc.Global.{Global}
 use Rattle.scalar_ops.specs.declared.cell.Cell.TheVariants as cell
 use Rattle.scalar_ops.specs.declared.table.Op.{Op}
 use Rattle.scalar_ops.specs.declared.table.Op.TheVariants as op
@@ -11,11 +12,12 @@ use Rattle.plan_grammar.specs.declared.token.Mark as the_mark
 use Rattle.plan_grammar.specs.declared.token.Mark.TheVariants as mark
 use Rattle.plan_grammar.specs.declared.token.Word as the_word
 use Rattle.plan_grammar.specs.declared.token.Word.TheVariants as word
+use Rattle.plan_grammar.specs.declared.operator.Operator.TheVariants as operator
 use Rattle.plan_grammar.specs.declared.operator.Infix.{Infix}
 use Rattle.plan_grammar.specs.declared.operator.Prefix.{Prefix}
 use Rattle.plan_grammar.specs.Token.{greatest_number}
-use Rattle.plan_grammar.specs.PlainNamed.{Column, Literal, Call1, Call2, If}
-use Rattle.plan_grammar.specs.Operators.{Rule, E, ATOM, joined, infix_of, prefix_of}
+use Rattle.plan_grammar.specs.PlainNamed.{Column, Literal, Call1, Binary, If}
+use Rattle.plan_grammar.specs.Operators.{Rule, E, ATOM, infix_of, prefix_of}
 use Rattle.plan_grammar.specs.declared.expr.NamedExpr as code
 use Rattle.plan_parser.specs.declared.counts.Counts.{Counts}
 use Rattle.plan_parser.specs.declared.draft.Draft.{Draft}
@@ -42,7 +44,7 @@ abbrev pub call1_at : Counts → Readers → Op → Reader
 call1_at most inner o ts = and_then (argument inner Close ts) (λ a rest. Some (with1 most (Call1 o) a, rest))
 
 abbrev pub call2_at : Counts → Readers → Op → Reader
-call2_at most inner o ts = and_then (argument inner Comma ts) (λ a next. and_then (argument inner Close next) (λ b rest. Some (with2 most (Call2 o) a b, rest)))
+call2_at most inner o ts = and_then (argument inner Comma ts) (λ a next. and_then (argument inner Close next) (λ b rest. Some (with2 most (Binary (operator.Call o)) a b, rest)))
 
 abbrev pub choice_at : Counts → Readers → Reader
 choice_at most inner ts = and_then (argument inner Comma ts) (λ c next. and_then (argument inner Comma next) (λ a last. and_then (argument inner Close last) (λ b rest. Some (with3 most If c a b, rest))))
@@ -87,7 +89,7 @@ abbrev pub Operand : Type 0
 Operand = PlainDraft × Rule
 
 -- what the code has of it says
-abbrev pub seen_operand : Draft code.NamedExpr × ℕ → Operand
+abbrev pub seen_operand : Draft (Box code.NamedExpr Global) × ℕ → Operand
 seen_operand operand = (seen operand.0, operand.1)
 
 -- what was read by the rule
@@ -121,7 +123,7 @@ operator_at rule (t ∷ ts) = operator_step rule ts (infix_of t)
 
 -- one operand more, to the right of what was read
 abbrev pub joined_onto : Counts → Readers → Infix → PlainDraft → Reader
-joined_onto most operands o left ts = and_then (operands o.right ts) (λ b rest. Some (with2 most (joined o.operator) left b, rest))
+joined_onto most operands o left ts = and_then (operands o.right ts) (λ b rest. Some (with2 most (Binary o.operator) left b, rest))
 
 -- where the operator may have before it what was read
 abbrev pub operand_onto : Counts → Readers → Infix → Operand → ReaderOf Operand

@@ -1,10 +1,11 @@
 //! What is kept of a part of a plan while it is read, and of an expression.
 ghost use Rattle.std.specs.Prelude.{◌≡◌, IfOk};
-ghost use Rattle.plan_grammar.specs.Operators.{joined};
-ghost use Rattle.plan_grammar.specs.PlainNamed.{expr_of, Call1, If};
+ghost use Rattle.plan_grammar.specs.PlainNamed.{expr_of, Call1, Binary, If};
 ghost use Rattle.plan_parser.specs.Draft.{limits, kept, counted, paired, seen, kept_one, with1, with2, with3};
+ghost use Rattle.plan_parser.specs.Reader.{Makes};
 
 use crate::counts::{Counts, EXPR};
+use crate::refusal::TextRefusal;
 use plan_grammar::{NamedExpr, Operator};
 use rows_core::Memory;
 use scalar_ops::Op;
@@ -19,7 +20,7 @@ pub struct Draft<T> {
 }
 
 /// What is kept of an expression.
-pub type ExprDraft = Draft<NamedExpr>;
+pub type ExprDraft = Draft<Box<NamedExpr>>;
 
 impl<T: Drop> Draft<T> {
     /// The part where its counts are within the limits.
@@ -55,26 +56,37 @@ impl<T: Drop> Draft<T> {
     }
 }
 
-/// An expression of one node.
-pub fn one(expr: NamedExpr) -> ExprDraft
-    ensures { seen result ≡ kept_one limits (expr_of expr) }
+/// The value in a box.
+pub fn boxed<T: Drop>(alloc: Global, value: T) -> Result<Box<T>, Memory>
+    ensures { IfOk result (λ b. b.value ≡ value) }
 {
-    Draft {
-        part: Some(expr),
-        counts: EXPR,
-    }
+    Ok(Box::new(alloc, value)?)
+}
+
+/// An expression of one node.
+pub fn one_node(alloc: Global, expr: NamedExpr) -> Result<ExprDraft, Memory>
+    ensures { IfOk result (λ draft. seen draft ≡ kept_one limits (expr_of expr)) }
+{
+    let part = Some(boxed(alloc, expr)?);
+    Ok(Draft { part, counts: EXPR })
+}
+
+/// An expression of one node, which is all that is read.
+pub fn one(alloc: Global, expr: NamedExpr) -> Result<ExprDraft, TextRefusal>
+    ensures { Makes seen result (kept_one limits (expr_of expr)) }
+{
+    Ok(one_node(alloc, expr)?)
 }
 
 /// The operation on the argument.
-pub fn call1(alloc: Global, op: Op, arg: ExprDraft) -> Result<ExprDraft, Memory>
-    ensures { IfOk result (λ draft. seen draft ≡ with1 limits (Call1 op) (seen arg)) }
+pub fn call1(alloc: Global, op: Op, arg: ExprDraft) -> Result<ExprDraft, TextRefusal>
+    ensures { Makes seen result (with1 limits (Call1 op) (seen arg)) }
 {
     let Draft { part, counts } = arg.counting(EXPR);
     let Some(arg) = part else {
         return Ok(Draft { part: None, counts });
     };
-    let arg = Box::new(alloc, arg)?;
-    let part = Some(NamedExpr::Call1 { op, arg });
+    let part = Some(boxed(alloc, NamedExpr::Call1 { op, arg })?);
     Ok(Draft { part, counts })
 }
 
@@ -84,32 +96,22 @@ pub fn join(
     operator: Operator,
     left: ExprDraft,
     right: ExprDraft,
-) -> Result<ExprDraft, Memory>
-    ensures { IfOk result (λ draft. seen draft ≡ with2 limits (joined operator) (seen left) (seen right)) }
+) -> Result<ExprDraft, TextRefusal>
+    ensures { Makes seen result (with2 limits (Binary operator) (seen left) (seen right)) }
 {
     let Draft { part, counts } = left.with(right).counting(EXPR);
     let Some((left, right)) = part else {
         return Ok(Draft { part: None, counts });
     };
-    let part = Some(join_exprs(alloc, operator, left, right)?);
+    let part = Some(boxed(
+        alloc,
+        NamedExpr::Binary {
+            operator,
+            left,
+            right,
+        },
+    )?);
     Ok(Draft { part, counts })
-}
-
-fn join_exprs(
-    alloc: Global,
-    operator: Operator,
-    left: NamedExpr,
-    right: NamedExpr,
-) -> Result<NamedExpr, Memory>
-    ensures { IfOk result (λ expr. expr_of expr ≡ joined operator (expr_of left) (expr_of right)) }
-{
-    let left = Box::new(alloc, left)?;
-    let right = Box::new(alloc, right)?;
-    Ok(match operator {
-        Operator::Call(op) => NamedExpr::Call2 { op, left, right },
-        Operator::And => NamedExpr::And(left, right),
-        Operator::Or => NamedExpr::Or(left, right),
-    })
 }
 
 /// The choice by the test.
@@ -118,27 +120,13 @@ pub fn choice(
     test: ExprDraft,
     first: ExprDraft,
     last: ExprDraft,
-) -> Result<ExprDraft, Memory>
-    ensures { IfOk result (λ draft. seen draft ≡ with3 limits If (seen test) (seen first) (seen last)) }
+) -> Result<ExprDraft, TextRefusal>
+    ensures { Makes seen result (with3 limits If (seen test) (seen first) (seen last)) }
 {
     let Draft { part, counts } = test.with(first.with(last)).counting(EXPR);
     let Some((test, (first, last))) = part else {
         return Ok(Draft { part: None, counts });
     };
-    let part = Some(choose_exprs(alloc, test, first, last)?);
+    let part = Some(boxed(alloc, NamedExpr::If(test, first, last))?);
     Ok(Draft { part, counts })
-}
-
-fn choose_exprs(
-    alloc: Global,
-    test: NamedExpr,
-    first: NamedExpr,
-    last: NamedExpr,
-) -> Result<NamedExpr, Memory>
-    ensures { IfOk result (λ expr. expr_of expr ≡ If (expr_of test) (expr_of first) (expr_of last)) }
-{
-    let test = Box::new(alloc, test)?;
-    let first = Box::new(alloc, first)?;
-    let last = Box::new(alloc, last)?;
-    Ok(NamedExpr::If(test, first, last))
 }

@@ -2,19 +2,39 @@
 //! its rule may stand. Within a construct one level less may be open, and an operator's right operand is of a
 //! tighter rule, so no call goes deeper than the levels and the rules; what isn't counted is read in a loop.
 ghost use Rattle.std.specs.Prelude.{◌≡◌, ◌≤◌, ◌<◌, ◌∷◌, List, length, IfOk, IfSome};
-ghost use Rattle.plan_parser.specs.Draft.{limits, seen};
-ghost use Rattle.plan_parser.specs.Reader.{Reads, ReadsSome};
+ghost use Rattle.scalar_ops.specs.declared.cell.Cell.TheVariants as cell;
+ghost use Rattle.plan_grammar.specs.PlainNamed.{Column, Literal};
+ghost use Rattle.plan_parser.specs.Draft.{limits, seen, kept_one};
+ghost use Rattle.plan_parser.specs.Reader.{Reads, Makes, ReadsSome};
 ghost use Rattle.plan_parser.specs.Reading.{seen_operand, number_atom, minus_atom, inner, argument};
 ghost use Rattle.plan_parser.specs.Reading.{call1_at, call2_at, choice_at, function_at};
 ghost use Rattle.plan_parser.specs.Reading.{word_atom, mark_atom, atom_at, prefixed_at, first_at};
 ghost use Rattle.plan_parser.specs.Reading.{operator_at, operand_onto, operands_at, below};
 ghost use Rattle.plan_parser.specs.Reading.{rule_at, expr_at};
 
-use crate::draft::{ExprDraft, call1, choice, join, one};
+use crate::draft::{ExprDraft, call1, choice, join, one, one_node};
 use crate::parser::{Parser, Terminal};
 use crate::refusal::TextRefusal;
 use plan_grammar::{ATOM, EXPRESSION, Infix, Mark, NamedExpr, Operator, Prefix, Token, Word};
+use rows_core::{Name, Txt};
 use scalar_ops::{Cell, Op};
+use std::alloc::Global;
+
+/// The column with a copy of this name.
+fn column(alloc: Global, name: &Name) -> Result<ExprDraft, TextRefusal>
+    ensures { Makes seen result (kept_one limits (Column name.now)) }
+{
+    let name = name.try_copy(alloc)?;
+    one(alloc, NamedExpr::Column(name))
+}
+
+/// A copy of this text.
+fn text_literal(alloc: Global, text: &Txt) -> Result<ExprDraft, TextRefusal>
+    ensures { Makes seen result (kept_one limits (Literal (cell.Text text.now))) }
+{
+    let text = text.try_copy(alloc)?;
+    one(alloc, NamedExpr::Literal(Cell::Text(text)))
+}
 
 impl Parser<'_> {
     /// The operator of the rule, or of a tighter one, that may stand here.
@@ -35,11 +55,11 @@ impl Parser<'_> {
     }
 
     /// A number of i64 without a sign.
-    fn number(number: u64) -> Result<ExprDraft, TextRefusal>
+    fn number(alloc: Global, number: u64) -> Result<ExprDraft, TextRefusal>
         ensures { (rest : List Token) → Reads seen result rest (number_atom limits number rest) }
     {
         match i64::try_from(number) {
-            Ok(number) => Ok(one(NamedExpr::Literal(Cell::Int(number)))),
+            Ok(number) => Ok(one_node(alloc, NamedExpr::Literal(Cell::Int(number)))?),
             Err(_) => Err(TextRefusal::Syntax),
         }
     }
@@ -53,7 +73,7 @@ impl Parser<'_> {
         };
         self.rest = rest;
         match 0_i64.checked_sub_unsigned(*number) {
-            Some(number) => Ok(one(NamedExpr::Literal(Cell::Int(number)))),
+            Some(number) => { Ok(one_node(self.alloc, NamedExpr::Literal(Cell::Int(number)))?) }
             None => Err(TextRefusal::Syntax),
         }
     }
@@ -71,7 +91,7 @@ impl Parser<'_> {
 
     /// What the rule reads within a construct.
     #[cycle(expression)]
-    #[tactic(auto, using(crate::proofs::ReadingLemmas::inner_rule))]
+    #[tactic(auto, using(crate::proofs::Levels::inner_rule))]
     fn within(&mut self, rule: u8, levels: u32) -> Result<ExprDraft, TextRefusal>
         ensures { Reads seen result self.new.rest.now (inner limits levels rule self.old.rest.now) }
     {
@@ -87,7 +107,7 @@ impl Parser<'_> {
             (call1_at limits (inner limits levels) op self.old.rest.now) }
     {
         let arg = self.argument(levels, Terminal::Close)?;
-        Ok(call1(self.alloc, op, arg)?)
+        call1(self.alloc, op, arg)
     }
 
     #[cycle(expression)]
@@ -97,7 +117,7 @@ impl Parser<'_> {
     {
         let left = self.argument(levels, Terminal::Comma)?;
         let right = self.argument(levels, Terminal::Close)?;
-        Ok(join(self.alloc, Operator::Call(op), left, right)?)
+        join(self.alloc, Operator::Call(op), left, right)
     }
 
     #[cycle(expression)]
@@ -108,7 +128,7 @@ impl Parser<'_> {
         let test = self.argument(levels, Terminal::Comma)?;
         let first = self.argument(levels, Terminal::Comma)?;
         let last = self.argument(levels, Terminal::Close)?;
-        Ok(choice(self.alloc, test, first, last)?)
+        choice(self.alloc, test, first, last)
     }
 
     /// What stands in the parentheses of this word's function.
@@ -135,8 +155,8 @@ impl Parser<'_> {
             (word_atom limits (inner limits levels) word self.old.rest.now) }
     {
         match word {
-            Word::True => Ok(one(NamedExpr::Literal(Cell::Bool(true)))),
-            Word::False => Ok(one(NamedExpr::Literal(Cell::Bool(false)))),
+            Word::True => one(self.alloc, NamedExpr::Literal(Cell::Bool(true))),
+            Word::False => one(self.alloc, NamedExpr::Literal(Cell::Bool(false))),
             _ => {
                 self.need(Terminal::Open)?;
                 self.function(levels, word)
@@ -164,11 +184,9 @@ impl Parser<'_> {
             (atom_at limits (inner limits levels) first.now self.old.rest.now) }
     {
         match first {
-            Token::Name(name) => Ok(one(NamedExpr::Column(name.try_copy(self.alloc)?))),
-            Token::Text(text) => Ok(one(NamedExpr::Literal(Cell::Text(text.try_copy(
-                self.alloc,
-            )?)))),
-            Token::Number(number) => Self::number(*number),
+            Token::Name(name) => column(self.alloc, name),
+            Token::Text(text) => text_literal(self.alloc, text),
+            Token::Number(number) => Self::number(self.alloc, *number),
             Token::Word(word) => self.word_atom(levels, *word),
             Token::Mark(mark) => self.mark_atom(levels, *mark),
         }
@@ -237,7 +255,7 @@ impl Parser<'_> {
 
     /// One operand more, to the right of what was read.
     #[cycle(expression)]
-    #[tactic(auto, using(crate::proofs::ReadingLemmas::below_is))]
+    #[tactic(auto, using(crate::proofs::Levels::below_is))]
     fn operand_onto(
         &mut self,
         rule: u8,

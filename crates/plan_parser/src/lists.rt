@@ -4,13 +4,13 @@ ghost use Rattle.plan_parser.specs.Draft.{limits};
 ghost use Rattle.plan_parser.specs.PlanDraft.{seen_columns, with_column};
 ghost use Rattle.plan_parser.specs.Reader.{ReaderOf, Reads};
 ghost use Rattle.plan_parser.specs.PlanReading.{items_of, item_onto, list_at, at_end, name_at, column_at};
-ghost use Rattle.plan_parser.specs.PlanReading.{columns_at, pair_at, key_of, key_at, agg_of, count_of};
-ghost use Rattle.plan_parser.specs.PlanReading.{closed_at, argument_at, agg_at, result_at};
+ghost use Rattle.plan_parser.specs.PlanReading.{columns_at, pair_at, key_of, key_at, function_named, agg_of};
+ghost use Rattle.plan_parser.specs.PlanReading.{count_of, closed_at, argument_at, agg_at, result_at};
 
 use crate::parser::{Parser, Terminal};
 use crate::plan_draft::{ColumnsDraft, no_columns, pushed, with_column};
 use crate::refusal::TextRefusal;
-use plan_grammar::{NamedAgg, NamedKey, NamedPair, NamedResult, Token, Word};
+use plan_grammar::{AggFunction, NamedAgg, NamedKey, NamedPair, NamedResult, Token, Word};
 use rows_core::Name;
 
 /// An item of a list in a plan.
@@ -60,24 +60,34 @@ impl Item for NamedResult {
     }
 }
 
+/// The function of this name.
+fn function_named(name: &[u8]) -> Option<AggFunction>
+    ensures { result ≡ function_named name.now }
+{
+    if name == b"sum".as_slice() {
+        Some(AggFunction::Sum)
+    } else if name == b"min".as_slice() {
+        Some(AggFunction::Min)
+    } else if name == b"max".as_slice() {
+        Some(AggFunction::Max)
+    } else if name == b"first".as_slice() {
+        Some(AggFunction::First)
+    } else if name == b"last".as_slice() {
+        Some(AggFunction::Last)
+    } else if name == b"avg".as_slice() {
+        Some(AggFunction::Avg)
+    } else {
+        None
+    }
+}
+
 /// The aggregate of this name of the column.
 fn agg_of(name: &[u8], column: Name) -> Option<NamedAgg>
     ensures { result ≡ agg_of name.now column }
 {
-    if name == b"sum".as_slice() {
-        Some(NamedAgg::Sum(column))
-    } else if name == b"min".as_slice() {
-        Some(NamedAgg::Min(column))
-    } else if name == b"max".as_slice() {
-        Some(NamedAgg::Max(column))
-    } else if name == b"first".as_slice() {
-        Some(NamedAgg::First(column))
-    } else if name == b"last".as_slice() {
-        Some(NamedAgg::Last(column))
-    } else if name == b"avg".as_slice() {
-        Some(NamedAgg::Avg(column))
-    } else {
-        None
+    match function_named(name) {
+        Some(function) => Some(NamedAgg::Of(function, column)),
+        None => None,
     }
 }
 
@@ -129,7 +139,7 @@ impl Parser<'_> {
     {
         let name = self.named()?;
         let expr = self.expr(levels)?;
-        Ok(with_column(columns, name, expr)?)
+        with_column(columns, name, expr)
     }
 
     /// The columns of a projection.
@@ -163,7 +173,7 @@ impl Parser<'_> {
     }
 
     /// An aggregate. Its parentheses are a level.
-    #[tactic(auto, using(crate::proofs::StageLemmas::agg_with_levels))]
+    #[tactic(auto, using(crate::proofs::Levels::agg_with_levels))]
     fn agg(&mut self, levels: u32) -> Result<NamedAgg, TextRefusal>
         ensures { Reads (λ agg. agg) result self.new.rest.now (agg_at levels self.old.rest.now) }
     {

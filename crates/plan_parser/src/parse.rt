@@ -84,7 +84,7 @@ fn whole_expr(alloc: Global, tokens: &[Token]) -> Result<NamedExpr, TextRefusal>
         return Err(TextRefusal::Syntax);
     }
     match draft.part {
-        Some(part) => Ok(part),
+        Some(part) => Ok(Box::into_inner(part)),
         None => Err(TextRefusal::Limit {
             what: draft.counts.first_above(),
         }),
@@ -101,7 +101,7 @@ fn whole_plan(alloc: Global, tokens: &[Token]) -> Result<NamedTree, TextRefusal>
         return Err(TextRefusal::Syntax);
     }
     match draft.part {
-        Some(part) => Ok(part),
+        Some(part) => Ok(Box::into_inner(part)),
         None => Err(TextRefusal::Limit {
             what: draft.counts.first_above(),
         }),

@@ -23,7 +23,8 @@ impl Parser<'_> {
         match self.rest {
             [Token::Word(Word::From), rest @ ..] => {
                 self.rest = rest;
-                Ok(stream(self.name()?))
+                let name = self.name()?;
+                stream(self.alloc, name)
             }
             _ => Err(TextRefusal::Syntax),
         }
@@ -35,7 +36,7 @@ impl Parser<'_> {
             (where_at limits levels (seen_plan plan) self.old.rest.now) }
     {
         let test = self.expr(levels)?;
-        Ok(filtered(self.alloc, plan, test)?)
+        filtered(self.alloc, plan, test)
     }
 
     /// Columns, behind `select`.
@@ -44,7 +45,7 @@ impl Parser<'_> {
             (select_at limits levels (seen_plan plan) self.old.rest.now) }
     {
         let columns = self.columns(levels)?;
-        Ok(projected(self.alloc, plan, columns)?)
+        projected(self.alloc, plan, columns)
     }
 
     /// Keys and aggregates, behind `group`.
@@ -55,7 +56,7 @@ impl Parser<'_> {
         let keys = self.list(levels)?;
         self.need(Terminal::With)?;
         let results = self.list(levels)?;
-        Ok(grouped(self.alloc, plan, keys, results)?)
+        grouped(self.alloc, plan, keys, results)
     }
 
     /// Keys, behind `order`.
@@ -64,12 +65,12 @@ impl Parser<'_> {
             (order_at limits (seen_plan plan) self.old.rest.now) }
     {
         let keys = self.list(levels)?;
-        Ok(ordered(self.alloc, plan, keys)?)
+        ordered(self.alloc, plan, keys)
     }
 
     /// A plan within parentheses.
     #[cycle(plan)]
-    #[tactic(auto, using(crate::proofs::StageLemmas::inner_plan_with_levels))]
+    #[tactic(auto, using(crate::proofs::Levels::inner_plan_with_levels))]
     fn plan_within(&mut self, levels: u32) -> Result<PlanDraft, TextRefusal>
         ensures { Reads seen_plan result self.new.rest.now (inner_plan limits levels self.old.rest.now) }
     {
@@ -100,7 +101,7 @@ impl Parser<'_> {
         let right = self.inner_plan(levels)?;
         self.need(Terminal::On)?;
         let pairs = self.list(levels)?;
-        Ok(joined(self.alloc, plan, right, pairs)?)
+        joined(self.alloc, plan, right, pairs)
     }
 
     /// The other plan, behind `concat`.
@@ -110,7 +111,7 @@ impl Parser<'_> {
             (concat_at limits (inner_plan limits levels) (seen_plan plan) self.old.rest.now) }
     {
         let right = self.inner_plan(levels)?;
-        Ok(concatenated(self.alloc, plan, right)?)
+        concatenated(self.alloc, plan, right)
     }
 
     /// The stage that this word begins.
@@ -128,7 +129,7 @@ impl Parser<'_> {
         match word {
             Word::Where => self.where_stage(levels, plan),
             Word::Select => self.select_stage(levels, plan),
-            Word::Distinct => Ok(distinct(self.alloc, plan)?),
+            Word::Distinct => distinct(self.alloc, plan),
             Word::Group => self.group_stage(levels, plan),
             Word::Join => self.join_stage(levels, plan),
             Word::Concat => self.concat_stage(levels, plan),

@@ -87,17 +87,9 @@ unfolding word_with
 reserved_token word.And = refl
 reserved_token _ = refl
 
-reserved_bytes : (w : the_word.Word) → list_all is_name_byte (word_bytes w) ≡ true
-reserved_bytes word.And = refl
-reserved_bytes _ = refl
-
-reserved_some : (w : the_word.Word) → 0 < length (word_bytes w)
-reserved_some word.And = omega arith
-reserved_some _ = omega arith
-
-reserved_letter : (w : the_word.Word) → begins_with_letter (word_bytes w) ≡ true
-reserved_letter word.And = refl
-reserved_letter _ = refl
+reserved : (w : the_word.Word) → (0 < length (word_bytes w)) × (list_all is_name_byte (word_bytes w) ≡ true) × (begins_with_letter (word_bytes w) ≡ true)
+reserved word.And = (omega arith, refl, refl)
+reserved _ = (omega arith, refl, refl)
 
 -- a name as it comes from a text
 abbrev pub GoodName : List ℕ → Type 0
@@ -134,7 +126,7 @@ no_letter x c xs cs letter digit = by (nat_eq x c) refl
 
 no_word : (c : ℕ) (cs : List ℕ) → c ≤ 57 → (ws : List the_word.Word) → find (λ w. bytes_eq (word_bytes w) (c ∷ cs)) ws ≡ None
 no_word c cs digit [] = refl
-no_word c cs digit (w ∷ ws) = ap (λ b. cond b (Some w) (find (λ w. bytes_eq (word_bytes w) (c ∷ cs)) ws)) (differs (word_bytes w) (reserved_letter w)) ∙ no_word c cs digit ws
+no_word c cs digit (w ∷ ws) = ap (λ b. cond b (Some w) (find (λ w. bytes_eq (word_bytes w) (c ∷ cs)) ws)) (differs (word_bytes w) (reserved w).2) ∙ no_word c cs digit ws
   where
     differs : (bytes : List ℕ) → begins_with_letter bytes ≡ true → bytes_eq bytes (c ∷ cs) ≡ false
     differs [] e = absurd (cc e)
@@ -266,7 +258,7 @@ IsGood (Mark mark) = is_sign mark ≡ false
 
 pub token_read : (t : Token) → IsGood t → (rest : List ℕ) → Ends rest → AtFront (spelling t) t rest
 token_read (Name name) good rest e = let b = name_bytes name good.0 in word_read name (Name name) rest b.0 b.1 (name_token name good) e
-token_read (Word w) good rest e = word_read (word_bytes w) (Word w) rest (reserved_some w) (reserved_bytes w) (reserved_token w) e
+token_read (Word w) good rest e = word_read (word_bytes w) (Word w) rest (reserved w).0 (reserved w).1 (reserved_token w) e
 token_read (Number n) good rest e =
     let small : n < 2 ^ 64 = omega (arith, good) in
     word_read (decimal n) (Number n) rest (decimal_nonempty n small) (digit_bytes (decimal n) (decimal_is_IsNumeral n small).0.1) (number_token n good) e

@@ -14,15 +14,15 @@ use Rattle.plan_grammar.specs.declared.token.Word as the_word
 use Rattle.plan_grammar.specs.declared.token.Word.TheVariants as word
 use Rattle.plan_grammar.specs.declared.plan.NamedAgg.{NamedAgg}
 use Rattle.plan_grammar.specs.declared.plan.NamedAgg.TheVariants as agg
-use Rattle.plan_grammar.specs.PlainNamed.{PlainExpr, Literal, Call1, Call2, If, PlainTree, Where, Select, Distinct, Group, Join, Concat, Order}
+use Rattle.plan_grammar.specs.PlainNamed.{PlainExpr, Literal, Call1, Binary, If, PlainTree, Where, Select, Distinct, Group, Join, Concat, Order}
 use Rattle.plan_grammar.specs.Grammar as g
 use Rattle.plan_grammar.specs.declared.operator.Operator.{Operator}
 use Rattle.plan_grammar.specs.declared.operator.Operator.TheVariants as operator
 use Rattle.plan_grammar.specs.declared.operator.Infix.{Infix}
 use Rattle.plan_grammar.specs.declared.operator.Prefix.{Prefix}
-use Rattle.plan_grammar.specs.Operators.{Rule, ATOM, UN, NOT, E, joined, comparing, summing, multiplying, conjunction, disjunction, mark_infix, infix_of, prefix_of, call1_op, call2_op}
+use Rattle.plan_grammar.specs.Operators.{Rule, ATOM, UN, NOT, E, comparing, summing, multiplying, conjunction, disjunction, mark_infix, infix_of, prefix_of, call1_op, call2_op}
 use Rattle.plan_grammar.specs.Grammar.{Spells, Listed, SpellsName, SpellsColumn, SpellsPair, SpellsKey, SpellsResult, SpellsPlan, agg_word}
-use Rattle.plan_printer.specs.Canonical.{Piece, Space, One, tokens_of, Form, Between, Function, form_of, call_form, form_rule, call1_rule, rule_of, in_parens, behind_comma, between, binary, bare, canonical_expr, listed, name_piece, named, column_pieces, pair_pieces, key_pieces, argument_pieces, result_pieces, stage, canonical}
+use Rattle.plan_printer.specs.Canonical.{Piece, Space, One, tokens_of, Form, Between, Function, form_of, call_form, form_rule, call1_rule, rule_of, in_parens, behind_comma, between, formed, bare, canonical_expr, listed, name_piece, named, column_pieces, pair_pieces, key_pieces, argument_pieces, result_pieces, stage, canonical}
 
 -- the tokens of the pieces, and then the rest
 abbrev pub onto : List Piece → List Token → List Token
@@ -64,14 +64,14 @@ call1_loosest op.Not = omega arith
 call1_loosest op.Neg = omega arith
 call1_loosest _ = omega arith
 
-form_loosest : (o : Op) → form_rule (form_of (operator.Call o)) ≤ E
+form_loosest : (o : Operator) → form_rule (form_of o) ≤ E
 unfolding call_form
-form_loosest op.Eq = omega arith
+form_loosest (operator.Call op.Eq) = omega arith
 form_loosest _ = omega arith
 
 loosest : (e : PlainExpr) → rule_of e ≤ E
 loosest (Call1 o a) = call1_loosest o
-loosest (Call2 o a b) = form_loosest o
+loosest (Binary o a b) = form_loosest o
 loosest _ = omega arith
 
 -- n levels are enough for the canonical text of the expression as the rule spells it
@@ -161,29 +161,10 @@ call2_form word.Least o e = let same : op.Least ≡ o = cc in ap (λ o. form_of 
 call2_form word.Most o e = let same : op.Most ≡ o = cc in ap (λ o. form_of (operator.Call o)) (sym same)
 call2_form _ o e = absurd (cc)
 
-module _ (j : Operator) (a b : PlainExpr) where
-  pub rule_of-joined : rule_of (joined j a b) ≡ form_rule (form_of j)
-  rule_of-joined = by j
-    where
-      by : (j : Operator) → rule_of (joined j a b) ≡ form_rule (form_of j)
-      by (operator.Call o) = refl
-      by operator.And = refl
-      by operator.Or = refl
-
-  pub bare-joined : bare (joined j a b) ≡ binary (form_of j) (λ rule. canonical_expr rule a) (λ rule. canonical_expr rule b)
-  bare-joined = by j
-    where
-      by : (j : Operator) → bare (joined j a b) ≡ binary (form_of j) (λ rule. canonical_expr rule a) (λ rule. canonical_expr rule b)
-      by (operator.Call o) = refl
-      by operator.And = refl
-      by operator.Or = refl
-
-  module _ (rule : Rule) (n : ℕ) (f : Form) (is : form_of j ≡ f) where
-    of_form : form_rule f ≤ rule → SpelledBy (form_rule f) n (joined j a b) (binary f (λ r. canonical_expr r a) (λ r. canonical_expr r b)) → Enough rule n (joined j a b)
-    of_form h s =
-        let of = rule_of-joined ∙ ap form_rule is in
-        let pieces = bare-joined ∙ ap (λ f. binary f (λ rule. canonical_expr rule a) (λ rule. canonical_expr rule b)) is in
-        is_bare (omega (arith, h, of)) (λ rest. subst (λ r. Spells r n (joined j a b) (onto (bare (joined j a b)) rest) rest) (sym of) (subst (λ ps. Spells (form_rule f) n (joined j a b) (onto ps rest) rest) (sym pieces) (s rest)))
+-- an operator by its form
+of_form : (o : Operator) (a b : PlainExpr) (rule : Rule) (n : ℕ) (f : Form) → form_of o ≡ f → form_rule f ≤ rule → SpelledBy (form_rule f) n (Binary o a b) (formed f (λ r. canonical_expr r a) (λ r. canonical_expr r b)) → Enough rule n (Binary o a b)
+of_form o a b rule n f is h s =
+    subst (λ f. form_rule f ≤ rule → SpelledBy (form_rule f) n (Binary o a b) (formed f (λ r. canonical_expr r a) (λ r. canonical_expr r b)) → Enough rule n (Binary o a b)) is (λ h s. is_bare h s) h s
 
 abbrev PrefixEnough : ℕ → PlainExpr → Prefix → Type 0
 PrefixEnough n a p = Enough p.rule n a → Enough p.rule (suc n) (Call1 p.op a)
@@ -220,7 +201,7 @@ enough (g.looser {r = r} {s = s} {n = n} {e = e} h x) = looser_enough s r n e h 
 enough (g.operation {n = n} {a = a} {b = b} t {o = o} e s u) =
     let found = operator_found t o e in
     of_form o.operator a b o.rule n (Between found.0 o) found.2 (omega arith)
-    (spelled_between o.rule o.left o.right n (joined o.operator a b) a b found.0 (λ from mid rest s u. g.operation found.0 found.1 s u) (canonical_expr o.left a) (canonical_expr o.right b) (enough_spelled o.left n a (enough s)) (enough_spelled o.right n b (enough u)))
+    (spelled_between o.rule o.left o.right n (Binary o.operator a b) a b found.0 (λ from mid rest s u. g.operation found.0 found.1 s u) (canonical_expr o.left a) (canonical_expr o.right b) (enough_spelled o.left n a (enough s)) (enough_spelled o.right n b (enough u)))
 enough (g.prefixed {n = n} {a = a} t {p = p} e s) = prefix_enough n t p a e (enough s)
 enough (g.an_int fits) = is_bare (omega arith) (λ rest. g.an_int fits)
 enough (g.a_minus_int {n = n} {number = number} {z = z} e fits) = minus_int_enough n number z e fits
@@ -231,7 +212,7 @@ enough (g.in_parens {n = n} {e = e} s) = in_parens_enough n e (enough s)
 enough (g.call1 {n = n} {a = a} w {o = o} e s) = call1_enough n w o a e (enough s)
 enough (g.call2 {n = n} {a = a} {b = b} w {o = o} e s t) =
     of_form (operator.Call o) a b ATOM (suc n) (Function w) (call2_form w o e) (omega arith) (λ rest.
-    subst (λ ts. Spells ATOM (suc n) (Call2 o a b) (Word w ∷ Mark mark.Open ∷ ts) rest) (sym (two_argument_tokens (canonical_expr E a) (canonical_expr E b) rest))
+    subst (λ ts. Spells ATOM (suc n) (Binary (operator.Call o) a b) (Word w ∷ Mark mark.Open ∷ ts) rest) (sym (two_argument_tokens (canonical_expr E a) (canonical_expr E b) rest))
     (g.call2 w e (enough_spelled E n a (enough s) _) (enough_spelled E n b (enough t) (Mark mark.Close ∷ rest))))
 enough (g.choice {n = n} {c = c} {a = a} {b = b} s t u) =
     is_bare (omega arith) (λ rest.
@@ -277,12 +258,7 @@ result_respelled n result from before rest s = (s.0, by result.agg)
   where
     by : (a : NamedAgg) → onto (named result.name (One (Name (agg_word a)) ∷ in_parens (argument_pieces a))) rest ≡ Name result.name ∷ Mark mark.Equal ∷ Name (agg_word a) ∷ Mark mark.Open ∷ (g.agg_argument a ++ Mark mark.Close ∷ rest)
     by agg.Count = refl
-    by (agg.Sum column) = refl
-    by (agg.Min column) = refl
-    by (agg.Max column) = refl
-    by (agg.First column) = refl
-    by (agg.Last column) = refl
-    by (agg.Avg column) = refl
+    by (agg.Of f column) = refl
 
 -- the tokens of a stage, behind a plan
 stage_tokens : (plan : List Piece) (w : the_word.Word) (pieces : List Piece) (rest : List Token) → onto (stage plan w pieces) rest ≡ onto plan (Mark mark.Bar ∷ Word w ∷ onto pieces rest)

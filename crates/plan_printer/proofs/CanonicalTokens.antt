@@ -16,6 +16,8 @@ use Rattle.plan_grammar.specs.declared.token.Mark as the_mark
 use Rattle.plan_grammar.specs.declared.token.Mark.TheVariants as mark
 use Rattle.plan_grammar.specs.declared.token.Word as the_word
 use Rattle.plan_grammar.specs.declared.token.Word.TheVariants as word
+use Rattle.plan_grammar.specs.declared.plan.AggFunction as agg_function
+use Rattle.plan_grammar.specs.declared.plan.AggFunction.TheVariants as column_function
 use Rattle.plan_grammar.specs.declared.plan.NamedAgg.{NamedAgg}
 use Rattle.plan_grammar.specs.declared.plan.NamedAgg.TheVariants as agg
 use Rattle.plan_grammar.specs.Token.{word_with, greatest_number, name_or_number, number_with, word_or, word_token, before, word_len, word_at, mark_at, text_behind, text_at, mark_token, token_at, IsToken, trimmed, AreTokens}
@@ -24,10 +26,10 @@ use Rattle.plan_grammar.specs.Grammar as g
 use Rattle.plan_grammar.specs.declared.operator.Operator as the_operator
 use Rattle.plan_grammar.specs.declared.operator.Operator.TheVariants as operator
 use Rattle.plan_grammar.specs.Operators.{Rule, UN, NOT, E}
-use Rattle.plan_grammar.specs.Grammar.{Spells, Listed, SpellsName, SpellsColumn, SpellsPair, SpellsKey, SpellsResult, SpellsPlan, agg_word}
+use Rattle.plan_grammar.specs.Grammar.{Spells, Listed, SpellsName, SpellsColumn, SpellsPair, SpellsKey, SpellsResult, SpellsPlan, function_word, agg_word}
 use Rattle.plan_grammar.specs.Spelled.{SpellsExpr, SpellsText}
-use Rattle.plan_printer.specs.Canonical.{Piece, Space, One, spelling, text_of, piece_bytes, Form, Between, Function, NoForm, form_of, call_form, rule_of, in_parens, within, behind_comma, literal, between, function, call1, binary, bare, canonical_expr, listed, name_piece, named, column_pieces, pair_pieces, key_pieces, argument_pieces, result_pieces, stage, canonical, canonical_text}
-use Rattle.plan_printer.proofs.CanonicalSpelled.{onto, onto-append, bare-joined, expr_respelled, plan_respelled}
+use Rattle.plan_printer.specs.Canonical.{Piece, Space, One, spelling, text_of, piece_bytes, Form, Between, Function, NoForm, form_of, call_form, rule_of, in_parens, within, behind_comma, literal, between, function, call1, formed, bare, canonical_expr, listed, name_piece, named, column_pieces, pair_pieces, key_pieces, argument_pieces, result_pieces, stage, canonical, canonical_text}
+use Rattle.plan_printer.proofs.CanonicalSpelled.{onto, onto-append, expr_respelled, plan_respelled}
 use Rattle.plan_printer.proofs.CanonicalRead.{Ends, GoodName, IsGood, is_good_token, is_sign, token_read, sign_read, decimal_digit_first}
 use Rattle.plan_grammar.proofs.TokenLemmas.{both}
 
@@ -138,12 +140,12 @@ unfolding call_form
 none_apart (operator.Call op.Eq) = refl
 none_apart _ = refl
 
-reads_binary : (f : Form) (a b : Rule → List Piece) → is_apart f ≡ false → ((rule : Rule) → Reads (a rule)) → ((rule : Rule) → Reads (b rule)) → Reads (binary f a b)
-reads_binary (Between (Mark m) o) a b plain r s = reads_between (a o.left) (b o.right) (Mark m) plain (r o.left) (s o.right)
-reads_binary (Between (Word w) o) a b plain r s = reads_between (a o.left) (b o.right) (Word w) tt (r o.left) (s o.right)
-reads_binary (Between _ o) a b plain r s = absurd (cc plain)
-reads_binary (Function w) a b plain r s = reads_function w (a E ++ behind_comma (b E)) (reads_append (a E) (behind_comma (b E)) (r E) (λ rest e. refl) (reads_behind_comma (b E) (s E)))
-reads_binary NoForm a b plain r s = reads_none
+reads_formed : (f : Form) (a b : Rule → List Piece) → is_apart f ≡ false → ((rule : Rule) → Reads (a rule)) → ((rule : Rule) → Reads (b rule)) → Reads (formed f a b)
+reads_formed (Between (Mark m) o) a b plain r s = reads_between (a o.left) (b o.right) (Mark m) plain (r o.left) (s o.right)
+reads_formed (Between (Word w) o) a b plain r s = reads_between (a o.left) (b o.right) (Word w) tt (r o.left) (s o.right)
+reads_formed (Between _ o) a b plain r s = absurd (cc plain)
+reads_formed (Function w) a b plain r s = reads_function w (a E ++ behind_comma (b E)) (reads_append (a E) (behind_comma (b E)) (r E) (λ rest e. refl) (reads_behind_comma (b E) (s E)))
+reads_formed NoForm a b plain r s = reads_none
 
 reads_within : (wanted own : Rule) (pieces : List Piece) → Reads pieces → Reads (within wanted own pieces)
 reads_within wanted own pieces r = by (nat_le own wanted)
@@ -152,9 +154,9 @@ reads_within wanted own pieces r = by (nat_le own wanted)
     by true = r
     by false = reads_in_parens pieces r
 
-reads_operands : (j : the_operator.Operator) (a b : PlainExpr) → Reads (bare a) → Reads (bare b) → Reads (binary (form_of j) (λ rule. canonical_expr rule a) (λ rule. canonical_expr rule b))
+reads_operands : (j : the_operator.Operator) (a b : PlainExpr) → Reads (bare a) → Reads (bare b) → Reads (formed (form_of j) (λ rule. canonical_expr rule a) (λ rule. canonical_expr rule b))
 reads_operands j a b r s =
-    reads_binary (form_of j) (λ rule. canonical_expr rule a) (λ rule. canonical_expr rule b) (none_apart j) (λ rule. reads_within rule (rule_of a) (bare a) r) (λ rule. reads_within rule (rule_of b) (bare b) s)
+    reads_formed (form_of j) (λ rule. canonical_expr rule a) (λ rule. canonical_expr rule b) (none_apart j) (λ rule. reads_within rule (rule_of a) (bare a) r) (λ rule. reads_within rule (rule_of b) (bare b) s)
 
 reads_canonical : (rule : Rule) (e : PlainExpr) → Reads (bare e) → Reads (canonical_expr rule e)
 reads_canonical rule e r = reads_within rule (rule_of e) (bare e) r
@@ -179,12 +181,11 @@ module _ {A : Type 0} (item : A → List Piece) where
 agg_name : (a : NamedAgg) → GoodName (agg_word a)
 unfolding is_name is_reserved word_with
 agg_name agg.Count = (refl, refl)
-agg_name (agg.Sum column) = (refl, refl)
-agg_name (agg.Min column) = (refl, refl)
-agg_name (agg.Max column) = (refl, refl)
-agg_name (agg.First column) = (refl, refl)
-agg_name (agg.Last column) = (refl, refl)
-agg_name (agg.Avg column) = (refl, refl)
+agg_name (agg.Of f column) = by f
+  where
+    by : (f : agg_function.AggFunction) → GoodName (function_word f)
+    by column_function.Sum = (refl, refl)
+    by _ = (refl, refl)
 
 -- a stage with something behind its word
 reads_stage : (plan pieces : List Piece) (w : the_word.Word) → Reads plan → Reads pieces → Reads (stage plan w (Space ∷ pieces))
@@ -259,7 +260,7 @@ reads_expr (g.looser h s) all = reads_expr s all
 reads_expr (g.operation {a = a} {b = b} t {o = o} e s u) all =
     let v = reads_expr s all in
     let w = reads_expr u v.1.1 in
-    (subst Reads (sym (bare-joined o.operator a b)) (reads_operands o.operator a b v.0 w.0), w.1)
+    (reads_operands o.operator a b v.0 w.0, w.1)
 reads_expr (g.prefixed {a = a} t {p = p} e s) all = let v = reads_expr s all.1 in (reads_call1 p.op (λ rule. canonical_expr rule a) (λ rule. reads_canonical rule a v.0), v.1)
 reads_expr (g.an_int {number = number} fits) all = (reads_literal (cell.Int (pos number)) fits, all.1)
 reads_expr (g.a_minus_int {z = z} e fits) all = (reads_literal (cell.Int z) fits, all.1.1)
@@ -323,12 +324,7 @@ reads_key key from rest e all = let a = subst AllFromText e all in by key.down a
 
 reads_argument : (a : NamedAgg) (rest : List Token) → AllFromText (g.agg_argument a ++ Mark mark.Close ∷ rest) → Reads (argument_pieces a) × AllFromText rest
 reads_argument agg.Count rest all = (reads_none, all.1)
-reads_argument (agg.Sum column) rest all = (reads_name column all.0, all.1.1)
-reads_argument (agg.Min column) rest all = (reads_name column all.0, all.1.1)
-reads_argument (agg.Max column) rest all = (reads_name column all.0, all.1.1)
-reads_argument (agg.First column) rest all = (reads_name column all.0, all.1.1)
-reads_argument (agg.Last column) rest all = (reads_name column all.0, all.1.1)
-reads_argument (agg.Avg column) rest all = (reads_name column all.0, all.1.1)
+reads_argument (agg.Of f column) rest all = (reads_name column all.0, all.1.1)
 
 reads_result : (n : ℕ) → ReadsItem (SpellsResult n) result_pieces
 reads_result n result from rest s all =

@@ -13,7 +13,7 @@ use Rattle.plan_grammar.specs.Operators.{Rule, ATOM, UN, NOT, prefix_of, call1_o
 use Rattle.plan_grammar.specs.Grammar as g
 use Rattle.plan_grammar.specs.Grammar.{Spells}
 use Rattle.plan_printer.specs.Canonical.{form_rule, call1_rule, rule_of, StandsInParens}
-use Rattle.plan_printer.proofs.CanonicalSpelled.{operator_found, rule_of-joined, call2_form}
+use Rattle.plan_printer.proofs.CanonicalSpelled.{operator_found, call2_form}
 
 prefix_rule : (t : Token) (p : Prefix) → prefix_of t ≡ Some p → call1_rule p.op ≡ p.rule
 prefix_rule (Word word.Not) p e = let same : record { rule = NOT; op = op.Not } ≡ p = cc e in ap (λ (p : Prefix). call1_rule p.op) (sym same) ∙ ap (λ (p : Prefix). p.rule) same
@@ -32,7 +32,7 @@ module _ (own rule : Rule) where
 
 pub needed : {rule : Rule} {n : ℕ} {e : PlainExpr} {from rest : List Token} → Spells rule n e from rest → rule < rule_of e → StandsInParens n e from rest
 needed (g.looser h s) less = needed s (omega (arith, h, less))
-needed (g.operation {a = a} {b = b} t {o = o} e s u) less = absurd (not_looser _ o.rule (rule_of-joined o.operator a b ∙ ap form_rule (operator_found t o e).2) less)
+needed (g.operation t {o = o} e s u) less = absurd (not_looser _ o.rule (ap form_rule (operator_found t o e).2) less)
 needed (g.prefixed t {p = p} e s) less = absurd (not_looser (call1_rule p.op) p.rule (prefix_rule t p e) less)
 needed (g.an_int fits) less = absurd (omega (arith, less))
 needed (g.a_minus_int e fits) less = absurd (omega (arith, less))

@@ -20,13 +20,13 @@ use Rattle.plan_grammar.specs.declared.plan.NamedResult.{NamedResult}
 use Rattle.plan_grammar.specs.declared.plan.NamedPair.{NamedPair}
 use Rattle.plan_grammar.specs.declared.plan.NamedKey.{NamedKey}
 use Rattle.plan_grammar.specs.Token.{word_bytes, mark_bytes, is_escaped}
-use Rattle.plan_grammar.specs.PlainNamed.{PlainExpr, Column, Literal, Call1, Call2, And, Or, If, PlainColumn, PlainTree, From, Where, Select, Distinct, Group, Join, Concat, Order}
+use Rattle.plan_grammar.specs.PlainNamed.{PlainExpr, Column, Literal, Call1, Binary, If, PlainColumn, PlainTree, From, Where, Select, Distinct, Group, Join, Concat, Order}
 use Rattle.plan_grammar.specs.declared.operator.Operator.{Operator}
 use Rattle.plan_grammar.specs.declared.operator.Operator.TheVariants as operator
 use Rattle.plan_grammar.specs.declared.operator.Infix.{Infix}
 use Rattle.plan_printer.specs.declared.rule.Form as the_form
 use Rattle.plan_printer.specs.declared.rule.Form.TheVariants as form
-use Rattle.plan_grammar.specs.Operators.{Rule, ATOM, UN, NOT, AND, E, mark_infix, conjunction, disjunction}
+use Rattle.plan_grammar.specs.Operators.{Rule, ATOM, UN, NOT, E, mark_infix, conjunction, disjunction}
 use Rattle.plan_grammar.specs.Grammar.{Spells, agg_word}
 
 -- A text is made of tokens, and of the spaces between some of them.
@@ -130,9 +130,7 @@ abbrev pub rule_of : PlainExpr → Rule
 rule_of (Column name) = ATOM
 rule_of (Literal c) = ATOM
 rule_of (Call1 o a) = call1_rule o
-rule_of (Call2 o a b) = form_rule (form_of (operator.Call o))
-rule_of (And a b) = AND
-rule_of (Or a b) = E
+rule_of (Binary o a b) = form_rule (form_of o)
 rule_of (If c a b) = ATOM
 
 abbrev pub in_parens : List Piece → List Piece
@@ -168,19 +166,17 @@ call1 op.Abs a = function word.Abs (a E)
 call1 _ a = []
 
 -- an operator's form, with the pieces of its operands under a rule
-abbrev pub binary : Form → (Rule → List Piece) → (Rule → List Piece) → List Piece
-binary (Between t o) a b = between (a o.left) t (b o.right)
-binary (Function w) a b = function w (a E ++ behind_comma (b E))
-binary NoForm a b = []
+abbrev pub formed : Form → (Rule → List Piece) → (Rule → List Piece) → List Piece
+formed (Between t o) a b = between (a o.left) t (b o.right)
+formed (Function w) a b = function w (a E ++ behind_comma (b E))
+formed NoForm a b = []
 
 -- the expression without parentheses around it
 abbrev pub bare : PlainExpr → List Piece
 bare (Column name) = One (Name name) ∷ []
 bare (Literal c) = literal c
 bare (Call1 o a) = call1 o (λ rule. within rule (rule_of a) (bare a))
-bare (Call2 o a b) = binary (form_of (operator.Call o)) (λ rule. within rule (rule_of a) (bare a)) (λ rule. within rule (rule_of b) (bare b))
-bare (And a b) = binary (form_of operator.And) (λ rule. within rule (rule_of a) (bare a)) (λ rule. within rule (rule_of b) (bare b))
-bare (Or a b) = binary (form_of operator.Or) (λ rule. within rule (rule_of a) (bare a)) (λ rule. within rule (rule_of b) (bare b))
+bare (Binary o a b) = formed (form_of o) (λ rule. within rule (rule_of a) (bare a)) (λ rule. within rule (rule_of b) (bare b))
 bare (If c a b) = function word.If (within E (rule_of c) (bare c) ++ (behind_comma (within E (rule_of a) (bare a)) ++ behind_comma (within E (rule_of b) (bare b))))
 
 -- the expression as the rule spells it
@@ -210,12 +206,7 @@ key_pieces key = One (Name key.column) ∷ (if key.down then Space ∷ One (Word
 
 abbrev pub argument_pieces : NamedAgg → List Piece
 argument_pieces agg.Count = []
-argument_pieces (agg.Sum column) = name_piece column
-argument_pieces (agg.Min column) = name_piece column
-argument_pieces (agg.Max column) = name_piece column
-argument_pieces (agg.First column) = name_piece column
-argument_pieces (agg.Last column) = name_piece column
-argument_pieces (agg.Avg column) = name_piece column
+argument_pieces (agg.Of f column) = name_piece column
 
 abbrev pub result_pieces : NamedResult → List Piece
 result_pieces result = named result.name (One (Name (agg_word result.agg)) ∷ in_parens (argument_pieces result.agg))

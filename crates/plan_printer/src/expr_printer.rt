@@ -4,14 +4,15 @@ ghost use Rattle.std.specs.Fmt.{signed_decimal};
 ghost use Rattle.std.specs.List.{flat_map};
 ghost use Rattle.scalar_ops.specs.declared.cell.Cell.TheVariants as cell;
 ghost use Rattle.plan_grammar.specs.declared.token.Token.{Token};
-ghost use Rattle.plan_grammar.specs.PlainNamed.{PlainExpr, Call1, Call2, If, expr_of};
+ghost use Rattle.plan_grammar.specs.declared.operator.Operator.TheVariants as operator;
+ghost use Rattle.plan_grammar.specs.PlainNamed.{PlainExpr, Call1, Binary, If, expr_of};
 ghost use Rattle.plan_grammar.specs.Operators.{E};
 ghost use Rattle.plan_printer.specs.Canonical.{Space, One, escaped, quoted, text_of, between, behind_comma};
 ghost use Rattle.plan_printer.specs.Canonical.{literal, bare, canonical_expr, function};
 
 use crate::rule::{Form, rule_of};
 use itoa::Buffer;
-use plan_grammar::{CONJUNCTION, EXPRESSION, NEGATION, NamedExpr, SIGNED, Word};
+use plan_grammar::{CONJUNCTION, EXPRESSION, NEGATION, NamedExpr, Operator, SIGNED, Word};
 use rows_core::Memory;
 use scalar_ops::{Cell, Op};
 
@@ -100,14 +101,29 @@ fn put_bare(expr: &NamedExpr, to: &mut Vec<u8>) -> Result<(), Memory>
         NamedExpr::Column(name) => put(name.bytes(), to),
         NamedExpr::Literal(cell) => put_literal(cell, to),
         NamedExpr::Call1 { op, arg } => put_call1(*op, arg, to),
-        NamedExpr::Call2 { op, left, right } => put_call2(*op, left, right, to),
-        NamedExpr::And(left, right) => {
-            put_between(CONJUNCTION, left, b"and", NEGATION, right, to)
-        },
-        NamedExpr::Or(left, right) => {
-            put_between(EXPRESSION, left, b"or", CONJUNCTION, right, to)
-        },
+        NamedExpr::Binary {
+            operator,
+            left,
+            right,
+        } => put_binary(*operator, left, right, to),
         NamedExpr::If(test, first, last) => put_choice(test, first, last, to),
+    }
+}
+
+#[cycle(expression)]
+fn put_binary(
+    operator: Operator,
+    left: &NamedExpr,
+    right: &NamedExpr,
+    to: &mut Vec<u8>,
+) -> Result<(), Memory>
+    ensures { OnOk result (to.new.items ≡ to.old.items
+        ++ text_of (bare (Binary operator (expr_of left.now) (expr_of right.now)))) }
+{
+    match operator {
+        Operator::Call(op) => put_call2(op, left, right, to),
+        Operator::And => put_between(CONJUNCTION, left, b"and", NEGATION, right, to),
+        Operator::Or => put_between(EXPRESSION, left, b"or", CONJUNCTION, right, to),
     }
 }
 
@@ -166,7 +182,8 @@ fn put_function1(function: &[u8], arg: &NamedExpr, to: &mut Vec<u8>) -> Result<(
 #[cycle(expression)]
 fn put_call2(op: Op, left: &NamedExpr, right: &NamedExpr, to: &mut Vec<u8>) -> Result<(), Memory>
     ensures { OnOk result
-        (to.new.items ≡ to.old.items ++ text_of (bare (Call2 op (expr_of left.now) (expr_of right.now)))) }
+        (to.new.items ≡ to.old.items
+        ++ text_of (bare (Binary (operator.Call op) (expr_of left.now) (expr_of right.now)))) }
 {
     match Form::of(op) {
         Form::Between(sign, infix) => {

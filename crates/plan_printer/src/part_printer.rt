@@ -75,12 +75,7 @@ fn put_argument(agg: &NamedAgg, to: &mut Vec<u8>) -> Result<(), Memory>
 {
     match agg {
         NamedAgg::Count => Ok(()),
-        NamedAgg::Sum(column)
-        | NamedAgg::Min(column)
-        | NamedAgg::Max(column)
-        | NamedAgg::First(column)
-        | NamedAgg::Last(column)
-        | NamedAgg::Avg(column) => put(column.bytes(), to),
+        NamedAgg::Of(_, column) => put(column.bytes(), to),
     }
 }
 

@@ -46,14 +46,22 @@ pub fn rule_of(expr: &NamedExpr) -> u8
 {
     match expr {
         NamedExpr::Call1 { op, arg: _ } => call1_rule(*op),
-        NamedExpr::Call2 {
-            op,
+        NamedExpr::Binary {
+            operator,
             left: _,
             right: _,
-        } => Form::of(*op).rule(),
-        NamedExpr::And(_, _) => CONJUNCTION,
-        NamedExpr::Or(_, _) => EXPRESSION,
+        } => operator_rule(*operator),
         NamedExpr::Column(_) | NamedExpr::Literal(_) | NamedExpr::If(_, _, _) => ATOM,
+    }
+}
+
+fn operator_rule(operator: Operator) -> u8
+    ensures { result ≡ form_rule (form_of operator) }
+{
+    match operator {
+        Operator::Call(op) => Form::of(op).rule(),
+        Operator::And => CONJUNCTION,
+        Operator::Or => EXPRESSION,
     }
 }
 

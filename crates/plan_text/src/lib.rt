@@ -5,8 +5,8 @@ pub mod laws;
 
 pub use plan_binder::{BindRefusal, Stream, bind, bind_laws};
 pub use plan_grammar::{
-    Mark, NamedAgg, NamedColumn, NamedExpr, NamedKey, NamedPair, NamedPlan, NamedResult, NamedTree,
-    PlanLimit, Token, Word,
+    AggFunction, Mark, NamedAgg, NamedColumn, NamedExpr, NamedKey, NamedPair, NamedPlan,
+    NamedResult, NamedTree, Operator, PlanLimit, Token, Word,
 };
 pub use plan_parser::{TextRefusal, parse_expr, parse_plan, plan_laws};
 pub use plan_printer::{print_expr, print_laws, print_plan};

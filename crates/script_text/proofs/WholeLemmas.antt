@@ -12,7 +12,7 @@ use Rattle.script_text.specs.RunLine.{run_with, run_of_text, run_named, run_of_p
 use Rattle.script_text.specs.Spelled.{Spelled, or_syntax}
 use Rattle.plan_grammar.specs.Counts.{IsWithinLimits}
 use Rattle.plan_parser.specs.Answer.{TextReading, AsPlan, AsTooLarge, AsNone, text_reading}
-use Rattle.plan_parser.proofs.WholePlans.{reading_plan}
+use Rattle.plan_parser.proofs.Texts.{reading_plan}
 use Rattle.script_text.specs.Script.{Block, block_limit, line_limit, spelled_item, append_with, command_item, is_end, line_item, line_block, unended_item, no_items, last_items, items_of_lines, is_newline, items_by, items, all_items, IsWhole, IsWholeItem, IsForBytes, IsRefusedForBytes}
 use Rattle.script_text.specs.declared.answer.LimitKind.{LimitKind}
 use Rattle.script_text.specs.declared.answer.Refusal.TheVariants.{Syntax}

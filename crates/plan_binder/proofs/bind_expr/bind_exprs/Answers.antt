@@ -5,7 +5,7 @@ use Rattle.plan_core.specs.AllThere.{found_end}
 use Rattle.plan_grammar.specs.PlainNamed.{expr_of}
 use Rattle.plan_binder.specs.Binding.{bound_expr}
 use Rattle.plan_binder.specs.BoundPlan.{boxed_expr_of}
-use Rattle.plan_binder.proofs.CollectLaws.{starts, goes_on, stops}
+use Rattle.plan_binder.proofs.Collecting.{starts, goes_on, stops}
 use Rattle.plan_binder.proofs.bind_expr.bind_exprs.Goals as goal
 
 pub loop-column-init : goal.loop-column-init

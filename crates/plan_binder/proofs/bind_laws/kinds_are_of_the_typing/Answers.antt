@@ -1,5 +1,5 @@
 -- By cases on the tree.
-use Rattle.plan_binder.proofs.BoundKinds.{bound_kinds}
+use Rattle.plan_binder.proofs.BoundPlans.{bound_kinds}
 use Rattle.plan_binder.proofs.bind_laws.kinds_are_of_the_typing.Goals as goal
 
 pub returns : goal.returns

@@ -2,7 +2,7 @@ use Rattle.std.proofs.Common.{rules, ◌≡◌, Err}
 use Rattle.plan_core.specs.AllThere.{found_end}
 use Rattle.plan_binder.specs.Binding.{bound_pair}
 use Rattle.plan_binder.specs.BoundPlan.{items_of}
-use Rattle.plan_binder.proofs.CollectLaws.{starts, goes_on, stops}
+use Rattle.plan_binder.proofs.Collecting.{starts, goes_on, stops}
 use Rattle.plan_binder.proofs.bind_names.bind_pairs.Goals as goal
 
 pub loop-pair-init : goal.loop-pair-init

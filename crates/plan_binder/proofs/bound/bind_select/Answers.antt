@@ -10,7 +10,7 @@ use Rattle.plan_binder.specs.Binding.{bound_expr, bound_select, projected}
 use Rattle.plan_binder.specs.BoundPlan.{bound_of}
 use Rattle.plan_binder.specs.Resolves.{Resolves}
 use Rattle.plan_binder.proofs.BindingLaws.{select_of_columns}
-use Rattle.plan_binder.proofs.ResolvesLaws.{passes_on}
+use Rattle.plan_binder.proofs.Collecting.{passes_on}
 use Rattle.plan_binder.proofs.bound.bind_select.Goals as goal
 
 pub returns-in_err-exprs : goal.returns-in_err-exprs

@@ -5,7 +5,7 @@ use Rattle.plan_core.specs.PlanTyping.{column_kind_of}
 use Rattle.plan_binder.specs.Binding.{kind_or_int, with_columns}
 use Rattle.plan_binder.specs.BoundPlan.{bound_of}
 use Rattle.plan_binder.specs.Resolves.{Resolves}
-use Rattle.plan_binder.proofs.BindingLaws.{kinds_of_exprs}
+use Rattle.std.proofs.lemmas.Simd.{map-map}
 use Rattle.plan_binder.proofs.bound.select.Goals as goal
 
 pub returns : goal.returns
@@ -17,4 +17,4 @@ returns c =
     let typed : found.kinds ≡ map (λ e. kind_or_int (column_kind_of kinds (bound.expr_of e))) c.args.exprs.items = search rules in
     let named = subst (λ ns. Resolves bound_of c.project.result (with_columns plan ns found.kinds)) names c.project.ensures in
     subst (λ ks. Resolves bound_of c.project.result (with_columns plan (map (λ column. column.name) c.args.columns.now) ks))
-    (typed ∙ sym (kinds_of_exprs kinds c.args.exprs.items)) named
+    (typed ∙ sym (map-map (λ e. kind_or_int (column_kind_of kinds e)) bound.expr_of c.args.exprs.items)) named

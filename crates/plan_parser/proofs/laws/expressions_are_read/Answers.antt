@@ -1,4 +1,4 @@
-use Rattle.plan_parser.proofs.WholeTexts.{exprs_read}
+use Rattle.plan_parser.proofs.Texts.{exprs_read}
 use Rattle.plan_parser.proofs.laws.expressions_are_read.Goals as goal
 
 pub returns-clause-found : goal.returns-clause-found

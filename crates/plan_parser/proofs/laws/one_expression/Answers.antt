@@ -1,5 +1,5 @@
 use Rattle.plan_parser.proofs.Whole.{one_spelled}
-use Rattle.plan_parser.proofs.WholeTexts.{exprs_read}
+use Rattle.plan_parser.proofs.Texts.{exprs_read}
 use Rattle.plan_parser.proofs.laws.one_expression.Goals as goal
 
 pub returns : goal.returns

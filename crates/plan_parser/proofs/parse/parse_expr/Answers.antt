@@ -1,6 +1,6 @@
 use Rattle.plan_grammar.specs.PlainNamed.{expr_of}
 use Rattle.plan_parser.proofs.Whole.{answer_plan, answer_none, answer_large}
-use Rattle.plan_parser.proofs.WholeTexts.{expr_texts}
+use Rattle.plan_parser.proofs.Texts.{expr_texts}
 use Rattle.plan_parser.proofs.parse.parse_expr.Goals as goal
 
 pub returns-clause-found : goal.returns-clause-found

@@ -1,5 +1,5 @@
 use Rattle.plan_parser.proofs.Whole.{answer_plan, answer_none, answer_large}
-use Rattle.plan_parser.proofs.WholePlans.{plan_texts}
+use Rattle.plan_parser.proofs.Texts.{plan_texts}
 use Rattle.plan_parser.proofs.parse.parse_plan.Goals as goal
 
 pub returns-clause-found : goal.returns-clause-found

@@ -1,5 +1,5 @@
 use Rattle.plan_grammar.specs.PlainNamed.{tree_of}
-use Rattle.plan_parser.proofs.WholePlans.{reading_plan}
+use Rattle.plan_parser.proofs.Texts.{reading_plan}
 use Rattle.plan_parser.proofs.parse.plan_of_text.Goals as goal
 
 pub new-requires : goal.new-requires

@@ -1,6 +1,5 @@
-use Rattle.plan_parser.proofs.OnePlan.{one_plan_of_text}
+use Rattle.plan_parser.proofs.Texts.{one_plan_of_text, plans_read}
 use Rattle.plan_parser.proofs.Whole.{one_spelled}
-use Rattle.plan_parser.proofs.WholePlans.{plans_read}
 use Rattle.plan_parser.proofs.plan_laws.one_plan.Goals as goal
 
 pub returns-clause-tokens : goal.returns-clause-tokens

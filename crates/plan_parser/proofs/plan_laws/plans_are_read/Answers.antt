@@ -1,4 +1,4 @@
-use Rattle.plan_parser.proofs.WholePlans.{plans_read}
+use Rattle.plan_parser.proofs.Texts.{plans_read}
 use Rattle.plan_parser.proofs.plan_laws.plans_are_read.Goals as goal
 
 pub returns-clause-found : goal.returns-clause-found

@@ -1,5 +1,5 @@
 use Rattle.plan_parser.proofs.Whole.{plan_reading, large_reading, none_reading, reading_plan, reading_large, reading_none}
-use Rattle.plan_parser.proofs.WholePlans.{plan_texts}
+use Rattle.plan_parser.proofs.Texts.{plan_texts}
 use Rattle.plan_parser.proofs.plan_laws.texts_are_read.Goals as goal
 
 pub returns-clause-plan : goal.returns-clause-plan

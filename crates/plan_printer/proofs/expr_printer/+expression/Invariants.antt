@@ -22,6 +22,9 @@ decreases-put_behind l = 8 * expr_nodes (expr_of l.arg.now) + 2
 abbrev pub decreases-put_function1 : goal.decreases-put_function1
 decreases-put_function1 l = 8 * expr_nodes (expr_of l.arg.now) + 3
 
+abbrev pub decreases-put_binary : goal.decreases-put_binary
+decreases-put_binary l = 8 * (expr_nodes (expr_of l.left.now) + expr_nodes (expr_of l.right.now)) + 5
+
 abbrev pub decreases-put_call2 : goal.decreases-put_call2
 decreases-put_call2 l = 8 * (expr_nodes (expr_of l.left.now) + expr_nodes (expr_of l.right.now)) + 4
 

@@ -1,19 +1,22 @@
--- What a plan that is bound is made of, operator by operator.
-use Rattle.std.proofs.Common.{◌≡◌, subst, ℕ, true, List, ◌++◌, map, slice_get, Option, Some}
+-- What a plan that is bound is made of, operator by operator; its kinds are those of its typing, and its leaves the streams.
+use Rattle.std.proofs.Common.{◌≡◌, subst, ℕ, true, List, ◌++◌, map, slice_get, Option, Some, ◌∙◌, refl, sym, ap, ◌||◌, [], ◌∷◌, None}
 use Rattle.rows_core.specs.declared.order.Key.{Key}
 use Rattle.rows_core.specs.declared.schema.Column as schema
 use Rattle.rows_core.specs.Schema.{kinds_of}
 use Rattle.plan_core.specs.declared.agg.Agg.{Agg}
 use Rattle.plan_core.specs.PlainExpr as bound
-use Rattle.plan_core.specs.PlainPlan.{PlainPlan, Scan, Filter, Project, Group, Join, Concat, Order}
-use Rattle.plan_core.specs.PlanTyping.{Kinds, all_there, column_kind_of, agg_kind}
-use Rattle.plan_core.proofs.ValueKinds.{then_some, map_some, both_some, unless_some, where_some}
+use Rattle.plan_core.specs.PlainPlan.{PlainPlan, Scan, Filter, Project, Group, Join, Concat, Order, leaves}
+use Rattle.plan_core.specs.PlanTyping.{Kinds, all_there, column_kind_of, agg_kind, is_empty, plan_kinds, filter_kinds, project_kinds, group_kinds, join_kinds, concat_kinds, order_kinds}
+use Rattle.plan_core.proofs.ValueKinds.{then_some, map_some, both_some, unless_some, where_some, slice_get-map}
 use Rattle.plan_grammar.specs.declared.plan.NamedResult.{NamedResult}
 use Rattle.plan_grammar.specs.declared.plan.NamedPair.{NamedPair}
 use Rattle.plan_grammar.specs.declared.plan.NamedKey.{NamedKey}
 use Rattle.plan_grammar.specs.PlainNamed as named
-use Rattle.plan_grammar.specs.PlainNamed.{PlainColumn, PlainTree, From, Where, Select}
+use Rattle.plan_grammar.specs.PlainNamed.{PlainColumn, PlainTree, From, Where, Select, streams_of}
 use Rattle.plan_binder.specs.Binding.{Names, Bound, kind_or_int, with_columns, has_repeat, bound_expr, bound_agg, bound_pair, bound_key, place_of, projected, grouped, joined, bound_scan, bound_where, bound_select, bound_distinct, bound_group, bound_join, bound_concat, bound_order, bound_tree}
+use Rattle.std.specs.Option.{option_map}
+use Rattle.rows_core.specs.declared.kind.Kind as a_kind
+use Rattle.std.proofs.lemmas.List.{map-append}
 
 pub columns_some : (plan : PlainPlan) (names : Names) (kinds : Kinds) (b : Bound) → with_columns plan names kinds ≡ Some b
     → record { plan = plan; names = names; kinds = kinds } ≡ b
@@ -87,3 +90,82 @@ module _ (streams : Names) (schemas : List (List schema.Column)) where
       let input = then_some (bound_order keys) (to child) b is in
       let places = map_some (λ places. record { plan = Order input.0.plan places; names = input.0.names; kinds = input.0.kinds }) (all_there (map (bound_key input.0.names) keys)) b input.1.1 in
       subst (So (named.Order child keys)) places.1.1 (order (parts child input.0 input.1.0))
+
+kinds_there : {A : Type 0} (f : A → Option a_kind.Kind) (xs : List A) (ks : Kinds) → all_there (map f xs) ≡ Some ks → map (λ x. kind_or_int (f x)) xs ≡ ks
+kinds_there f [] ks e = cc
+kinds_there f (x ∷ xs) ks e = go (f x) refl e (kinds_there f xs)
+  where
+    go : (o : Option a_kind.Kind) → f x ≡ o → all_there (o ∷ map f xs) ≡ Some ks
+        → ((others : Kinds) → all_there (map f xs) ≡ Some others → map (λ x. kind_or_int (f x)) xs ≡ others)
+        → map (λ x. kind_or_int (f x)) (x ∷ xs) ≡ ks
+    go None is e tails = absurd cc
+    go (Some k) is e tails =
+        let rest = then_some (λ (others : Kinds). Some (k ∷ others)) (all_there (map f xs)) ks e in
+        let tail : map (λ x. kind_or_int (f x)) xs ≡ rest.0 = tails rest.0 rest.1.0 in
+        let head : kind_or_int (f x) ≡ k = ap kind_or_int is in
+        let all : k ∷ rest.0 ≡ ks = where_some true (k ∷ rest.0) ks rest.1.1 in
+        (λ i. head i ∷ tail i) ∙ all
+
+abbrev pub HasTypedKinds : List Kinds → Bound → Type 0
+HasTypedKinds schemas b = (kinds : Kinds) → plan_kinds schemas b.plan ≡ Some kinds → b.kinds ≡ kinds
+
+some_same : (x y : Kinds) → ◌≡◌ {A = Option Kinds} (Some x) (Some y) → x ≡ y
+some_same x y e = cc
+
+module _ (streams : Names) (schemas : List (List schema.Column)) where
+  typed_kinds : {tree : PlainTree} {b : Bound} → BoundAs streams schemas tree b → HasTypedKinds (map kinds_of schemas) b
+  typed_kinds (scan {number = number} {columns = columns} at there) = λ kinds typed.
+      some_same (kinds_of columns) kinds (sym (ap (option_map kinds_of) there) ∙ sym (slice_get-map kinds_of schemas number) ∙ typed)
+  typed_kinds (filter {input = input} {e = e} is x at) = λ kinds typed.
+      let child = then_some (filter_kinds e) (plan_kinds (map kinds_of schemas) input.plan) kinds typed in
+      typed_kinds x child.0 child.1.0 ∙ where_some _ child.0 kinds child.1.1
+  typed_kinds (select {input = input} {exprs = exprs} is x there) = λ kinds typed.
+      let child = then_some (project_kinds exprs) (plan_kinds (map kinds_of schemas) input.plan) kinds typed in
+      ap (λ (ks : Kinds). map (λ e. kind_or_int (column_kind_of ks e)) exprs) (typed_kinds x child.0 child.1.0)
+      ∙ kinds_there (column_kind_of child.0) exprs kinds (unless_some (is_empty exprs) (all_there (map (column_kind_of child.0) exprs)) kinds child.1.1)
+  typed_kinds (distinct x) = typed_kinds x
+  typed_kinds (group {input = input} {places = places} {aggs = aggs} x) = λ kinds typed.
+      let child = then_some (group_kinds places aggs) (plan_kinds (map kinds_of schemas) input.plan) kinds typed in
+      let both = both_some (λ (ks js : Kinds). Some (ks ++ js)) (all_there (map (slice_get child.0) places)) (all_there (map (agg_kind child.0) aggs)) kinds
+      (unless_some (is_empty places || is_empty aggs) _ kinds child.1.1) in
+      let key_part = kinds_there (slice_get child.0) places both.left both.left_there in
+      let agg_part = kinds_there (agg_kind child.0) aggs both.right both.right_there in
+      let all : both.left ++ both.right ≡ kinds = where_some true (both.left ++ both.right) kinds both.gives in
+      ap (λ (ks : Kinds). map (λ place. kind_or_int (slice_get ks place)) places ++ map (λ a. kind_or_int (agg_kind ks a)) aggs) (typed_kinds x child.0 child.1.0)
+      ∙ (λ i. key_part i ++ agg_part i) ∙ all
+  typed_kinds (join {l = l} {r = r} {pairs = pairs} x y) = λ kinds typed.
+      let both = both_some (join_kinds pairs) (plan_kinds (map kinds_of schemas) l.plan) (plan_kinds (map kinds_of schemas) r.plan) kinds typed in
+      let lefts = typed_kinds x both.left both.left_there in
+      let rights = typed_kinds y both.right both.right_there in
+      (λ i. lefts i ++ rights i) ∙ where_some _ (both.left ++ both.right) kinds (unless_some (is_empty pairs) _ kinds both.gives)
+  typed_kinds (concat {l = l} {r = r} x y) = λ kinds typed.
+      let both = both_some concat_kinds (plan_kinds (map kinds_of schemas) l.plan) (plan_kinds (map kinds_of schemas) r.plan) kinds typed in
+      typed_kinds x both.left both.left_there ∙ where_some _ both.left kinds both.gives
+  typed_kinds (order {input = input} {places = places} x) = λ kinds typed.
+      let child = then_some (order_kinds places) (plan_kinds (map kinds_of schemas) input.plan) kinds typed in
+      typed_kinds x child.0 child.1.0 ∙ where_some _ child.0 kinds (unless_some (is_empty places) _ kinds child.1.1)
+
+  pub bound_kinds : (tree : PlainTree) (b : Bound) → bound_tree streams schemas tree ≡ Some b → HasTypedKinds (map kinds_of schemas) b
+  bound_kinds tree b is = typed_kinds (parts streams schemas tree b is)
+
+module _ (streams : Names) (schemas : List (List schema.Column)) where
+  abbrev LeavesOf : PlainTree → Bound → Type 0
+  LeavesOf tree b = map Some (leaves b.plan) ≡ map (place_of streams) (streams_of tree)
+
+  two_leaves : (left right : PlainTree) (l r : Bound) → LeavesOf left l → LeavesOf right r
+      → map Some (leaves l.plan ++ leaves r.plan) ≡ map (place_of streams) (streams_of left ++ streams_of right)
+  two_leaves left right l r e f =
+      map-append Some (leaves l.plan) (leaves r.plan) ∙ (λ i. e i ++ f i) ∙ sym (map-append (place_of streams) (streams_of left) (streams_of right))
+
+  placed : {tree : PlainTree} {b : Bound} → BoundAs streams schemas tree b → LeavesOf tree b
+  placed (scan at there) = ap (λ (o : Option ℕ). o ∷ []) (sym at)
+  placed (filter is x at) = placed x
+  placed (select is x there) = placed x
+  placed (distinct x) = placed x
+  placed (group x) = placed x
+  placed (join {left = left} {right = right} {l = l} {r = r} x y) = two_leaves left right l r (placed x) (placed y)
+  placed (concat {left = left} {right = right} {l = l} {r = r} x y) = two_leaves left right l r (placed x) (placed y)
+  placed (order x) = placed x
+
+  pub bound_leaves : (tree : PlainTree) (b : Bound) → bound_tree streams schemas tree ≡ Some b → map Some (leaves b.plan) ≡ map (place_of streams) (streams_of tree)
+  bound_leaves tree b is = placed (parts streams schemas tree b is)

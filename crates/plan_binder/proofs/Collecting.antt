@@ -1,11 +1,17 @@
--- Loops that collect what each item gives, by a step of theirs.
-use Rattle.std.proofs.Common.{◌≡◌, ◌∙◌, sym, ap, subst, ℕ, ◌+◌, ◌<◌, ◌≤◌, List, [], ◌∷◌, ◌++◌, length, map, take, get_or, append_assoc, Option, Some, Result, Err}
+-- What a refusal says of what rests on the part that was refused, and loops that collect what each item gives.
+use Rattle.std.proofs.Common.{◌≡◌, Option, None, Err, ◌∙◌, sym, ap, subst, ℕ, ◌+◌, ◌<◌, ◌≤◌, List, [], ◌∷◌, ◌++◌, length, map, take, get_or, Some, Result}
+use Rattle.plan_binder.specs.declared.refusal.BindRefusal.{BindRefusal}
+use Rattle.plan_binder.specs.declared.refusal.BindRefusal.TheVariants as refusal
+use Rattle.plan_binder.specs.Resolves.{Resolves}
 use Rattle.std.proofs.lemmas.List.{map_more, take_all}
 use Rattle.plan_core.specs.PlanTyping.{all_there}
 use Rattle.plan_core.specs.AllThere.{HasFound, found_start, found_more, found_none}
-use Rattle.plan_binder.specs.declared.refusal.BindRefusal.{BindRefusal}
-use Rattle.plan_binder.specs.Resolves.{Resolves}
-use Rattle.plan_binder.proofs.ResolvesLaws.{passes_on}
+
+pub passes_on : {A B C D : Type 0} (f : A → B) (g : C → D) (e : BindRefusal) (o : Option B) (p : Option D)
+    → (o ≡ None → p ≡ None) → Resolves f (Err e) o → Resolves g (Err e) p
+passes_on f g refusal.IllTyped o p none h = none h
+passes_on f g (refusal.Unknown stream) o p none h = h
+passes_on f g refusal.Memory o p none h = tt
 
 -- ---- what may not be there
 
@@ -28,14 +34,12 @@ stops f part whole refusal answer items index item found same there is so_far re
 
 -- ---- copies
 
-pub copied_more : {A B : Type 0} (start : List B) (f : A → B) (items : List A) (index : ℕ) (item : A) (copies longer : List B) (x : B)
+pub copied_more : {A B : Type 0} (f : A → B) (items : List A) (index : ℕ) (item : A) (copies longer : List B) (x : B)
     → index < length items → item ≡ get_or items index item → x ≡ f item → longer ≡ copies ++ x ∷ []
-    → copies ≡ start ++ map f (take index items) → longer ≡ start ++ map f (take (index + 1) items)
-copied_more start f items index item copies longer x there is same pushed so_far =
-    pushed ∙ (λ i. so_far i ++ (same ∙ ap f is) i ∷ [])
-    ∙ append_assoc start (map f (take index items)) (f (get_or items index item) ∷ [])
-    ∙ ap (λ ys. start ++ ys) (sym (map_more f items index item there))
+    → copies ≡ map f (take index items) → longer ≡ map f (take (index + 1) items)
+copied_more f items index item copies longer x there is same pushed so_far =
+    pushed ∙ (λ i. so_far i ++ (same ∙ ap f is) i ∷ []) ∙ sym (map_more f items index item there)
 
-pub copied_all : {A B : Type 0} (start : List B) (f : A → B) (items : List A) (index : ℕ) (copies : List B)
-    → length items ≤ index → copies ≡ start ++ map f (take index items) → copies ≡ start ++ map f items
-copied_all start f items index copies end so_far = so_far ∙ ap (λ xs. start ++ map f xs) (take_all index items end)
+pub copied_all : {A B : Type 0} (f : A → B) (items : List A) (index : ℕ) (copies : List B)
+    → length items ≤ index → copies ≡ map f (take index items) → copies ≡ map f items
+copied_all f items index copies end so_far = so_far ∙ ap (map f) (take_all index items end)

@@ -1,4 +1,4 @@
--- How tokens are read as an expression.
+-- How many levels are open where something is read, and what stands behind what was read up to a mark or a word.
 use Prim.Native.Nat.{zero, suc}
 use Rattle.std.proofs.Common.{◌≡◌, refl, sym, ap, ◌∙◌, ℕ, ◌<◌, ◌-◌, Bool, true, false, cond, nat_eq, List, ◌∷◌, Some, None, arith}
 use Rattle.std.proofs.lemmas.Bool.Decides.{nat_tests}
@@ -14,6 +14,7 @@ use Rattle.plan_parser.specs.Reader.{ReadOf, and_then, terminal_at, up_to}
 use Rattle.plan_parser.specs.Reading.{Reader, Readers, read_by, below, rule_at, inner}
 use Rattle.plan_grammar.proofs.TokenLemmas.{both}
 use Rattle.plan_parser.proofs.RepeatLemmas.{then_some}
+use Rattle.plan_parser.specs.PlanReading.{agg_at, name_at, argument_at, inner_plan, plan_at}
 
 -- within a construct one level less may be open, and with none left nothing is read
 pub inner_rule : (most : Counts) (n : ℕ) (rule : Rule) (ts : List Token) → (n ≡ 0 → inner most n rule ts ≡ None) × (0 < n → inner most n rule ts ≡ rule_at most (inner most (n - 1)) rule ts)
@@ -59,3 +60,14 @@ up_to_some end read x rest q =
     let then = then_some (terminal_at end first.1) (λ _ behind. Some (first.0, behind)) (x, rest) first.3 in
     let p = both first.0 x then.1 rest then.3 in
     first.2 ∙ (λ i. Some (p.0 i, terminal_some end first.1 then.1 then.2 i)) ∙ ap (λ r. Some (x, token_of end ∷ r)) p.1
+
+-- the parentheses of an aggregate are a level
+pub agg_with_levels : (n : ℕ) (ts : List Token) → (n ≡ 0 → agg_at n ts ≡ None) × (0 < n → agg_at n ts ≡ and_then (name_at ts) (λ name behind. and_then (terminal_at Open behind) (λ _. argument_at name)))
+agg_with_levels zero ts = (λ e. refl, λ some. absurd (omega (arith, some)))
+agg_with_levels (suc n) ts = (λ e. absurd (omega (arith, e)), λ some. refl)
+
+-- within parentheses one level less may be open, and with none left no plan is read
+pub inner_plan_with_levels : (most : Counts) (n : ℕ) (ts : List Token) → (n ≡ 0 → inner_plan most n ts ≡ None) × (0 < n → inner_plan most n ts ≡ plan_at most (n - 1) ts)
+unfolding inner_plan
+inner_plan_with_levels most zero ts = (λ e. refl, λ some. absurd (omega (arith, some)))
+inner_plan_with_levels most (suc n) ts = (λ e. absurd (omega (arith, e)), λ some. let same : suc n - 1 ≡ n = omega arith in ap (λ k. plan_at most k ts) (sym same))
