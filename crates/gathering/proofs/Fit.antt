@@ -1,5 +1,5 @@
 -- What is made of typed rows is fit.
-use Rattle.std.proofs.Common.{◌≡◌, refl, sym, ap, ◌∙◌, subst, ℕ, ◌+◌, ◌<◌, ◌≤◌, List, [], ◌∷◌, ◌++◌, length, All, IsSome, IfSome, IfOk, Option, None, Some, Result, Ok, Err, arith}
+use Rattle.std.proofs.Common.{◌≡◌, refl, sym, ap, ◌∙◌, subst, ℕ, ◌+◌, ◌<◌, ◌≤◌, List, [], ◌∷◌, ◌++◌, length, map, All, IsSome, IfSome, IfOk, Option, None, Some, Result, Ok, Err, arith}
 use Rattle.std.specs.Prelude.{slice_get}
 use Rattle.std.proofs.lemmas.List.Elements.{All-append, All-from_recursion}
 use Rattle.rows_core.specs.declared.overflow.Overflow.{Overflow}
@@ -53,6 +53,9 @@ held_bounded (Join left right on) held taken_in is holds few = absurd is
 held_bounded (Concat left right) held taken_in is holds few = absurd is
 held_bounded (Order child keys) held taken_in is holds few = absurd is
 
+made_same : (a b : Made) (given : Result Made Overflow) → given ≡ Ok a → given ≡ Ok b → a.kept ≡ b.kept
+made_same a b given first second = let same : a ≡ b = cc in ap (λ made. made.kept) same
+
 -- ---- the kinds
 
 module _ (law : GivesTypedRows) (schemas : List Kinds) where
@@ -98,7 +101,7 @@ module _ (law : GivesTypedRows) (schemas : List Kinds) where
       → Follows (whole_made plan (fed ∷ [])) (came_of going) → ComesTo schemas plan (whole_made plan (fed ∷ [])) (came_of going)
   comes_to plan fed (Ok going) is typed of (formed, holds, few) follows =
       let gave = both_ok (given plan fed) (λ rows. Ok (made_of_chain plan rows (rows_taken_in plan (fed ∷ [])))) _ (sym (whole_of plan is fed) ∙ follows) in
-      let same : kept_of_chain plan gave.0 ≡ kept_in going.held = (let e = gave.2 in cc) in
+      let same = made_same (made_of_chain plan gave.0 (rows_taken_in plan (fed ∷ []))) (record { kept = kept_in going.held; taken_in = going.taken_in }) (Ok (made_of_chain plan gave.0 (rows_taken_in plan (fed ∷ [])))) refl gave.2 in
       let bounded = held_bounded plan going.held going.taken_in is holds few in
       (follows, few, subst (IsFit schemas plan) same (kept_fit plan fed gave.0 is typed of gave.1 (subst (IsBounded plan) (sym same) bounded)))
   comes_to plan fed (Err stop.Machine) is typed of sound follows = follows
@@ -118,7 +121,7 @@ if_both P Q R both None p q = tt
 pub further_of_stream : (schemas : List Kinds) (streams : List ℕ) (a b : Rows) → AreOfStreams schemas streams (a ∷ []) → AreOfStreams schemas streams (b ∷ []) → AreOfStreams schemas streams ((a ++ b) ∷ [])
 further_of_stream schemas [] a b first second = absurd first
 further_of_stream schemas (stream ∷ []) a b first second =
-    (if_both (λ kinds. HaveKinds kinds a) (λ kinds. HaveKinds kinds b) (λ kinds. HaveKinds kinds (a ++ b)) (λ kinds p q. All-append _ a b p q) (slice_get schemas stream) first.0 second.0, tt)
+    (if_both (λ kinds. HaveKinds kinds a) (λ kinds. HaveKinds kinds b) (λ kinds. HaveKinds kinds (a ++ b)) (λ kinds p q. All-append (λ row. map kind_of row ≡ kinds) a b p q) (slice_get schemas stream) first.0 second.0, tt)
 further_of_stream schemas (stream ∷ (next ∷ streams)) a b first second = absurd first.1
 
 -- ---- no rows

@@ -3,5 +3,5 @@ pub mod Passing
 pub mod HeldRows
 pub mod Sums
 pub mod OnOk
-pub mod HeldFurther
 pub mod Fit
+pub mod Gatherings
