@@ -1,0 +1,7 @@
+pub mod Extents
+pub mod Passing
+pub mod HeldRows
+pub mod Sums
+pub mod OnOk
+pub mod Fit
+pub mod Gatherings
