@@ -10,7 +10,7 @@ use Rattle.entry_table.specs.Work.{Kept}
 pub record AreKept (k : Kept) : Type 0 where
   pub first : 0 < k.next_id
   pub ascend : IsTrue (ascend_above 0 (ids_of k.entries))
-  pub below : IsTrue (list_all (λ e. nat_lt e.id k.next_id) k.entries)
+  pub below : IsTrue (list_all (λ id. nat_lt id k.next_id) (ids_of k.entries))
   pub few : length k.entries ≤ most_entries
 
 -- each of these facts has one proof, so that it may stand in a field

@@ -37,9 +37,12 @@ most_uses = 4294967295
 abbrev pub with_use : ℕ → PlainEntry → PlainEntry
 with_use tick e = record e { uses = min (e.uses + 1) most_uses; last = tick }
 
--- the entries, those of these ids with a use more
+-- the entry, with a use more if its id is among these
+abbrev pub used : ℕ → List ℕ → PlainEntry → PlainEntry
+used tick ids e = if is_among ids e.id then with_use tick e else e
+
 abbrev pub with_uses : ℕ → List ℕ → List PlainEntry → List PlainEntry
-with_uses tick ids entries = map (λ e. if is_among ids e.id then with_use tick e else e) entries
+with_uses tick ids entries = map (used tick ids) entries
 
 -- a new result as an entry of this id, made at this tick
 abbrev pub new_entry : ℕ → ℕ → Keys → PlainNewEntry → PlainEntry

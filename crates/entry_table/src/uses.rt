@@ -1,7 +1,7 @@
 //! The steps of work: uses are counted, entries go and new ones come.
 ghost use Rattle.std.specs.Prelude.{◌≡◌, ◌+◌, ◌≤◌, ◌++◌, length, vec_capacity};
 ghost use Rattle.entry_table.specs.Ids.{without};
-ghost use Rattle.entry_table.specs.Work.{with_use, with_uses, new_entry};
+ghost use Rattle.entry_table.specs.Work.{with_use, used, with_uses, new_entry};
 ghost use Rattle.entry_table.specs.Keying.{keyed_entries};
 
 use crate::ids::is_among;
@@ -14,9 +14,16 @@ pub(crate) fn add_uses(entries: &mut Vec<Entry>, tick: u32, ids: &[u32])
     ensures room { vec_capacity entries.new ≡ vec_capacity entries.old }
 {
     for place in 0..entries.len() {
-        if is_among(ids, entries[place].id) {
-            add_use(&mut entries[place], tick);
-        }
+        add_use_of(&mut entries[place], tick, ids);
+    }
+}
+
+// Counts a use of the entry if its id is among these.
+fn add_use_of(entry: &mut Entry, tick: u32, ids: &[u32])
+    ensures { entry.new ≡ used tick ids.now entry.old }
+{
+    if is_among(ids, entry.id) {
+        add_use(entry, tick);
     }
 }
 
@@ -51,14 +58,14 @@ pub(crate) fn add_entries(
         ≡ entries.old.items ++ keyed_entries tick first_id keys.now kept.items }
 {
     let mut id = first_id;
-    let mut keys = keys;
+    let mut next_keys = keys;
     for new in kept {
-        let [own, others @ ..] = keys else {
+        let [own, others @ ..] = next_keys else {
             unreachable!();
         };
         entries.push_reserved(entry_of(tick, id as u32, own, new));
         id += 1;
-        keys = others;
+        next_keys = others;
     }
 }
 
