@@ -7,9 +7,10 @@ use Rattle.entry_table.specs.declared.keys.Keys.{Keys}
 use Rattle.entry_table.specs.Ids.{ids_of, ascend_above, is_among, without}
 use Rattle.entry_table.specs.Keying.{keyed_entries}
 use Rattle.entry_table.specs.Results.{most_entries}
-use Rattle.entry_table.specs.Work.{Kept, used, with_uses, with_use, new_entry}
+use Rattle.entry_table.specs.Work.{Kept, used, with_uses, with_use, new_entry, new_entries, after_work}
+use Rattle.entry_table.specs.Keyed.{Digests, keys_of}
 use Rattle.entry_table.specs.AreKept.{AreKept}
-use Rattle.entry_table.proofs.Lists.{without-within, uses-length, keyed-length}
+use Rattle.entry_table.proofs.Lists.{without-within, uses-length, keyed-length, keyed-are}
 use Rattle.entry_table.proofs.Places.{both}
 
 and-true : (b c : Bool) → b ≡ true → c ≡ true → b && c ≡ true
@@ -141,3 +142,16 @@ work-keeps tick reads dropped keys news k many few is =
           let comes = keyed-length tick k.next_id keys news many in
           omega (arith, long, stays, comes, few);
     }
+
+pub now-worked : (tick : ℕ) (reads dropped : List ℕ) (keys : List Keys) (news : List PlainNewEntry) (k : Kept) (count : ℕ) (es : List PlainEntry) → count ≡ length news
+    → es ≡ with_uses tick reads (without dropped k.entries) ++ keyed_entries tick k.next_id keys news
+    → (let state : Kept = record { next_id = k.next_id + count; entries = es } in state ≡ worked tick reads dropped keys news k)
+now-worked tick reads dropped keys news k count es n e = λ i. record { next_id = k.next_id + n i; entries = e i }
+
+-- with the keys that the new results have
+pub worked-is : (digests : Digests) (tick : ℕ) (reads dropped : List ℕ) (keys : List Keys) (news : List PlainNewEntry) (k : Kept) → keys ≡ map (keys_of digests) news
+    → worked tick reads dropped keys news k ≡ after_work digests tick reads dropped news k
+worked-is digests tick reads dropped keys news k has =
+    let come : keyed_entries tick k.next_id keys news ≡ new_entries digests tick k.next_id news =
+    ap (λ (ks : List Keys). keyed_entries tick k.next_id ks news) has ∙ keyed-are digests tick k.next_id news in
+    λ i. record { next_id = k.next_id + length news; entries = with_uses tick reads (without dropped k.entries) ++ come i }

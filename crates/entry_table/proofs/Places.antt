@@ -1,6 +1,8 @@
 -- Where the entry of an id stands among entries whose ids ascend.
-use Rattle.std.proofs.Common.{◌≡◌, ℕ, zero, suc, ◌<◌, ◌≤◌, ◌&&◌, ◌==◌, Bool, true, false, cond, List, [], ◌∷◌, length, get_or, slice_get, position, nat_lt, Option, Some, None, Result, Ok, Err, IfSome, MatchOption, inl, inr, refl, sym, ap, subst, ◌∙◌, arith}
-use Rattle.std.specs.List.{position_or_len, find, AllWithin}
+use Rattle.std.proofs.Common.{◌≡◌, ℕ, zero, suc, ◌<◌, ◌≤◌, ◌+◌, ◌&&◌, ◌||◌, ◌==◌, Bool, true, false, cond, List, [], ◌∷◌, length, get_or, slice_get, position, nat_lt, Option, Some, None, Result, Ok, Err, IfSome, MatchOption, inl, inr, refl, sym, ap, subst, ◌∙◌, arith}
+use Rattle.std.specs.List.{position_or_len, position_from, list_any, find, AllWithin}
+use Rattle.std.specs.Option.{is_some}
+use Rattle.std.proofs.lemmas.Iterator.Adapters.{position_from-zero}
 use Rattle.std.specs.List.Sorted.{IsBinarySearchResult, IsSearchInRange}
 use Rattle.std.specs.Ordering.{nat_cmp, ordering_index}
 use Rattle.std.specs.declared.cmp.Ordering.TheVariants.{Less, Equal, Greater}
@@ -93,6 +95,11 @@ pub place-low : (es : List PlainEntry) (r : Result ℕ ℕ) (o : Option ℕ) →
 place-low es (Ok i) o is low = subst (λ (o : Option ℕ). IfSome o (λ place. place < length es)) (sym is) low
 place-low es (Err i) o is low = subst (λ (o : Option ℕ). IfSome o (λ place. place < length es)) (sym is) tt
 
+past : (xs : List PlainEntry) (n : ℕ) → length xs ≤ n → slice_get xs n ≡ None
+past [] n most = refl
+past (x ∷ xs) zero most = absurd (omega (arith, most))
+past (x ∷ xs) (suc n) most = past xs n (omega (arith, most))
+
 -- the entry at the place of the id is the one with the id
 pub found-at : (es : List PlainEntry) (p : PlainEntry → Bool) → MatchOption (position p es) (find p es ≡ None) (λ place. find p es ≡ slice_get es place)
 found-at es p = by (nat_lt (position_or_len p es) (length es)) refl
@@ -101,7 +108,29 @@ found-at es p = by (nat_lt (position_or_len p es) (length es)) refl
     by true e = find_at p es
     by false e = find_at p es ∙ past es (position_or_len p es) (grind (arith, nat_tests))
 
-    past : (xs : List PlainEntry) (n : ℕ) → length xs ≤ n → slice_get xs n ≡ None
-    past [] n most = refl
-    past (x ∷ xs) zero most = absurd (omega (arith, most))
-    past (x ∷ xs) (suc n) most = past xs n (omega (arith, most))
+-- there is a place exactly where an entry passes
+some-any : (p : PlainEntry → Bool) (i : ℕ) (es : List PlainEntry) → is_some (position_from p i es) ≡ list_any p es
+some-any p i [] = refl
+some-any p i (e ∷ es) = by (p e) (some-any p (i + 1) es)
+  where
+    by : (b : Bool) → is_some (position_from p (i + 1) es) ≡ list_any p es → is_some (cond b (Some i) (position_from p (i + 1) es)) ≡ b || list_any p es
+    by true rest = refl
+    by false rest = rest
+
+pub has-place : (p : PlainEntry → Bool) (es : List PlainEntry) → is_some (position p es) ≡ list_any p es
+has-place p es = ap is_some (position_from-zero p es) ∙ some-any p 0 es
+
+pub none-found : (es : List PlainEntry) (p : PlainEntry → Bool) (o : Option ℕ) → o ≡ position p es → o ≡ None → find p es ≡ None
+none-found es p o is none =
+    subst (λ (o : Option ℕ). MatchOption o (find p es ≡ None) (λ place. find p es ≡ slice_get es place)) (sym is ∙ none) (found-at es p)
+
+entry-there : (es : List PlainEntry) (place : ℕ) (x : PlainEntry) → place < length es → x ≡ get_or es place x → slice_get es place ≡ Some x
+entry-there [] place x low is = absurd (omega (arith, low))
+entry-there (y ∷ ys) zero x low is = ap Some (sym is)
+entry-there (y ∷ ys) (suc n) x low is = entry-there ys n x (omega (arith, low)) is
+
+pub entry-found : (es : List PlainEntry) (p : PlainEntry → Bool) (o : Option ℕ) (place : ℕ) (x : PlainEntry) → o ≡ position p es → o ≡ Some place → place < length es → x ≡ get_or es place x
+    → find p es ≡ Some x
+entry-found es p o place x is some low there =
+    subst (λ (o : Option ℕ). MatchOption o (find p es ≡ None) (λ place. find p es ≡ slice_get es place)) (sym is ∙ some) (found-at es p)
+    ∙ entry-there es place x low there

@@ -2,6 +2,7 @@
 ghost use Rattle.std.specs.Prelude.{◌≡◌, ◌++◌, IfOk, OnOk, map};
 ghost use Rattle.std.specs.List.{AllByRecursion};
 ghost use Rattle.plan_spelling.specs.Spelling.{HasPlanSpelling};
+ghost use Rattle.entry_table.specs.Keyed.{Digests, chain_at, chains_at, keys_of};
 
 use catalog_types::NewEntry;
 use fingerprints::{data_key, program_key};
@@ -19,8 +20,6 @@ pub struct Keys {
 
 /// What tells the chains of streams.
 pub trait Chains {
-    ghost use Rattle.entry_table.specs.Keyed.{Digests, chain_at};
-
     // Of each stream the digests of its extents, in the order of appending.
     ghost digests: { Self → Digests };
 
@@ -31,8 +30,6 @@ pub trait Chains {
 }
 
 impl Keys {
-    ghost use Rattle.entry_table.specs.Keyed.{keys_of, chains_at};
-
     /// The keys of a new result.
     pub fn of<C: Chains>(alloc: Global, chains: &C, new: &NewEntry) -> Result<Keys, Memory>
         requires { HasPlanSpelling new.now.plan }

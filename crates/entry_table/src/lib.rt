@@ -3,6 +3,7 @@
 
 mod ids;
 mod keys;
+pub mod laws;
 mod results;
 mod table;
 mod uses;

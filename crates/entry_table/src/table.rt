@@ -75,7 +75,7 @@ impl EntryTable {
         ensures { option_copied result ≡ find (λ e. e.id == id) (kept_of self.now).entries }
     {
         let place = place_of(self.entries.as_slice(), id)?;
-        self.entries.get(place)
+        Some(&self.entries[place])
     }
 
     /// Whether a piece of work fits: it reads entries with these ids, drops others and keeps these results,
