@@ -1,15 +1,15 @@
 -- The kept results stay what they are: work and collections keep their ids in order and few enough.
-use Rattle.std.proofs.Common.{◌≡◌, ℕ, zero, suc, ◌+◌, ◌<◌, ◌≤◌, ◌&&◌, Bool, true, false, not, cond, List, [], ◌∷◌, ◌++◌, length, map, nat_lt, refl, sym, ap, ◌∙◌, length-append, arith}
-use Rattle.std.specs.List.{list_all}
+use Rattle.std.proofs.Common.{◌≡◌, ℕ, zero, suc, ◌+◌, ◌<◌, ◌≤◌, ◌&&◌, Bool, true, false, not, cond, List, [], ◌∷◌, ◌++◌, length, map, nat_lt, IsTrue, refl, sym, ap, ◌∙◌, length-append, arith}
+use Rattle.std.specs.List.{AllByRecursion, list_all}
 use Rattle.std.proofs.lemmas.Bool.{ltb-true, lt-ltb}
 use Rattle.catalog_types.specs.PlainEntry.{PlainEntry, PlainNewEntry}
 use Rattle.entry_table.specs.declared.keys.Keys.{Keys}
 use Rattle.entry_table.specs.Ids.{ids_of, ascend_above, is_among, without}
 use Rattle.entry_table.specs.Keying.{keyed_entries}
-use Rattle.entry_table.specs.Results.{most_entries}
+use Rattle.entry_table.specs.Results.{AreNew, Differ, IsNewTo, IsOf, IsResult}
 use Rattle.entry_table.specs.Work.{Kept, used, with_uses, with_use, new_entry, new_entries, after_work}
 use Rattle.entry_table.specs.Keyed.{Digests, keys_of}
-use Rattle.entry_table.specs.AreKept.{AreKept}
+use Rattle.entry_table.specs.AreKept.{AreKept, AreAlike, IsEntry, NoTwoAreAlike}
 use Rattle.entry_table.proofs.Lists.{without-within, uses-length, keyed-length, keyed-are}
 use Rattle.entry_table.proofs.Places.{both}
 
@@ -105,6 +105,102 @@ ids-append : (xs ys : List PlainEntry) → ids_of (xs ++ ys) ≡ ids_of xs ++ id
 ids-append [] ys = refl
 ids-append (x ∷ xs) ys = ap (λ (ids : List ℕ). x.id ∷ ids) (ids-append xs ys)
 
+-- ---- entries one by one
+
+all-map : {A : Type 0} (P Q : A → Type 0) → ((x : A) → P x → Q x) → (xs : List A) → AllByRecursion P xs → AllByRecursion Q xs
+all-map P Q f [] all = tt
+all-map P Q f (x ∷ xs) all = (f x all.0, all-map P Q f xs all.1)
+
+all-append : (P : PlainEntry → Type 0) (xs ys : List PlainEntry) → AllByRecursion P xs → AllByRecursion P ys → AllByRecursion P (xs ++ ys)
+all-append P [] ys front behind = behind
+all-append P (x ∷ xs) ys front behind = (front.0, all-append P xs ys front.1 behind)
+
+all-without : (P : PlainEntry → Type 0) (ids : List ℕ) (es : List PlainEntry) → AllByRecursion P es → AllByRecursion P (without ids es)
+all-without P ids [] all = tt
+all-without P ids (e ∷ es) all = by (not (is_among ids e.id)) (all-without P ids es all.1)
+  where
+    by : (b : Bool) → AllByRecursion P (without ids es) → AllByRecursion P (cond b (e ∷ without ids es) (without ids es))
+    by true rest = (all.0, rest)
+    by false rest = rest
+
+-- what a use keeps of each entry
+all-used : (P Q : PlainEntry → Type 0) (tick : ℕ) (ids : List ℕ) → ((e : PlainEntry) → P e → Q e × Q (with_use tick e)) → (es : List PlainEntry) → AllByRecursion P es → AllByRecursion Q (with_uses tick ids es)
+all-used P Q tick ids f [] all = tt
+all-used P Q tick ids f (e ∷ es) all = (by (is_among ids e.id), all-used P Q tick ids f es all.1)
+  where
+    by : (b : Bool) → Q (cond b (with_use tick e) e)
+    by true = (f e all.0).1
+    by false = (f e all.0).0
+
+-- what new results bring
+all-keyed : (P : PlainNewEntry → Type 0) (Q : PlainEntry → Type 0) (tick : ℕ) → ((id : ℕ) (k : Keys) (new : PlainNewEntry) → P new → Q (new_entry tick id k new)) → (id : ℕ) (keys : List Keys) (news : List PlainNewEntry)
+    → AllByRecursion P news → AllByRecursion Q (keyed_entries tick id keys news)
+all-keyed P Q tick f id [] news all = tt
+all-keyed P Q tick f id (k ∷ keys) [] all = tt
+all-keyed P Q tick f id (k ∷ keys) (new ∷ news) all = (f id k new all.0, all-keyed P Q tick f (id + 1) keys news all.1)
+
+entry-used : (tick : ℕ) (e : PlainEntry) → IsEntry e → IsEntry e × IsEntry (with_use tick e)
+entry-used tick e is = (
+  is,
+  record {
+    used = omega (arith, is.used);
+    counted = omega (arith, is.counted);
+    machine = is.machine;
+    short = is.short;
+  },
+)
+
+entry-new : (tick id : ℕ) (k : Keys) (new : PlainNewEntry) → IsResult new → IsEntry (new_entry tick id k new)
+entry-new tick id k new is = record { used = omega arith; counted = omega arith; machine = is.1; short = is.0 }
+
+-- ---- entries that are alike
+
+differ-without : (ids : List ℕ) (es : List PlainEntry) → NoTwoAreAlike es → NoTwoAreAlike (without ids es)
+differ-without ids [] differ = tt
+differ-without ids (e ∷ es) differ = by (not (is_among ids e.id)) (differ-without ids es differ.1)
+  where
+    by : (b : Bool) → NoTwoAreAlike (without ids es) → NoTwoAreAlike (cond b (e ∷ without ids es) (without ids es))
+    by true rest = (all-without (λ other. ¬ (AreAlike e other)) ids es differ.0, rest)
+    by false rest = rest
+
+-- a use doesn't change whether two are alike
+unlike-used : (tick : ℕ) (ids : List ℕ) (e : PlainEntry) (xs : List PlainEntry) → AllByRecursion (λ other. ¬ (AreAlike e other)) xs → AllByRecursion (λ other. ¬ (AreAlike (used tick ids e) other)) xs
+unlike-used tick ids e xs all = by (is_among ids e.id)
+  where
+    by : (b : Bool) → AllByRecursion (λ other. ¬ (AreAlike (cond b (with_use tick e) e) other)) xs
+    by true = all
+    by false = all
+
+differ-used : (tick : ℕ) (ids : List ℕ) (es : List PlainEntry) → NoTwoAreAlike es → NoTwoAreAlike (with_uses tick ids es)
+differ-used tick ids [] differ = tt
+differ-used tick ids (e ∷ es) differ =
+    (unlike-used tick ids e (with_uses tick ids es) (all-used (λ other. ¬ (AreAlike e other)) (λ other. ¬ (AreAlike e other)) tick ids (λ other un. (un, un)) es differ.0), differ-used tick ids es differ.1)
+
+differ-keyed : (tick id : ℕ) (keys : List Keys) (news : List PlainNewEntry) → Differ news → NoTwoAreAlike (keyed_entries tick id keys news)
+differ-keyed tick id [] news differ = tt
+differ-keyed tick id (k ∷ keys) [] differ = tt
+differ-keyed tick id (k ∷ keys) (new ∷ news) differ =
+    (all-keyed (λ other. ¬ (IsOf new.plan new.cuts other)) (λ other. ¬ (AreAlike (new_entry tick id k new) other)) tick (λ _ _ other un. un) (id + 1) keys news differ.0, differ-keyed tick (id + 1) keys news differ.1)
+
+differ-append : (xs ys : List PlainEntry) → NoTwoAreAlike xs → NoTwoAreAlike ys → AllByRecursion (λ x. AllByRecursion (λ other. ¬ (AreAlike x other)) ys) xs → NoTwoAreAlike (xs ++ ys)
+differ-append [] ys front behind across = behind
+differ-append (x ∷ xs) ys front behind across = (all-append (λ other. ¬ (AreAlike x other)) xs ys front.0 across.0, differ-append xs ys front.1 behind across.1)
+
+-- no entry that stays is alike a new one
+across : (tick id : ℕ) (reads dropped : List ℕ) (keys : List Keys) (news : List PlainNewEntry) (es : List PlainEntry) → AllByRecursion (IsNewTo es dropped) news
+    → AllByRecursion (λ x. AllByRecursion (λ other. ¬ (AreAlike x other)) (keyed_entries tick id keys news)) (with_uses tick reads (without dropped es))
+across tick id reads dropped keys news [] new = tt
+across tick id reads dropped keys news (e ∷ es) new =
+    by (not (is_among dropped e.id)) (all-map (IsNewTo (e ∷ es) dropped) (λ n. IsTrue (not (is_among dropped e.id)) → ¬ (IsOf e.plan e.cuts n)) (λ n all. all.0) news new)
+    (across tick id reads dropped keys news es (all-map (IsNewTo (e ∷ es) dropped) (IsNewTo es dropped) (λ n all. all.1) news new))
+  where
+    by : (b : Bool) → AllByRecursion (λ n. IsTrue b → ¬ (IsOf e.plan e.cuts n)) news
+        → AllByRecursion (λ x. AllByRecursion (λ other. ¬ (AreAlike x other)) (keyed_entries tick id keys news)) (with_uses tick reads (without dropped es))
+        → AllByRecursion (λ x. AllByRecursion (λ other. ¬ (AreAlike x other)) (keyed_entries tick id keys news)) (with_uses tick reads (cond b (e ∷ without dropped es) (without dropped es)))
+    by true heads rest =
+        (unlike-used tick reads e (keyed_entries tick id keys news) (all-keyed (λ n. IsTrue true → ¬ (IsOf e.plan e.cuts n)) (λ other. ¬ (AreAlike e other)) tick (λ _ _ n un. un refl) id keys news heads), rest)
+    by false heads rest = rest
+
 -- ---- work and collections
 
 pub collection-keeps : (ids : List ℕ) (k : Kept) → AreKept k → AreKept (record { next_id = k.next_id; entries = without ids k.entries })
@@ -113,6 +209,8 @@ collection-keeps ids k is = record {
   ascend = ascend-without ids 0 k.entries is.ascend;
   below = below-without k.next_id ids k.entries is.below;
   few = let less = without-within ids k.entries in omega (arith, less, is.few);
+  are_entries = all-without IsEntry ids k.entries is.are_entries;
+  differ = differ-without ids k.entries is.differ;
 }
 
 -- these are the entries after work, with keys that are known
@@ -123,8 +221,8 @@ worked tick reads dropped keys news k = record {
 }
 
 pub work-keeps : (tick : ℕ) (reads dropped : List ℕ) (keys : List Keys) (news : List PlainNewEntry) (k : Kept) → length keys ≡ length news
-    → length (without dropped k.entries) + length news ≤ most_entries → AreKept k → AreKept (worked tick reads dropped keys news k)
-work-keeps tick reads dropped keys news k many few is =
+    → AreNew k.entries dropped news → AreKept k → AreKept (worked tick reads dropped keys news k)
+work-keeps tick reads dropped keys news k many new is =
     let stay = with_uses tick reads (without dropped k.entries) in
     let come = keyed_entries tick k.next_id keys news in
     let same = ids-used tick reads (without dropped k.entries) in
@@ -140,7 +238,12 @@ work-keeps tick reads dropped keys news k many few is =
           let long = length-append stay come in
           let stays = uses-length tick reads (without dropped k.entries) in
           let comes = keyed-length tick k.next_id keys news many in
-          omega (arith, long, stays, comes, few);
+          omega (arith, long, stays, comes, new.few);
+      are_entries = all-append IsEntry stay come
+          (all-used IsEntry IsEntry tick reads (λ e it. entry-used tick e it) (without dropped k.entries) (all-without IsEntry dropped k.entries is.are_entries))
+          (all-keyed IsResult IsEntry tick (λ id ks n it. entry-new tick id ks n it) k.next_id keys news new.results);
+      differ = differ-append stay come (differ-used tick reads (without dropped k.entries) (differ-without dropped k.entries is.differ)) (differ-keyed tick k.next_id keys news new.differ)
+          (across tick k.next_id reads dropped keys news k.entries new.new);
     }
 
 pub now-worked : (tick : ℕ) (reads dropped : List ℕ) (keys : List Keys) (news : List PlainNewEntry) (k : Kept) (count : ℕ) (es : List PlainEntry) → count ≡ length news

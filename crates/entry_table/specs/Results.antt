@@ -55,11 +55,15 @@ abbrev pub Differ : List PlainNewEntry → Type 0
 Differ [] = Unit {0}
 Differ (new ∷ news) = AllByRecursion (λ other. ¬ (IsOf new.plan new.cuts other)) news × Differ news
 
--- These may be kept where these of the entries are dropped, and the next file has this number.
-pub record MayBeKept (entries : List PlainEntry) (dropped : List ℕ) (next_file : ℕ) (kept : List PlainNewEntry) : Type 0 where
+-- Beside the entries but for those that are dropped they are few enough, and none has the plan and cut of another.
+pub record AreNew (entries : List PlainEntry) (dropped : List ℕ) (kept : List PlainNewEntry) : Type 0 where
   pub few : length (without dropped entries) + length kept ≤ most_entries
-  pub files : HaveNextFiles next_file kept
   pub results : AllByRecursion IsResult kept
   pub new : AllByRecursion (IsNewTo entries dropped) kept
   pub differ : Differ kept
+
+-- These may be kept where these of the entries are dropped, and the next file has this number.
+pub record MayBeKept (entries : List PlainEntry) (dropped : List ℕ) (next_file : ℕ) (kept : List PlainNewEntry) : Type 0 where
+  pub are_new : AreNew entries dropped kept
+  pub files : HaveNextFiles next_file kept
   pub short : AllByRecursion IsShort kept

@@ -5,7 +5,7 @@ ghost use Rattle.plan_core.specs.PlainPlan.{plan_of};
 ghost use Rattle.plan_spelling.specs.Spelling.{HasPlanSpelling, plan_spelling};
 ghost use Rattle.entry_table.specs.Ids.{is_among, without};
 ghost use Rattle.entry_table.specs.Results.{MayBeKept, HaveNextFiles, IsResult, IsNewTo, Differ, IsOf};
-ghost use Rattle.entry_table.specs.Results.{IsShort, most_entries};
+ghost use Rattle.entry_table.specs.Results.{AreNew, IsShort, most_entries};
 
 use crate::ids::{count_without, is_among};
 use catalog_types::{Entry, NewEntry};
@@ -40,15 +40,20 @@ pub(crate) fn may_be_kept(
     requires spelled { AllByRecursion (λ new. HasPlanSpelling new.plan) kept.now }
     ensures { IfOk result (λ may. IsTrue may ↔ MayBeKept entries.now dropped.now next_file kept.now) }
 {
-    let are = are_few(entries, dropped, kept)
-        && have_next_files(next_file, kept)
-        && are_results(kept)
-        && are_new_to(entries, dropped, kept)
-        && differ(kept);
-    if !are {
+    if !are_new(entries, dropped, kept) || !have_next_files(next_file, kept) {
         return Ok(false);
     }
     are_short(alloc, kept)
+}
+
+fn are_new(entries: &[Entry], dropped: &[u32], kept: &[NewEntry]) -> bool
+    requires { length entries.now ≤ most_entries }
+    ensures { IsTrue result ↔ AreNew entries.now dropped.now kept.now }
+{
+    are_few(entries, dropped, kept)
+        && are_results(kept)
+        && are_new_to(entries, dropped, kept)
+        && differ(kept)
 }
 
 fn are_few(entries: &[Entry], dropped: &[u32], kept: &[NewEntry]) -> bool

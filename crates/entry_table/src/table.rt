@@ -29,9 +29,8 @@ pub struct EntryTable {
 impl EntryTable {
     ghost use Rattle.std.specs.Prelude.{option_copied, ◌==◌};
     ghost use Rattle.std.specs.List.{find};
-    ghost use Rattle.entry_table.specs.Ids.{without};
     ghost use Rattle.entry_table.specs.Keyed.{Digests, keys_of};
-    ghost use Rattle.entry_table.specs.Results.{most_entries};
+    ghost use Rattle.entry_table.specs.Results.{AreNew};
     ghost use Rattle.entry_table.specs.Work.{FitsWork, FitsCollection, after_work, after_collection};
     ghost use Rattle.entry_table.specs.Work.{none_kept};
     ghost use Rattle.entry_table.specs.Tables.{kept_of, HasRoom, HasKeys};
@@ -117,8 +116,7 @@ impl EntryTable {
     /// Does the work that it was prepared for, as the command of this tick. It takes no memory.
     pub fn apply_work(&mut self, tick: u32, reads: &[u32], dropped: &[u32], kept: Seq<NewEntry>)
         requires room { HasRoom kept self.old }
-        requires few { length (without dropped.now (kept_of self.old).entries) + length kept
-            ≤ most_entries }
+        requires new { AreNew (kept_of self.old).entries dropped.now kept }
         requires ids { (kept_of self.old).next_id + length kept ≤ 4294967296 }
         ensures { (digests : Digests) → HasKeys digests kept self.old → kept_of self.new
             ≡ after_work digests tick reads.now dropped.now kept (kept_of self.old) }
