@@ -1,11 +1,11 @@
 -- Lists of entries: some left out, some used, and new ones behind.
-use Rattle.std.proofs.Common.{◌≡◌, ℕ, zero, suc, ◌+◌, ◌<◌, ◌≤◌, Bool, true, false, not, cond, List, [], ◌∷◌, ◌++◌, length, map, get_or, take, drop, slice_set, refl, sym, ap, ◌∙◌, add-one, arith}
+use Rattle.std.proofs.Common.{◌≡◌, ℕ, zero, suc, ◌+◌, ◌<◌, ◌≤◌, Bool, true, false, not, cond, List, [], ◌∷◌, ◌++◌, length, map, get_or, take, drop, slice_set, refl, ap, arith}
 use Rattle.catalog_types.specs.PlainEntry.{PlainEntry, PlainNewEntry}
 use Rattle.entry_table.specs.declared.keys.Keys.{Keys}
 use Rattle.entry_table.specs.Ids.{is_among, without}
 use Rattle.entry_table.specs.Keyed.{Digests, keys_of}
 use Rattle.entry_table.specs.Keying.{keyed_entries}
-use Rattle.entry_table.specs.Work.{used, with_uses, new_entry, new_entries}
+use Rattle.entry_table.specs.Work.{with_uses, new_entry, new_entries}
 
 -- no more are left than there were
 pub without-within : (ids : List ℕ) (es : List PlainEntry) → length (without ids es) ≤ length es

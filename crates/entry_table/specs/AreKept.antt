@@ -1,5 +1,5 @@
 -- What is true of the kept results that work and collections make of none.
-use Rattle.std.specs.Prelude.{◌≡◌, ℕ, ◌<◌, ◌≤◌, nat_lt, List, [], ◌∷◌, length, IsTrue}
+use Rattle.std.specs.Prelude.{◌≡◌, ◌<◌, ◌≤◌, nat_lt, List, [], ◌∷◌, length, IsTrue}
 use Rattle.std.specs.Coded.{Coded-set, coded_bool, le_prop}
 use Rattle.std.specs.List.{AllByRecursion, AllByRecursion-prop, list_all}
 use Rattle.catalog_types.specs.PlainEntry.{PlainEntry}

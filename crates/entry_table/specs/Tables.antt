@@ -1,5 +1,5 @@
 -- The entries that a table holds, and what it is prepared for.
-use Rattle.std.specs.Prelude.{◌≡◌, ℕ, ◌+◌, ◌≤◌, List, length, map, vec_capacity}
+use Rattle.std.specs.Prelude.{◌≡◌, ◌+◌, ◌≤◌, List, length, map, vec_capacity}
 use Rattle.catalog_types.specs.PlainEntry.{PlainNewEntry}
 use Rattle.entry_table.specs.declared.table.EntryTable.{EntryTable}
 use Rattle.entry_table.specs.Keyed.{Digests, keys_of}

@@ -1,5 +1,4 @@
-use Rattle.std.proofs.Common.{◌≡◌, ◌+◌, ◌++◌, ◌∙◌, sym, ap, subst, List, length, Vec, Global, arith}
-use Rattle.catalog_types.specs.PlainEntry.{PlainEntry}
+use Rattle.std.proofs.Common.{◌≡◌, ◌++◌, ◌∙◌, sym, ap, subst, length, Vec, Global, arith}
 use Rattle.entry_table.specs.declared.keys.Keys.{Keys}
 use Rattle.entry_table.specs.Ids.{without}
 use Rattle.entry_table.specs.Keying.{keyed_entries}

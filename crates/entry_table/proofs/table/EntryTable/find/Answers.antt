@@ -1,4 +1,4 @@
-use Rattle.std.proofs.Common.{◌≡◌, ◌<◌, ◌==◌, ◌∙◌, Bool, sym, ap, List, length, position, arith}
+use Rattle.std.proofs.Common.{◌<◌, ◌==◌, ◌∙◌, Bool, sym, ap, List, length, position, arith}
 use Rattle.std.specs.List.{find}
 use Rattle.std.specs.Option.{option_copied}
 use Rattle.catalog_types.specs.PlainEntry.{PlainEntry}
