@@ -107,15 +107,15 @@ ids-append (x ∷ xs) ys = ap (λ (ids : List ℕ). x.id ∷ ids) (ids-append xs
 
 -- ---- entries one by one
 
-all-map : {A : Type 0} (P Q : A → Type 0) → ((x : A) → P x → Q x) → (xs : List A) → AllByRecursion P xs → AllByRecursion Q xs
+pub all-map : {A : Type 0} (P Q : A → Type 0) → ((x : A) → P x → Q x) → (xs : List A) → AllByRecursion P xs → AllByRecursion Q xs
 all-map P Q f [] all = tt
 all-map P Q f (x ∷ xs) all = (f x all.0, all-map P Q f xs all.1)
 
-all-append : (P : PlainEntry → Type 0) (xs ys : List PlainEntry) → AllByRecursion P xs → AllByRecursion P ys → AllByRecursion P (xs ++ ys)
+pub all-append : (P : PlainEntry → Type 0) (xs ys : List PlainEntry) → AllByRecursion P xs → AllByRecursion P ys → AllByRecursion P (xs ++ ys)
 all-append P [] ys front behind = behind
 all-append P (x ∷ xs) ys front behind = (front.0, all-append P xs ys front.1 behind)
 
-all-without : (P : PlainEntry → Type 0) (ids : List ℕ) (es : List PlainEntry) → AllByRecursion P es → AllByRecursion P (without ids es)
+pub all-without : (P : PlainEntry → Type 0) (ids : List ℕ) (es : List PlainEntry) → AllByRecursion P es → AllByRecursion P (without ids es)
 all-without P ids [] all = tt
 all-without P ids (e ∷ es) all = by (not (is_among ids e.id)) (all-without P ids es all.1)
   where
@@ -124,7 +124,7 @@ all-without P ids (e ∷ es) all = by (not (is_among ids e.id)) (all-without P i
     by false rest = rest
 
 -- what a use keeps of each entry
-all-used : (P Q : PlainEntry → Type 0) (tick : ℕ) (ids : List ℕ) → ((e : PlainEntry) → P e → Q e × Q (with_use tick e)) → (es : List PlainEntry) → AllByRecursion P es → AllByRecursion Q (with_uses tick ids es)
+pub all-used : (P Q : PlainEntry → Type 0) (tick : ℕ) (ids : List ℕ) → ((e : PlainEntry) → P e → Q e × Q (with_use tick e)) → (es : List PlainEntry) → AllByRecursion P es → AllByRecursion Q (with_uses tick ids es)
 all-used P Q tick ids f [] all = tt
 all-used P Q tick ids f (e ∷ es) all = (by (is_among ids e.id), all-used P Q tick ids f es all.1)
   where
@@ -133,7 +133,7 @@ all-used P Q tick ids f (e ∷ es) all = (by (is_among ids e.id), all-used P Q t
     by false = (f e all.0).0
 
 -- what new results bring
-all-keyed : (P : PlainNewEntry → Type 0) (Q : PlainEntry → Type 0) (tick : ℕ) → ((id : ℕ) (k : Keys) (new : PlainNewEntry) → P new → Q (new_entry tick id k new)) → (id : ℕ) (keys : List Keys) (news : List PlainNewEntry)
+pub all-keyed : (P : PlainNewEntry → Type 0) (Q : PlainEntry → Type 0) (tick : ℕ) → ((id : ℕ) (k : Keys) (new : PlainNewEntry) → P new → Q (new_entry tick id k new)) → (id : ℕ) (keys : List Keys) (news : List PlainNewEntry)
     → AllByRecursion P news → AllByRecursion Q (keyed_entries tick id keys news)
 all-keyed P Q tick f id [] news all = tt
 all-keyed P Q tick f id (k ∷ keys) [] all = tt

@@ -2,3 +2,4 @@ pub mod Lists
 pub mod Places
 pub mod Growth
 pub mod Files
+pub mod Past

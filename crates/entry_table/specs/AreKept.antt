@@ -1,5 +1,5 @@
 -- What is true of the kept results that work and collections make of none.
-use Rattle.std.specs.Prelude.{◌≡◌, ◌<◌, ◌≤◌, nat_lt, List, [], ◌∷◌, length, IsTrue}
+use Rattle.std.specs.Prelude.{◌≡◌, ℕ, ◌<◌, ◌≤◌, nat_lt, List, [], ◌∷◌, length, IsTrue}
 use Rattle.std.specs.Coded.{Coded-set, coded_bool, le_prop}
 use Rattle.std.specs.List.{AllByRecursion, AllByRecursion-prop, list_all}
 use Rattle.catalog_types.specs.PlainEntry.{PlainEntry}
@@ -13,6 +13,10 @@ pub record IsEntry (e : PlainEntry) : Type 0 where
   pub counted : e.uses ≤ most_uses
   pub machine : 0 < e.machine
   pub short : e.file.len ≤ most_result_bytes
+
+-- it was made at or before its last use, which was at or before this tick
+abbrev pub IsPast : ℕ → PlainEntry → Type 0
+IsPast tick e = (e.made ≤ e.last) × (e.last ≤ tick)
 
 -- they are of the same plan and cut
 abbrev pub AreAlike : PlainEntry → PlainEntry → Type 0

@@ -3,10 +3,10 @@ use Rattle.std.specs.Prelude.{◌≡◌, ◌+◌, ◌≤◌, List, length, map, 
 use Rattle.catalog_types.specs.PlainEntry.{PlainNewEntry}
 use Rattle.entry_table.specs.declared.table.EntryTable.{EntryTable}
 use Rattle.entry_table.specs.Keyed.{Digests, keys_of}
-use Rattle.entry_table.specs.Work.{Kept}
+use Rattle.entry_table.specs.Work.{Kept, kept_with}
 
 abbrev pub kept_of : EntryTable → Kept
-kept_of table = record { next_id = table.next_id; entries = table.entries.items }
+kept_of table = kept_with table.next_id table.entries.items
 
 -- ---- room for a piece of work, so that it wants no memory
 

@@ -11,8 +11,11 @@ pub record Kept : Type 0 where
   pub next_id : ℕ
   pub entries : List PlainEntry
 
+abbrev pub kept_with : ℕ → List PlainEntry → Kept
+kept_with next_id entries = record { next_id = next_id; entries = entries }
+
 abbrev pub none_kept : Kept
-none_kept = record { next_id = 1; entries = [] }
+none_kept = kept_with 1 []
 
 -- ---- which fit
 
@@ -67,10 +70,9 @@ new_entries digests tick id (new ∷ news) =
 
 -- Those that are dropped are gone, those that were read have a use more, and the new ones stand behind with the next ids.
 abbrev pub after_work : Digests → ℕ → List ℕ → List ℕ → List PlainNewEntry → Kept → Kept
-after_work digests tick reads dropped news k = record {
-  next_id = k.next_id + length news;
-  entries = with_uses tick reads (without dropped k.entries) ++ new_entries digests tick k.next_id news;
-}
+after_work digests tick reads dropped news k =
+    kept_with (k.next_id + length news)
+    (with_uses tick reads (without dropped k.entries) ++ new_entries digests tick k.next_id news)
 
 abbrev pub after_collection : List ℕ → Kept → Kept
-after_collection ids k = record k { entries = without ids k.entries }
+after_collection ids k = kept_with k.next_id (without ids k.entries)

@@ -1,7 +1,8 @@
 //! Lists of ids.
 ghost use Rattle.std.specs.Prelude.{◌≡◌, ◌↔◌, ◌≤◌, length, position, IsTrue, IfSome, ◌==◌, ◌<◌};
 ghost use Rattle.std.specs.List.{list_all};
-ghost use Rattle.entry_table.specs.Ids.{ids_of, ascend_above, is_among, is_there, are_apart, AreIdsOf, without};
+ghost use Rattle.entry_table.specs.Ids.{ids_of, ascend_above, is_among, is_there, are_apart, AreIdsOf};
+ghost use Rattle.entry_table.specs.Ids.{without};
 
 use catalog_types::Entry;
 

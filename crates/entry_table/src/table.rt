@@ -3,6 +3,7 @@ ghost use Rattle.std.specs.Prelude.{◌≡◌, ◌↔◌, ◌+◌, ◌≤◌, le
 ghost use Rattle.std.specs.List.{AllByRecursion};
 ghost use Rattle.plan_spelling.specs.Spelling.{HasPlanSpelling};
 ghost use Rattle.entry_table.specs.AreKept.{AreKept, AreKept-prop};
+ghost use Rattle.entry_table.specs.Work.{kept_with};
 
 use crate::ids::{are_apart, are_ids_of, place_of};
 use crate::keys::{Chains, Keys};
@@ -23,7 +24,8 @@ pub struct EntryTable {
     /// The keys of the results that are to be kept next.
     spare_keys: Vec<Keys>,
     alloc: Global,
-    ghost sound: { AreKept (record { next_id = next_id; entries = entries.items }) } by { AreKept-prop (record { next_id = next_id; entries = entries.items }) },
+    ghost sound: { AreKept (kept_with next_id entries.items) } by { AreKept-prop (kept_with next_id
+        entries.items) },
 }
 
 impl EntryTable {
@@ -78,7 +80,7 @@ impl EntryTable {
     }
 
     /// Whether a piece of work fits: it reads entries with these ids, drops others and keeps these results,
-    /// whose files begin with the next one.
+    /// whose files begin with the next one. `Memory` where that for a plan's spelling is refused.
     pub fn fits_work(
         &self,
         next_file: u64,
@@ -100,7 +102,8 @@ impl EntryTable {
         may_be_kept(self.alloc, entries, dropped, next_file, kept)
     }
 
-    /// Takes all the memory that keeping these results wants: room for them, and their keys. The entries stay.
+    /// Takes all the memory that keeping these results wants: room for them, and their keys. `Memory` where
+    /// it is refused. The entries stay in each case.
     pub fn prepare_work<C: Chains>(&mut self, chains: &C, kept: &[NewEntry]) -> Result<(), Memory>
         requires { AllByRecursion (λ new. HasPlanSpelling new.plan) kept.now }
         ensures same { kept_of self.new ≡ kept_of self.old }
