@@ -1,0 +1,9 @@
+use Rattle.std.proofs.Common.{arith, take}
+use Rattle.std.proofs.lemmas.Grind.{common_steps}
+use Rattle.entry_table.proofs.Lists.{without-within}
+use Rattle.entry_table.proofs.ids.count_without.Goals as goal
+
+pub overflow_add-count : goal.overflow_add-count
+overflow_add-count c =
+    let within = without-within c.args.ids.now (take c.loop-entry.entry-index c.args.entries.now) in
+    grind (arith, common_steps, within, c.loop-entry.invariant, c.loop-entry.auto.entry-index-end, c.loop-entry-test.true, c.loop-entry.auto.count-fits)

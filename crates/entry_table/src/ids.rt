@@ -1,0 +1,96 @@
+//! Lists of ids.
+ghost use Rattle.std.specs.Prelude.{◌≡◌, ◌↔◌, ◌≤◌, length, position, IsTrue, IfSome, ◌==◌, ◌<◌};
+ghost use Rattle.std.specs.List.{list_all};
+ghost use Rattle.entry_table.specs.Ids.{ids_of, ascend_above, is_among, is_there, are_apart, AreIdsOf};
+ghost use Rattle.entry_table.specs.Ids.{without};
+
+use catalog_types::Entry;
+
+/// Whether the ids ascend strictly from 1 on, and each is the id of an entry.
+pub(crate) fn are_ids_of(entries: &[Entry], ids: &[u32]) -> bool
+    requires { IsTrue (ascend_above 0 (ids_of entries.now)) }
+    ensures { IsTrue result ↔ AreIdsOf entries.now ids.now }
+{
+    ascend(ids) && are_there(entries, ids)
+}
+
+/// Whether no id stands in both lists.
+pub(crate) fn are_apart(ids: &[u32], others: &[u32]) -> bool
+    ensures { result ≡ are_apart ids.now others.now }
+{
+    let mut rest = ids;
+    while let [id, behind @ ..] = rest {
+        if is_among(others, *id) {
+            return false;
+        }
+        rest = behind;
+    }
+    true
+}
+
+/// Whether it is one of the ids.
+pub(crate) fn is_among(ids: &[u32], id: u32) -> bool
+    ensures { result ≡ is_among ids.now id }
+{
+    ids.contains(&id)
+}
+
+/// The number of entries whose ids aren't among these.
+pub(crate) fn count_without(entries: &[Entry], ids: &[u32]) -> usize
+    ensures { result ≡ length (without ids.now entries.now) }
+{
+    let mut count = 0;
+    for entry in entries {
+        if !is_among(ids, entry.id) {
+            count += 1;
+        }
+    }
+    count
+}
+
+/// The place of the entry with this id, which is found by a binary search.
+pub(crate) fn place_of(entries: &[Entry], id: u32) -> Option<usize>
+    requires { IsTrue (ascend_above 0 (ids_of entries.now)) }
+    ensures place { result ≡ position (λ e. e.id == id) entries.now }
+    ensures bound { IfSome result (λ place. place < length entries.now) }
+{
+    entries.binary_search_by_key(&id, |entry| entry.id).ok()
+}
+
+// Whether they ascend strictly from 1 on.
+fn ascend(ids: &[u32]) -> bool
+    ensures { result ≡ ascend_above 0 ids.now }
+{
+    let mut last = 0;
+    let mut rest = ids;
+    while let [id, behind @ ..] = rest {
+        if *id <= last {
+            return false;
+        }
+        last = *id;
+        rest = behind;
+    }
+    true
+}
+
+// Whether each is the id of an entry.
+fn are_there(entries: &[Entry], ids: &[u32]) -> bool
+    requires { IsTrue (ascend_above 0 (ids_of entries.now)) }
+    ensures { result ≡ list_all (is_there entries.now) ids.now }
+{
+    let mut rest = ids;
+    while let [id, behind @ ..] = rest {
+        if !is_there(entries, *id) {
+            return false;
+        }
+        rest = behind;
+    }
+    true
+}
+
+fn is_there(entries: &[Entry], id: u32) -> bool
+    requires { IsTrue (ascend_above 0 (ids_of entries.now)) }
+    ensures { result ≡ is_there entries.now id }
+{
+    place_of(entries, id).is_some()
+}

@@ -1,0 +1,25 @@
+//! Laws of kept results.
+ghost use Rattle.std.specs.Prelude.{ℕ, ◌+◌, ◌≤◌, List, length};
+ghost use Rattle.std.specs.List.{AllByRecursion};
+ghost use Rattle.catalog_types.specs.PlainEntry.{PlainNewEntry};
+ghost use Rattle.entry_table.specs.AreKept.{IsPast};
+ghost use Rattle.entry_table.specs.Keyed.{Digests};
+ghost use Rattle.entry_table.specs.Results.{HaveNextFiles, file_end};
+ghost use Rattle.entry_table.specs.Work.{Kept, after_work, after_collection};
+
+/// Where each id so far has a file number, new results whose files fit have ids that fit.
+pub fn new_ids_fit()
+    ensures { (next_id next_file : ℕ) (news : List PlainNewEntry) → next_id ≤ next_file
+        → next_file ≤ file_end → HaveNextFiles next_file news → next_id + length news ≤ file_end }
+{}
+
+/// Entries were made and used at or before the tick, where ticks don't fall.
+pub fn entries_are_past()
+    ensures work { (digests : Digests) (before tick : ℕ) (reads dropped : List ℕ)
+        (news : List PlainNewEntry) (k : Kept) → before ≤ tick
+        → AllByRecursion (IsPast before) k.entries
+        → AllByRecursion (IsPast tick) (after_work digests tick reads dropped news k).entries }
+    ensures collection { (before tick : ℕ) (ids : List ℕ) (k : Kept) → before ≤ tick
+        → AllByRecursion (IsPast before) k.entries
+        → AllByRecursion (IsPast tick) (after_collection ids k).entries }
+{}

@@ -1,0 +1,149 @@
+//! The table.
+ghost use Rattle.std.specs.Prelude.{◌≡◌, ◌↔◌, ◌+◌, ◌≤◌, length, IsTrue, IfOk, OnOk};
+ghost use Rattle.std.specs.List.{AllByRecursion};
+ghost use Rattle.plan_spelling.specs.Spelling.{HasPlanSpelling};
+ghost use Rattle.entry_table.specs.AreKept.{AreKept, AreKept-prop};
+ghost use Rattle.entry_table.specs.Work.{kept_with};
+
+use crate::ids::{are_apart, are_ids_of, place_of};
+use crate::keys::{Chains, Keys};
+use crate::results::may_be_kept;
+use crate::uses::{add_entries, add_uses, drop_entries};
+use catalog_types::{Entry, NewEntry};
+use rows_core::{Memory, Seq};
+use std::alloc::Global;
+use std::mem;
+
+/// The kept results by their ids, and room for the work that the table was last prepared for.
+#[derive(Drop)]
+pub struct EntryTable {
+    /// The id of the next entry. Ids aren't used again.
+    next_id: u64,
+    /// By their ids.
+    entries: Vec<Entry>,
+    /// The keys of the results that are to be kept next.
+    spare_keys: Vec<Keys>,
+    alloc: Global,
+    ghost sound: { AreKept (kept_with next_id entries.items) } by { AreKept-prop (kept_with next_id
+        entries.items) },
+}
+
+impl EntryTable {
+    ghost use Rattle.std.specs.Prelude.{option_copied, ◌==◌};
+    ghost use Rattle.std.specs.List.{find};
+    ghost use Rattle.entry_table.specs.Keyed.{Digests, keys_of};
+    ghost use Rattle.entry_table.specs.Results.{AreNew};
+    ghost use Rattle.entry_table.specs.Work.{FitsWork, FitsCollection, after_work, after_collection};
+    ghost use Rattle.entry_table.specs.Work.{none_kept};
+    ghost use Rattle.entry_table.specs.Tables.{kept_of, HasRoom, HasKeys};
+
+    /// No entries. It takes no memory.
+    pub fn new(alloc: Global) -> EntryTable
+        ensures { kept_of result ≡ none_kept }
+    {
+        EntryTable {
+            next_id: 1,
+            entries: Vec::new(alloc),
+            spare_keys: Vec::new(alloc),
+            alloc,
+        }
+    }
+
+    /// The entries by their ids.
+    pub fn entries(&self) -> &[Entry]
+        ensures entries { result.now ≡ (kept_of self.now).entries }
+        ensures kept { AreKept (kept_of self.now) }
+    {
+        self.entries.as_slice()
+    }
+
+    /// How many entries there are.
+    pub fn len(&self) -> usize
+        ensures { result ≡ length (kept_of self.now).entries }
+    {
+        self.entries.len()
+    }
+
+    /// The id of the next entry.
+    pub fn next_id(&self) -> u64
+        ensures { result ≡ (kept_of self.now).next_id }
+    {
+        self.next_id
+    }
+
+    /// The entry with this id, which is found by a binary search.
+    pub fn find(&self, id: u32) -> Option<&Entry>
+        ensures { option_copied result ≡ find (λ e. e.id == id) (kept_of self.now).entries }
+    {
+        let place = place_of(self.entries.as_slice(), id)?;
+        Some(&self.entries[place])
+    }
+
+    /// Whether a piece of work fits: it reads entries with these ids, drops others and keeps these results,
+    /// whose files begin with the next one. `Memory` where that for a plan's spelling is refused.
+    pub fn fits_work(
+        &self,
+        next_file: u64,
+        reads: &[u32],
+        dropped: &[u32],
+        kept: &[NewEntry],
+    ) -> Result<bool, Memory>
+        requires { AllByRecursion (λ new. HasPlanSpelling new.plan) kept.now }
+        ensures { IfOk result (λ fits. IsTrue fits
+            ↔ FitsWork next_file reads.now dropped.now kept.now (kept_of self.now)) }
+    {
+        let entries = self.entries.as_slice();
+        let are_ids = are_ids_of(entries, reads)
+            && are_ids_of(entries, dropped)
+            && are_apart(reads, dropped);
+        if !are_ids {
+            return Ok(false);
+        }
+        may_be_kept(self.alloc, entries, dropped, next_file, kept)
+    }
+
+    /// Takes all the memory that keeping these results wants: room for them, and their keys. `Memory` where
+    /// it is refused. The entries stay in each case.
+    pub fn prepare_work<C: Chains>(&mut self, chains: &C, kept: &[NewEntry]) -> Result<(), Memory>
+        requires { AllByRecursion (λ new. HasPlanSpelling new.plan) kept.now }
+        ensures same { kept_of self.new ≡ kept_of self.old }
+        ensures room { OnOk result (HasRoom kept.now self.new) }
+        ensures keys { OnOk result (HasKeys (C.digests chains.now) kept.now self.new) }
+    {
+        let keys = Keys::of_each(self.alloc, chains, kept)?;
+        self.entries.reserve(kept.len())?;
+        self.spare_keys = keys;
+        Ok(())
+    }
+
+    /// Does the work that it was prepared for, as the command of this tick. It takes no memory.
+    pub fn apply_work(&mut self, tick: u32, reads: &[u32], dropped: &[u32], kept: Seq<NewEntry>)
+        requires room { HasRoom kept self.old }
+        requires new { AreNew (kept_of self.old).entries dropped.now kept }
+        requires ids { (kept_of self.old).next_id + length kept ≤ 4294967296 }
+        ensures { (digests : Digests) → HasKeys digests kept self.old → kept_of self.new
+            ≡ after_work digests tick reads.now dropped.now kept (kept_of self.old) }
+    {
+        let kept = kept.into_vec();
+        let count = kept.len() as u64;
+        let keys = mem::replace(&mut self.spare_keys, Vec::new(self.alloc));
+        drop_entries(&mut self.entries, dropped);
+        add_uses(&mut self.entries, tick, reads);
+        add_entries(&mut self.entries, tick, self.next_id, &keys, kept);
+        self.next_id += count;
+    }
+
+    /// Whether a collection of these ids fits.
+    pub fn fits_collection(&self, ids: &[u32]) -> bool
+        ensures { IsTrue result ↔ FitsCollection ids.now (kept_of self.now) }
+    {
+        are_ids_of(self.entries.as_slice(), ids)
+    }
+
+    /// Takes out the entries with these ids. It takes no memory.
+    pub fn apply_collection(&mut self, ids: &[u32])
+        ensures { kept_of self.new ≡ after_collection ids.now (kept_of self.old) }
+    {
+        drop_entries(&mut self.entries, ids);
+    }
+}
