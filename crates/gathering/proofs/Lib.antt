@@ -1,5 +1,4 @@
 pub mod Extents
-pub mod Passing
 pub mod HeldRows
 pub mod Sums
 pub mod OnOk

@@ -1,5 +1,5 @@
-//! What a plan over one stream makes of the stream's extents, which are fed one after another, so that no more
-//! rows are kept than the operators need.
+//! What a plan over one stream makes of the stream's extents, which are fed one after another, so that no
+//! more rows are kept than the operators need.
 #![tactic(auto)]
 
 mod chain;
