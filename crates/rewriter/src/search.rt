@@ -8,7 +8,8 @@ ghost use Rattle.rewrite_core.specs.Entries.{AreSound, IsEarlier};
 ghost use Rattle.rewriter.specs.Forms.{IsRead, IsGrown};
 ghost use Rattle.rewriter.specs.InStreams.{AreCutsOf};
 ghost use Rattle.rewriter.specs.declared.priced.Want.TheVariants as want;
-ghost use Rattle.rewriter.specs.Search.{LeastWeighed, ComputedWeighed, LeastIfAny, LeastDeltaIfAny, LeastPairIfAny};
+ghost use Rattle.rewriter.specs.Search.{LeastWeighed, ComputedWeighed, LeastIfAny, LeastDeltaIfAny};
+ghost use Rattle.rewriter.specs.Search.{LeastPairIfAny};
 ghost use Rattle.rewriter.specs.Search.{IsChoice, IsDeltaPriceIfAny};
 ghost use Rattle.rewriter.specs.Table.{AreFound};
 
