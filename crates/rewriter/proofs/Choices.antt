@@ -1,7 +1,7 @@
 -- The cheapest of the three forms is a least rewriting's, and a least tree of the chosen form is a least one.
-use Rattle.std.proofs.Common.{◌≡◌, ℕ, ◌≤◌, ◌⊎◌, inl, inr, Option, None, Some, arith, refl, ap, sym, subst}
+use Rattle.std.proofs.Common.{◌≡◌, ℕ, ◌≤◌, ◌⊎◌, inl, inr, Option, None, Some, arith, refl, ap, sym, subst, ◌∙◌}
 use Rattle.plan_core.specs.PlainPlan.{PlainPlan}
-use Rattle.estimator.specs.Bytes.{Lengths}
+use Rattle.estimator.specs.Bytes.{Lengths, whole_bytes, capped}
 use Rattle.estimator.specs.Cuts.{Cuts}
 use Rattle.rewrite_core.specs.Entries.{Entries}
 use Rattle.rewrite_core.specs.Estimate.{estimate_of, IsLeast}
@@ -13,9 +13,10 @@ use Rattle.rewriter.specs.declared.priced.Form.TheVariants as form
 use Rattle.rewriter.specs.declared.priced.Priced.{Priced}
 use Rattle.rewriter.specs.declared.priced.Want.{Want}
 use Rattle.rewriter.specs.declared.priced.Want.TheVariants as want
+use Rattle.rewriter.specs.declared.priced.Weighed.{Weighed}
 use Rattle.rewriter.specs.Choosing.{IsCheaper}
 use Rattle.rewriter.specs.Forms.{way_in, IsComputed, IsRead, IsGrown, IsLeastOf, HasNone}
-use Rattle.rewriter.specs.Search.{Prices, Least, LeastOf, LeastIfAny, ways_of, IsChoice}
+use Rattle.rewriter.specs.Search.{Prices, Least, LeastOf, LeastWeighed, ComputedWeighed, LeastIfAny, ways_of, IsChoice}
 use Rattle.rewriter.proofs.LeastParts.{forms, least_of_forms}
 
 module _ (entries : Entries) (lengths : Lengths) (q : PlainPlan) (c : Cuts) where
@@ -45,6 +46,11 @@ module _ (entries : Entries) (lengths : Lengths) (q : PlainPlan) (c : Cuts) wher
   holds_next choice r f (Some p) l (inl e) h = subst Holds (sym e.0) h
   holds_next choice r f (Some p) l (inr e) h = subst Holds (sym e.0) (record { of = l.of; least_of = l.least; estimate = l.prices.estimate })
 
+  same_bytes : (choice r : Choice) (f : Form) (o : Option Priced) → IsCheaper choice f o r → r.bytes ≡ choice.bytes
+  same_bytes choice r f None e = ap (λ x. x.bytes) e
+  same_bytes choice r f (Some p) (inl e) = ap (λ x. x.bytes) e.0
+  same_bytes choice r f (Some p) (inr e) = ap (λ x. x.bytes) e.0
+
   under_next : (choice r : Choice) (f : Form) (o : Option Priced) → LeastIfAny want.Price (ways_of f) entries lengths q c o → IsCheaper choice f o r → Under (ways_of f) r.estimate
   under_next choice r f None l e = λ other k w. absurd (l other k w)
   under_next choice r f (Some p) l (inl e) =
@@ -52,20 +58,21 @@ module _ (entries : Entries) (lengths : Lengths) (q : PlainPlan) (c : Cuts) wher
   under_next choice r f (Some p) l (inr e) =
       let t = ap (λ x. x.estimate) e.0 in under_below (ways_of f) p.estimate r.estimate (omega arith) (under_of (ways_of f) p l)
 
-  pub chosen : (computed : Priced) (read grown : Option Priced) (second third : Choice) → LeastOf want.Price IsComputed entries lengths q c computed →
+  pub chosen : (computed : Weighed) (read grown : Option Priced) (second third : Choice) → ComputedWeighed want.Price entries lengths q c computed →
       LeastIfAny want.Price IsRead entries lengths q c read → LeastIfAny want.Price IsGrown entries lengths q c grown →
-      IsCheaper (record { form = form.Computed; estimate = computed.estimate }) form.Read read second → IsCheaper second form.Grown grown third → IsChoice entries lengths q c third
+      IsCheaper (record { form = form.Computed; estimate = computed.priced.estimate; bytes = computed.bytes }) form.Read read second → IsCheaper second form.Grown grown third → IsChoice entries lengths q c third
   chosen computed read grown second third a b d e f =
-      let first : Choice = record { form = form.Computed; estimate = computed.estimate } in
-      let holds = holds_next second third form.Grown grown d f (holds_next first second form.Read read b e (record { of = a.of; least_of = a.least; estimate = a.prices.estimate })) in
+      let first : Choice = record { form = form.Computed; estimate = computed.priced.estimate; bytes = computed.bytes } in
+      let holds = holds_next second third form.Grown grown d f (holds_next first second form.Read read b e (record { of = a.least.of; least_of = a.least.least; estimate = a.least.prices.estimate })) in
       let below = lower second third form.Grown grown f in
-      let computes = under_below IsComputed second.estimate third.estimate below (under_below IsComputed computed.estimate second.estimate (lower first second form.Read read e) (under_of IsComputed computed a)) in
+      let computes = under_below IsComputed second.estimate third.estimate below (under_below IsComputed computed.priced.estimate second.estimate (lower first second form.Read read e) (under_of IsComputed computed.priced a.least)) in
       let reads = under_below IsRead second.estimate third.estimate below (under_next first second form.Read read b e) in
       let grows = under_next second third form.Grown grown d f in
       record {
         of = holds.of;
         least_of = holds.least_of;
         estimate = holds.estimate;
+        bytes = same_bytes second third form.Grown grown f ∙ (same_bytes first second form.Read read e ∙ a.bytes);
         least = λ other k. under_each other k computes reads grows;
       }
     where
@@ -94,6 +101,10 @@ module _ (entries : Entries) (lengths : Lengths) (q : PlainPlan) (c : Cuts) wher
     };
     prices = l.prices;
   }
+
+  pub weighed_by_form : (w : Want) (choice : Choice) (f : Form) (p : Priced) → choice.form ≡ f → IsChoice entries lengths q c choice → LeastOf w (ways_of f) entries lengths q c p →
+      LeastWeighed w entries lengths q c (record { priced = p; bytes = choice.bytes })
+  weighed_by_form w choice f p e h l = record { least = least_by_form w choice f p e h l; bytes = h.bytes }
 
   -- a form that was chosen has a rewriting
   pub form_there : (choice : Choice) (f : Form) → choice.form ≡ f → IsChoice entries lengths q c choice → HasNone (ways_of f) entries q c → ⊥

@@ -1,8 +1,8 @@
 -- The parts of a plan make its results.
-use Rattle.std.proofs.Common.{◌≡◌, ◌≢◌, ◌≤◌, ◌∙◌, sym, subst, ap, arith}
+use Rattle.std.proofs.Common.{◌≡◌, ◌≢◌, ◌≤◌, ◌+◌, ◌∙◌, sym, subst, ap, arith}
 use Rattle.plan_core.specs.OperatorCount.{operator_count}
 use Rattle.plan_core.specs.PlainPlan.{PlainPlan, plan_of}
-use Rattle.estimator.specs.Bytes.{Lengths, IsCutOf}
+use Rattle.estimator.specs.Bytes.{Lengths, IsCutOf, whole_bytes, new_bytes}
 use Rattle.estimator.specs.Cuts.{Cuts}
 use Rattle.rewrite_core.specs.declared.rewriting.Hit.{Hit}
 use Rattle.rewrite_core.specs.Entries.{Entries, AreSound, IsEarlier}
@@ -13,19 +13,14 @@ use Rattle.rewriter.specs.declared.parts.BothGrown.{BothGrown}
 use Rattle.rewriter.specs.declared.parts.Part.{Part}
 use Rattle.rewriter.specs.declared.parts.Stretch.{Stretch}
 use Rattle.rewriter.specs.Forms.{IsGrown, HasNone, HasNoDelta}
-use Rattle.rewriter.specs.Growing.{IsLeastOfStretch, HasNoneOver, IsInputStretch, IsInputPart, IsPart, ComputesOne, ComputesTwo, GrowsByTail, GrowsByPair, GrowsByBoth, IncreasesByChild, IncreasesByPair}
+use Rattle.rewriter.specs.Growing.{IsLeastOfStretch, HasNoneOver, IsInputStretch, IsInputPart, IsPart, ComputesOne, ComputesTwo, AreJoinInputs, GrowsByTail, GrowsByPair, GrowsByBoth, IncreasesByChild, IncreasesByPair}
 use Rattle.rewriter.specs.InStreams.{AreCutsOf}
 use Rattle.rewriter.specs.Inputs.{HasChild, HasTwo, IsByRow, IsDistinct, IsJoin, IsConcat, IsLower}
+use Rattle.rewriter.specs.Stretches.{before, after}
 use Rattle.rewriter.proofs.LeastParts as law
+use Rattle.rewriter.proofs.PartBytes.{new_along, whole_of_child, whole_of_two, new_of_child, new_of_two, new_of_left, new_of_right}
 use Rattle.rewriter.proofs.Ranges.{child_cut, child_cuts, left_cut, right_cut, left_cuts, right_cuts, hit_cuts, two_of_join, two_of_concat, transported}
 use Rattle.rewriter.proofs.Shapes.{none_along, no_right}
-
--- a stretch's plan at its old and at its new cut
-abbrev pub before : Stretch → Part
-before s = record { plan = s.plan; place = s.place; cuts = s.old }
-
-abbrev pub after : Stretch → Part
-after s = record { plan = s.plan; place = s.place; cuts = s.new }
 
 -- along equal cuts
 part_along : (lengths : Lengths) (q : PlainPlan) (p : Part) (c : Cuts) → p.cuts.now ≡ c → IsLower (plan_of p.plan.now) q → IsCutOf lengths (plan_of p.plan.now) c → IsInputPart lengths q p
@@ -45,6 +40,7 @@ module _ (entries : Entries) (lengths : Lengths) where
   one_input q c p h lower e k = record {
     input = part_along lengths q p c e lower (child_cut lengths q (plan_of p.plan.now) c h k);
     makes = λ r l. law.computed_one entries lengths q c (plan_of p.plan.now) r h (least_along (plan_of p.plan.now) r e l);
+    bytes = whole_of_child lengths q (plan_of p.plan.now) c h ∙ ap (whole_bytes lengths (plan_of p.plan.now)) (sym e);
   }
 
   pub two_inputs : (q : PlainPlan) (c : Cuts) (x y : Part) → HasTwo q (plan_of x.plan.now) (plan_of y.plan.now) → IsLower (plan_of x.plan.now) q → IsLower (plan_of y.plan.now) q →
@@ -53,6 +49,7 @@ module _ (entries : Entries) (lengths : Lengths) where
     left = part_along lengths q x _ e below (left_cut lengths q (plan_of x.plan.now) (plan_of y.plan.now) c h k);
     right = part_along lengths q y _ f behind (right_cut lengths q (plan_of x.plan.now) (plan_of y.plan.now) c h k);
     makes = λ l r m n. law.computed_two entries lengths q c (plan_of x.plan.now) (plan_of y.plan.now) l r h (least_along (plan_of x.plan.now) l e m) (least_along (plan_of y.plan.now) r f n);
+    bytes = whole_of_two lengths q (plan_of x.plan.now) (plan_of y.plan.now) c h k ∙ sym (λ i. whole_bytes lengths (plan_of x.plan.now) (e i) + whole_bytes lengths (plan_of y.plan.now) (f i));
   }
 
 module _ (entries : Entries) (lengths : Lengths) (sound : AreSound entries) (q : PlainPlan) (c : Cuts) (hit : Hit) (here : IsEarlier entries q c hit) (k : IsCutOf lengths q c) where
@@ -64,6 +61,7 @@ module _ (entries : Entries) (lengths : Lengths) (sound : AreSound entries) (q :
     stretch = stretch_along lengths q s _ _ e f lower (child_cuts lengths q (plan_of s.plan.now) hit.cuts c h grows);
     makes = λ d l. law.grown_one entries sound lengths q c hit here (plan_of s.plan.now) d h (delta_along entries lengths (plan_of s.plan.now) d e f l);
     none = λ n. law.grown_one_none entries sound lengths q c hit here (plan_of s.plan.now) h (none_along entries (plan_of s.plan.now) e f n);
+    bytes = new_of_child lengths q (plan_of s.plan.now) hit.cuts c h ∙ sym (new_along lengths (plan_of s.plan.now) e f);
   }
 
   pub tail_of_concat : (x : PlainPlan) (s : Stretch) → IsConcat q x (plan_of s.plan.now) → IsLower (plan_of s.plan.now) q → s.old.now ≡ rights x hit.cuts → s.new.now ≡ rights x c → lefts x hit.cuts ≡ lefts x c → GrowsByTail entries lengths q c hit s
@@ -71,22 +69,13 @@ module _ (entries : Entries) (lengths : Lengths) (sound : AreSound entries) (q :
     stretch = stretch_along lengths q s _ _ e f lower (right_cuts lengths q x (plan_of s.plan.now) hit.cuts c (two_of_concat q x (plan_of s.plan.now) h) grows);
     makes = λ d l. law.grown_concat entries sound lengths q c hit here x (plan_of s.plan.now) d h same (delta_along entries lengths (plan_of s.plan.now) d e f l);
     none = λ n. law.grown_concat_none entries sound lengths q c hit here x (plan_of s.plan.now) h (λ d _ m. none_along entries (plan_of s.plan.now) e f n d m);
+    bytes = new_of_right lengths q x (plan_of s.plan.now) hit.cuts c (two_of_concat q x (plan_of s.plan.now) h) grows same ∙ sym (new_along lengths (plan_of s.plan.now) e f);
   }
 
   pub no_concat : (x y : PlainPlan) → IsConcat q x y → lefts x hit.cuts ≢ lefts x c → HasNone IsGrown entries q c
   no_concat x y h differ = law.grown_concat_none entries sound lengths q c hit here x y h (λ d same m. differ same)
 
-  -- a join's inputs, from the earlier cut to this one
-  pub record Sides (x y : Stretch) : Type 0 where
-    pub join : IsJoin q (plan_of x.plan.now) (plan_of y.plan.now)
-    pub left : IsLower (plan_of x.plan.now) q
-    pub right : IsLower (plan_of y.plan.now) q
-    pub old_lefts : x.old.now ≡ lefts (plan_of x.plan.now) hit.cuts
-    pub new_lefts : x.new.now ≡ lefts (plan_of x.plan.now) c
-    pub old_rights : y.old.now ≡ rights (plan_of x.plan.now) hit.cuts
-    pub new_rights : y.new.now ≡ rights (plan_of x.plan.now) c
-
-  module _ (x y : Stretch) (s : Sides x y) where
+  module _ (x y : Stretch) (s : AreJoinInputs q hit.cuts c x y) where
     left_stretch : IsInputStretch lengths q x
     left_stretch = stretch_along lengths q x _ _ s.old_lefts s.new_lefts s.left (left_cuts lengths q (plan_of x.plan.now) (plan_of y.plan.now) hit.cuts c (two_of_join q (plan_of x.plan.now) (plan_of y.plan.now) s.join) grows)
 
@@ -102,6 +91,15 @@ module _ (entries : Entries) (lengths : Lengths) (sound : AreSound entries) (q :
     after_right : IsInputPart lengths q (after y)
     after_right = record { cuts = right_stretch.cuts.after; lower = s.right }
 
+    left_along : new_bytes lengths (plan_of x.plan.now) x.old.now x.new.now ≡ new_bytes lengths (plan_of x.plan.now) (lefts (plan_of x.plan.now) hit.cuts) (lefts (plan_of x.plan.now) c)
+    left_along = new_along lengths (plan_of x.plan.now) s.old_lefts s.new_lefts
+
+    right_along : new_bytes lengths (plan_of y.plan.now) y.old.now y.new.now ≡ new_bytes lengths (plan_of y.plan.now) (rights (plan_of x.plan.now) hit.cuts) (rights (plan_of x.plan.now) c)
+    right_along = new_along lengths (plan_of y.plan.now) s.old_rights s.new_rights
+
+    two : HasTwo q (plan_of x.plan.now) (plan_of y.plan.now)
+    two = two_of_join q (plan_of x.plan.now) (plan_of y.plan.now) s.join
+
     least_left : (d : PlainDelta) → IsLeastOfStretch entries lengths x d → IsLeastDelta entries lengths (plan_of x.plan.now) (lefts (plan_of x.plan.now) hit.cuts) (lefts (plan_of x.plan.now) c) d
     least_left d l = delta_along entries lengths (plan_of x.plan.now) d s.old_lefts s.new_lefts l
 
@@ -114,7 +112,7 @@ module _ (entries : Entries) (lengths : Lengths) (sound : AreSound entries) (q :
     none_right : HasNoneOver entries y → HasNoDelta entries (plan_of y.plan.now) (rights (plan_of x.plan.now) hit.cuts) (rights (plan_of x.plan.now) c)
     none_right n = none_along entries (plan_of y.plan.now) s.old_rights s.new_rights n
 
-    pub left_grew : y.old.now ≡ y.new.now → GrowsByPair (λ d r. LeftGrew hit d r) entries lengths q c x (after y)
+    pub left_grew : y.old.now ≡ y.new.now → GrowsByPair (λ d r. LeftGrew hit d r) entries lengths q hit.cuts c x (after y)
     left_grew same =
         let rights_same : rights (plan_of x.plan.now) hit.cuts ≡ rights (plan_of x.plan.now) c = sym s.old_rights ∙ same ∙ s.new_rights in
         record {
@@ -122,9 +120,10 @@ module _ (entries : Entries) (lengths : Lengths) (sound : AreSound entries) (q :
           part = after_right;
           makes = λ d r l m. law.grown_left entries sound lengths q c hit here (plan_of x.plan.now) (plan_of y.plan.now) d r s.join rights_same (least_left d l) (least_along entries lengths (plan_of y.plan.now) r s.new_rights m);
           none = λ n. law.grown_left_none entries sound lengths q c hit here (plan_of x.plan.now) (plan_of y.plan.now) s.join rights_same (none_left n);
+          bytes = new_of_left lengths q (plan_of x.plan.now) (plan_of y.plan.now) hit.cuts c two grows rights_same ∙ sym left_along;
         }
 
-    pub right_grew : x.old.now ≡ x.new.now → GrowsByPair (λ d r. RightGrew hit r d) entries lengths q c y (after x)
+    pub right_grew : x.old.now ≡ x.new.now → GrowsByPair (λ d r. RightGrew hit r d) entries lengths q hit.cuts c y (after x)
     right_grew same =
         let lefts_same : lefts (plan_of x.plan.now) hit.cuts ≡ lefts (plan_of x.plan.now) c = sym s.old_lefts ∙ same ∙ s.new_lefts in
         record {
@@ -132,6 +131,7 @@ module _ (entries : Entries) (lengths : Lengths) (sound : AreSound entries) (q :
           part = after_left;
           makes = λ d r l m. law.grown_right entries sound lengths q c hit here (plan_of x.plan.now) (plan_of y.plan.now) r d s.join lefts_same (least_along entries lengths (plan_of x.plan.now) r s.new_lefts m) (least_right d l);
           none = λ n. law.grown_right_none entries sound lengths q c hit here (plan_of x.plan.now) (plan_of y.plan.now) s.join lefts_same (none_right n);
+          bytes = new_of_right lengths q (plan_of x.plan.now) (plan_of y.plan.now) hit.cuts c two grows lefts_same ∙ sym right_along;
         }
 
     pub both_grew : x.old.now ≢ x.new.now → y.old.now ≢ y.new.now → GrowsByBoth entries lengths q c hit (record { old_left = before x; right_delta = y; left_delta = x; right = after y })
@@ -147,6 +147,7 @@ module _ (entries : Entries) (lengths : Lengths) (sound : AreSound entries) (q :
               (least_along entries lengths (plan_of x.plan.now) l s.old_lefts ll) (least_right d ld) (least_left e le) (least_along entries lengths (plan_of y.plan.now) r s.new_rights lr);
           none_right = λ n. no_right entries sound lengths q c hit here (plan_of x.plan.now) (plan_of y.plan.now) s.join rights_differ (none_right n);
           none_left = λ n. law.grown_both_none entries sound lengths q c hit here (plan_of x.plan.now) (plan_of y.plan.now) s.join lefts_differ rights_differ (λ d e m k. none_left n e k);
+          bytes = new_of_two lengths q (plan_of x.plan.now) (plan_of y.plan.now) hit.cuts c two grows ∙ sym (λ i. left_along i + right_along i);
         }
 
 -- ---- deltas
@@ -157,6 +158,7 @@ module _ (entries : Entries) (lengths : Lengths) (q : PlainPlan) (old new : Cuts
     stretch = stretch_along lengths q s _ _ e f lower (child_cuts lengths q (plan_of s.plan.now) old new h k);
     makes = λ d l. law.delta_row entries lengths q old new (plan_of s.plan.now) d b h differ (delta_along entries lengths (plan_of s.plan.now) d e f l);
     none = λ n. law.delta_row_none entries lengths q old new (plan_of s.plan.now) b h differ (none_along entries (plan_of s.plan.now) e f n);
+    bytes = new_of_child lengths q (plan_of s.plan.now) old new h ∙ sym (new_along lengths (plan_of s.plan.now) e f);
   }
 
   pub child_of_distinct : (s : Stretch) (p : Part) → IsDistinct q → HasChild q (plan_of s.plan.now) → IsLower (plan_of s.plan.now) q → s.old.now ≡ old → s.new.now ≡ new → plan_of p.plan.now ≡ q → p.cuts.now ≡ old →
@@ -166,6 +168,7 @@ module _ (entries : Entries) (lengths : Lengths) (q : PlainPlan) (old new : Cuts
     part = record { cuts = subst (λ x. IsCutOf lengths x p.cuts.now) (sym same) (subst (IsCutOf lengths q) (sym at) k.before); within = let n = ap operator_count same in omega arith };
     makes = λ d r l m. law.delta_distinct entries lengths q old new (plan_of s.plan.now) r d b h differ (subst (λ x. IsLeast entries lengths x old r) same (least_along entries lengths (plan_of p.plan.now) r at m)) (delta_along entries lengths (plan_of s.plan.now) d e f l);
     none = λ n. law.delta_distinct_none entries lengths q old new (plan_of s.plan.now) b h differ (none_along entries (plan_of s.plan.now) e f n);
+    bytes = new_of_child lengths q (plan_of s.plan.now) old new h ∙ sym (new_along lengths (plan_of s.plan.now) e f);
   }
 
   pub child_of_concat : (x : PlainPlan) (s : Stretch) → IsConcat q x (plan_of s.plan.now) → IsLower (plan_of s.plan.now) q → s.old.now ≡ rights x old → s.new.now ≡ rights x new → lefts x old ≡ lefts x new → IncreasesByChild entries lengths q old new s
@@ -173,6 +176,7 @@ module _ (entries : Entries) (lengths : Lengths) (q : PlainPlan) (old new : Cuts
     stretch = stretch_along lengths q s _ _ e f lower (right_cuts lengths q x (plan_of s.plan.now) old new (two_of_concat q x (plan_of s.plan.now) h) k);
     makes = λ d l. law.delta_concat entries lengths q old new x (plan_of s.plan.now) d h differ same (delta_along entries lengths (plan_of s.plan.now) d e f l);
     none = λ n. law.delta_concat_none entries lengths q old new x (plan_of s.plan.now) h differ (λ d _ m. none_along entries (plan_of s.plan.now) e f n d m);
+    bytes = new_of_right lengths q x (plan_of s.plan.now) old new (two_of_concat q x (plan_of s.plan.now) h) k same ∙ sym (new_along lengths (plan_of s.plan.now) e f);
   }
 
   pub children_of_join : (s : Stretch) (p : Part) → IsJoin q (plan_of s.plan.now) (plan_of p.plan.now) → IsLower (plan_of s.plan.now) q → IsLower (plan_of p.plan.now) q → s.old.now ≡ lefts (plan_of s.plan.now) old → s.new.now ≡ lefts (plan_of s.plan.now) new →
@@ -185,4 +189,5 @@ module _ (entries : Entries) (lengths : Lengths) (q : PlainPlan) (old new : Cuts
         part = record { cuts = right.cuts; within = omega arith };
         makes = λ d r l m. law.delta_join entries lengths q old new (plan_of s.plan.now) (plan_of p.plan.now) d r h differ same (delta_along entries lengths (plan_of s.plan.now) d e f l) (least_along entries lengths (plan_of p.plan.now) r at m);
         none = λ n. law.delta_join_none entries lengths q old new (plan_of s.plan.now) (plan_of p.plan.now) h differ (λ d _ m. none_along entries (plan_of s.plan.now) e f n d m);
+        bytes = new_of_left lengths q (plan_of s.plan.now) (plan_of p.plan.now) old new two k same ∙ sym (new_along lengths (plan_of s.plan.now) e f);
       }

@@ -1,4 +1,5 @@
 pub mod Ranges
+pub mod PartBytes
 pub mod Formed
 pub mod LeastParts
 pub mod Shapes

@@ -27,12 +27,12 @@ pub two_of_concat : (q x y : PlainPlan) → IsConcat q x y → HasTwo q x y
 two_of_concat (plan.Concat a b) x y h = h
 two_of_concat _ x y h = absurd h
 
-both_leaves : (q x y : PlainPlan) → HasTwo q x y → leaves q ≡ leaves x ++ leaves y
+pub both_leaves : (q x y : PlainPlan) → HasTwo q x y → leaves q ≡ leaves x ++ leaves y
 both_leaves (plan.Join a b on) x y h = λ i. leaves (h.0 i) ++ leaves (h.1 i)
 both_leaves (plan.Concat a b) x y h = λ i. leaves (h.0 i) ++ leaves (h.1 i)
 both_leaves _ x y h = absurd h
 
-both_streams : (l : Lengths) (q x y : PlainPlan) (c : Cuts) → HasTwo q x y → IsCutOf l q c → AreInStreams l (leaves x ++ leaves y) c
+pub both_streams : (l : Lengths) (q x y : PlainPlan) (c : Cuts) → HasTwo q x y → IsCutOf l q c → AreInStreams l (leaves x ++ leaves y) c
 both_streams l q x y c h k = subst (λ s. AreInStreams l s c) (both_leaves q x y h) k
 
 pub left_cut : (l : Lengths) (q x y : PlainPlan) (c : Cuts) → HasTwo q x y → IsCutOf l q c → IsCutOf l x (lefts x c)

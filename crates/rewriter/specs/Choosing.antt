@@ -9,4 +9,4 @@ abbrev pub IsCheaper : Choice → Form → Option Priced → Choice → Type 0
 IsCheaper choice form None result = result ≡ choice
 IsCheaper choice form (Some other) result =
     ((result ≡ choice) × (choice.estimate ≤ other.estimate))
-    ⊎ ((result ≡ record { form = form; estimate = other.estimate }) × (other.estimate < choice.estimate))
+    ⊎ ((result ≡ record { form = form; estimate = other.estimate; bytes = choice.bytes }) × (other.estimate < choice.estimate))

@@ -5,4 +5,5 @@ pub mod InStreams
 pub mod Inputs
 pub mod Reads
 pub mod Search
+pub mod Stretches
 pub mod Table

@@ -3,7 +3,7 @@ ghost use Rattle.std.specs.Prelude.{◌≡◌};
 ghost use Rattle.plan_core.specs.PlainPlan.{PlainPlan, plan_of};
 ghost use Rattle.estimator.specs.Bytes.{IsCutOf};
 ghost use Rattle.rewrite_core.specs.Entries.{AreSound, IsEarlier};
-ghost use Rattle.rewriter.specs.Growing.{Grows};
+ghost use Rattle.rewriter.specs.Growing.{AreJoinInputs, Grows};
 ghost use Rattle.rewriter.specs.Inputs.{HasChild, IsConcat, IsJoin, IsLower};
 
 use crate::inputs::{concat_parts, join_sides, only_child};
@@ -93,50 +93,53 @@ fn growth_of_join<'p, 'c, L: Lookup, Z: Sizes>(
 {
     let (old_lefts, old_rights) = sides(left, hit.cuts.items());
     let (new_lefts, new_rights) = sides(left, part.cuts);
-    let (first, second) = (first_input(part.place), second_input(part.place));
-    let left_delta = Stretch {
+    let lefts = Stretch {
         plan: left,
-        place: first,
+        place: first_input(part.place),
         old: old_lefts,
         new: new_lefts,
     };
-    let right_delta = Stretch {
+    let rights = Stretch {
         plan: right,
-        place: second,
+        place: second_input(part.place),
         old: old_rights,
         new: new_rights,
     };
-    let new_right = Part {
-        plan: right,
-        place: second,
-        cuts: new_rights,
-    };
-    if are_same_cuts(old_rights, new_rights) {
+    growth_of_inputs(part, hit, lefts, rights, lookup, sizes)
+}
+
+// Of a join with these inputs.
+fn growth_of_inputs<'p, 'c, L: Lookup, Z: Sizes>(
+    part: Part<'p, 'c>,
+    hit: &'c Hit,
+    left: Stretch<'p, 'c>,
+    right: Stretch<'p, 'c>,
+    lookup: &L,
+    sizes: &Z,
+) -> Growth<'p, 'c>
+    requires sound { AreSound (L.entries lookup.now) }
+    requires cuts { IsCutOf (Z.lengths sizes.now) (plan_of part.plan.now) part.cuts.now }
+    requires hit { IsEarlier (L.entries lookup.now) (plan_of part.plan.now) part.cuts.now hit.now }
+    requires inputs { AreJoinInputs (plan_of part.plan.now) hit.now.cuts part.cuts.now left right }
+    ensures { Grows (L.entries lookup.now) (Z.lengths sizes.now) (plan_of part.entry.plan.now)
+        part.entry.cuts.now hit.now result }
+{
+    if are_same_cuts(right.old, right.new) {
         return Growth::Left {
-            left: left_delta,
-            right: new_right,
+            left,
+            right: right.after(),
         };
     }
-    if are_same_cuts(old_lefts, new_lefts) {
-        let new_left = Part {
-            plan: left,
-            place: first,
-            cuts: new_lefts,
-        };
+    if are_same_cuts(left.old, left.new) {
         return Growth::Right {
-            left: new_left,
-            right: right_delta,
+            left: left.after(),
+            right,
         };
     }
-    let old_left = Part {
-        plan: left,
-        place: first,
-        cuts: old_lefts,
-    };
     Growth::Both(BothGrown {
-        old_left,
-        right_delta,
-        left_delta,
-        right: new_right,
+        old_left: left.before(),
+        right_delta: right,
+        left_delta: left,
+        right: right.after(),
     })
 }

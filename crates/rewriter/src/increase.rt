@@ -66,11 +66,7 @@ fn increase_of_one<'p, 'c, L: Lookup, Z: Sizes>(
     }
     if is_distinct(stretch.plan) {
         return Increase::Distinct {
-            before: Part {
-                plan: stretch.plan,
-                place: stretch.place,
-                cuts: stretch.old,
-            },
+            before: stretch.before(),
             child: below,
         };
     }

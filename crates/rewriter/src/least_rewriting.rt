@@ -36,8 +36,8 @@ pub fn least<L: Lookup, Z: Sizes>(
         place: ROOT,
         cuts,
     };
-    let priced = least_at(alloc, Want::Tree, whole, lookup, sizes, &mut found)?;
-    match priced.tree {
+    let best = least_at(alloc, Want::Tree, whole, lookup, sizes, &mut found)?;
+    match best.priced.tree {
         Some(tree) => Ok(tree),
         None => unreachable!(),
     }

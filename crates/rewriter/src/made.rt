@@ -1,15 +1,15 @@
 //! A least tree of each form, made of least parts.
-ghost use Rattle.std.specs.Prelude.{◌≡◌, IfOk};
+ghost use Rattle.std.specs.Prelude.{◌≡◌, ℕ, ◌+◌, IfOk};
 ghost use Rattle.plan_core.specs.PlainPlan.{plan_of};
-ghost use Rattle.estimator.specs.Bytes.{IsCutOf};
+ghost use Rattle.estimator.specs.Bytes.{IsCutOf, capped};
 ghost use Rattle.rewrite_core.specs.Entries.{AreSound, IsWhole};
 ghost use Rattle.rewrite_core.specs.IsRewriting.{IsScan, IsLonger};
 ghost use Rattle.rewrite_core.specs.PlainRewriting.{LeftGrew, RightGrew, OfDistinct, OfJoin};
-ghost use Rattle.rewriter.specs.Forms.{IsComputed, IsRead, IsGrown};
+ghost use Rattle.rewriter.specs.Forms.{IsRead, IsGrown};
 ghost use Rattle.rewriter.specs.Growing.{ComputesOne, ComputesTwo, GrowsByTail, GrowsByPair, GrowsByBoth};
 ghost use Rattle.rewriter.specs.Growing.{IncreasesByChild, IncreasesByPair};
 ghost use Rattle.rewriter.specs.InStreams.{AreCutsOf};
-ghost use Rattle.rewriter.specs.Search.{Least, LeastOf, LeastIfAny, LeastDelta, LeastDeltaIfAny};
+ghost use Rattle.rewriter.specs.Search.{LeastWeighed, ComputedWeighed, LeastOf, LeastIfAny, LeastDeltaIfAny};
 ghost use Rattle.rewriter.specs.Search.{LeastPair, LeastPairIfAny};
 
 use crate::nodes::{
@@ -17,7 +17,7 @@ use crate::nodes::{
     wanted_change,
 };
 use crate::parts::{BothGrown, Part, Stretch};
-use crate::priced::{Priced, PricedDelta, PricedPair, Want};
+use crate::priced::{DeltaPrice, Priced, PricedDelta, PricedPair, Want, Weighed};
 use crate::sums::{file_len, plus};
 use estimator::{Sizes, new_bytes, whole_bytes};
 use plan_core::Plan;
@@ -32,15 +32,19 @@ pub fn computed_scan<L: Lookup, Z: Sizes>(
     part: Part<'_, '_>,
     lookup: &L,
     sizes: &Z,
-) -> Result<Priced, Memory>
+) -> Result<Weighed, Memory>
     requires cuts { IsCutOf (Z.lengths sizes.now) (plan_of part.plan.now) part.cuts.now }
     requires scan { IsScan (plan_of part.plan.now) }
-    ensures { IfOk result (LeastOf want IsComputed (L.entries lookup.now) (Z.lengths sizes.now)
+    ensures { IfOk result (ComputedWeighed want (L.entries lookup.now) (Z.lengths sizes.now)
         (plan_of part.entry.plan.now) part.entry.cuts.now) }
 {
-    let estimate = whole_bytes(part.plan, part.cuts, sizes);
+    let bytes = whole_bytes(part.plan, part.cuts, sizes);
     let tree = wanted(alloc, want, part.plan, part.cuts, Way::Scan)?;
-    Ok(Priced { estimate, tree })
+    let priced = Priced {
+        estimate: bytes,
+        tree,
+    };
+    Ok(Weighed { priced, bytes })
 }
 
 /// The operator over a least tree of its input.
@@ -49,21 +53,22 @@ pub fn computed_one<L: Lookup, Z: Sizes>(
     want: Want,
     part: Part<'_, '_>,
     input: Part<'_, '_>,
-    best: Priced,
+    best: Weighed,
     lookup: &L,
     sizes: &Z,
-) -> Result<Priced, Memory>
-    requires cuts { IsCutOf (Z.lengths sizes.now) (plan_of part.plan.now) part.cuts.now }
+) -> Result<Weighed, Memory>
     requires by { ComputesOne (L.entries lookup.now) (Z.lengths sizes.now) (plan_of part.plan.now)
         part.cuts.now input }
-    requires best { Least want (L.entries lookup.now) (Z.lengths sizes.now)
+    requires best { LeastWeighed want (L.entries lookup.now) (Z.lengths sizes.now)
         (plan_of input.plan.now) input.cuts.now best }
-    ensures { IfOk result (LeastOf want IsComputed (L.entries lookup.now) (Z.lengths sizes.now)
+    ensures { IfOk result (ComputedWeighed want (L.entries lookup.now) (Z.lengths sizes.now)
         (plan_of part.entry.plan.now) part.entry.cuts.now) }
 {
-    let estimate = plus(best.estimate, whole_bytes(part.plan, part.cuts, sizes));
-    let tree = one(alloc, part.plan, part.cuts, best.tree)?;
-    Ok(Priced { estimate, tree })
+    let bytes = best.bytes;
+    let estimate = plus(best.priced.estimate, bytes);
+    let tree = one(alloc, part.plan, part.cuts, best.priced.tree)?;
+    let priced = Priced { estimate, tree };
+    Ok(Weighed { priced, bytes })
 }
 
 /// The operator over least trees of its two inputs.
@@ -73,25 +78,27 @@ pub fn computed_two<L: Lookup, Z: Sizes>(
     part: Part<'_, '_>,
     left: Part<'_, '_>,
     right: Part<'_, '_>,
-    best_left: Priced,
-    best_right: Priced,
+    best_left: Weighed,
+    best_right: Weighed,
     lookup: &L,
     sizes: &Z,
-) -> Result<Priced, Memory>
-    requires cuts { IsCutOf (Z.lengths sizes.now) (plan_of part.plan.now) part.cuts.now }
+) -> Result<Weighed, Memory>
     requires by { ComputesTwo (L.entries lookup.now) (Z.lengths sizes.now) (plan_of part.plan.now)
         part.cuts.now left right }
-    requires best_left { Least want (L.entries lookup.now) (Z.lengths sizes.now)
+    requires best_left { LeastWeighed want (L.entries lookup.now) (Z.lengths sizes.now)
         (plan_of left.plan.now) left.cuts.now best_left }
-    requires best_right { Least want (L.entries lookup.now) (Z.lengths sizes.now)
+    requires best_right { LeastWeighed want (L.entries lookup.now) (Z.lengths sizes.now)
         (plan_of right.plan.now) right.cuts.now best_right }
-    ensures { IfOk result (LeastOf want IsComputed (L.entries lookup.now) (Z.lengths sizes.now)
+    ensures { IfOk result (ComputedWeighed want (L.entries lookup.now) (Z.lengths sizes.now)
         (plan_of part.entry.plan.now) part.entry.cuts.now) }
 {
-    let inputs = plus(best_left.estimate, best_right.estimate);
-    let estimate = plus(inputs, whole_bytes(part.plan, part.cuts, sizes));
-    let tree = two(alloc, part.plan, part.cuts, best_left.tree, best_right.tree)?;
-    Ok(Priced { estimate, tree })
+    let bytes = plus(best_left.bytes, best_right.bytes);
+    let inputs = plus(best_left.priced.estimate, best_right.priced.estimate);
+    let estimate = plus(inputs, bytes);
+    let (first, second) = (best_left.priced.tree, best_right.priced.tree);
+    let tree = two(alloc, part.plan, part.cuts, first, second)?;
+    let priced = Priced { estimate, tree };
+    Ok(Weighed { priced, bytes })
 }
 
 /// The kept result of the plan and the cut.
@@ -125,7 +132,6 @@ pub fn grown_tail<L: Lookup, Z: Sizes>(
     lookup: &L,
     sizes: &Z,
 ) -> Result<Option<Priced>, Memory>
-    requires cuts { AreCutsOf (Z.lengths sizes.now) (plan_of part.plan.now) hit.now.cuts part.cuts.now }
     requires by { GrowsByTail (L.entries lookup.now) (Z.lengths sizes.now) (plan_of part.plan.now)
         part.cuts.now hit.now stretch }
     requires delta { LeastDeltaIfAny want (L.entries lookup.now) (Z.lengths sizes.now)
@@ -136,11 +142,8 @@ pub fn grown_tail<L: Lookup, Z: Sizes>(
     match delta {
         None => Ok(None),
         Some(delta) => {
-            let parts = plus(file_len(hit), delta.estimate);
-            let estimate = plus(
-                parts,
-                new_bytes(part.plan, hit.cuts.items(), part.cuts, sizes),
-            );
+            let parts = plus(file_len(hit), delta.price.estimate);
+            let estimate = plus(parts, delta.price.bytes);
             let tree = tail(alloc, part.plan, part.cuts, hit, delta.tree)?;
             Ok(Some(Priced { estimate, tree }))
         }
@@ -159,9 +162,8 @@ pub fn grown_left<L: Lookup, Z: Sizes>(
     lookup: &L,
     sizes: &Z,
 ) -> Result<Option<Priced>, Memory>
-    requires cuts { AreCutsOf (Z.lengths sizes.now) (plan_of part.plan.now) hit.now.cuts part.cuts.now }
     requires by { GrowsByPair (λ d r. LeftGrew hit.now d r) (L.entries lookup.now) (Z.lengths sizes.now)
-        (plan_of part.plan.now) part.cuts.now left right }
+        (plan_of part.plan.now) hit.now.cuts part.cuts.now left right }
     requires pair { LeastPairIfAny want (L.entries lookup.now) (Z.lengths sizes.now) left right pair }
     ensures { IfOk result (LeastIfAny want IsGrown (L.entries lookup.now) (Z.lengths sizes.now)
         (plan_of part.entry.plan.now) part.entry.cuts.now) }
@@ -169,11 +171,8 @@ pub fn grown_left<L: Lookup, Z: Sizes>(
     match pair {
         None => Ok(None),
         Some(PricedPair { delta, best }) => {
-            let parts = plus(plus(file_len(hit), delta.estimate), best.estimate);
-            let estimate = plus(
-                parts,
-                new_bytes(part.plan, hit.cuts.items(), part.cuts, sizes),
-            );
+            let parts = plus(plus(file_len(hit), delta.price.estimate), best.estimate);
+            let estimate = plus(parts, delta.price.bytes);
             let tree = left_grew(alloc, part.plan, part.cuts, hit, delta.tree, best.tree)?;
             Ok(Some(Priced { estimate, tree }))
         }
@@ -192,9 +191,8 @@ pub fn grown_right<L: Lookup, Z: Sizes>(
     lookup: &L,
     sizes: &Z,
 ) -> Result<Option<Priced>, Memory>
-    requires cuts { AreCutsOf (Z.lengths sizes.now) (plan_of part.plan.now) hit.now.cuts part.cuts.now }
     requires by { GrowsByPair (λ d r. RightGrew hit.now r d) (L.entries lookup.now) (Z.lengths sizes.now)
-        (plan_of part.plan.now) part.cuts.now right left }
+        (plan_of part.plan.now) hit.now.cuts part.cuts.now right left }
     requires pair { LeastPairIfAny want (L.entries lookup.now) (Z.lengths sizes.now) right left pair }
     ensures { IfOk result (LeastIfAny want IsGrown (L.entries lookup.now) (Z.lengths sizes.now)
         (plan_of part.entry.plan.now) part.entry.cuts.now) }
@@ -202,11 +200,8 @@ pub fn grown_right<L: Lookup, Z: Sizes>(
     match pair {
         None => Ok(None),
         Some(PricedPair { delta, best }) => {
-            let parts = plus(plus(file_len(hit), best.estimate), delta.estimate);
-            let estimate = plus(
-                parts,
-                new_bytes(part.plan, hit.cuts.items(), part.cuts, sizes),
-            );
+            let parts = plus(plus(file_len(hit), best.estimate), delta.price.estimate);
+            let estimate = plus(parts, delta.price.bytes);
             let tree = right_grew(alloc, part.plan, part.cuts, hit, best.tree, delta.tree)?;
             Ok(Some(Priced { estimate, tree }))
         }
@@ -226,7 +221,6 @@ pub fn grown_both<L: Lookup, Z: Sizes>(
     lookup: &L,
     sizes: &Z,
 ) -> Result<Option<Priced>, Memory>
-    requires cuts { AreCutsOf (Z.lengths sizes.now) (plan_of part.plan.now) hit.now.cuts part.cuts.now }
     requires by { GrowsByBoth (L.entries lookup.now) (Z.lengths sizes.now)
         (plan_of part.plan.now) part.cuts.now hit.now parts }
     requires before { LeastPairIfAny want (L.entries lookup.now) (Z.lengths sizes.now)
@@ -254,7 +248,6 @@ fn grown_of_both<L: Lookup, Z: Sizes>(
     lookup: &L,
     sizes: &Z,
 ) -> Result<Option<Priced>, Memory>
-    requires cuts { AreCutsOf (Z.lengths sizes.now) (plan_of part.plan.now) hit.now.cuts part.cuts.now }
     requires by { GrowsByBoth (L.entries lookup.now) (Z.lengths sizes.now)
         (plan_of part.plan.now) part.cuts.now hit.now parts }
     requires before { LeastPair want (L.entries lookup.now) (Z.lengths sizes.now)
@@ -268,12 +261,13 @@ fn grown_of_both<L: Lookup, Z: Sizes>(
         None => Ok(None),
         Some(PricedPair { delta, best }) => {
             let lefts = plus(file_len(hit), before.best.estimate);
-            let deltas = plus(plus(lefts, before.delta.estimate), delta.estimate);
-            let all = plus(deltas, best.estimate);
-            let estimate = plus(
-                all,
-                new_bytes(part.plan, hit.cuts.items(), part.cuts, sizes),
+            let deltas = plus(
+                plus(lefts, before.delta.price.estimate),
+                delta.price.estimate,
             );
+            let all = plus(deltas, best.estimate);
+            let bytes = plus(delta.price.bytes, before.delta.price.bytes);
+            let estimate = plus(all, bytes);
             let (old_left, more_right) = (before.best.tree, before.delta.tree);
             let (more_left, right) = (delta.tree, best.tree);
             let tree = both_grew(
@@ -298,7 +292,11 @@ pub fn unchanged<L: Lookup, Z: Sizes>(
 {
     let (plan, old, new) = (stretch.plan, stretch.old, stretch.new);
     let tree = wanted_change(alloc, want, plan, old, new, DeltaWay::Unchanged)?;
-    Ok(Some(PricedDelta { estimate: 0, tree }))
+    let price = DeltaPrice {
+        estimate: 0,
+        bytes: 0,
+    };
+    Ok(Some(PricedDelta { price, tree }))
 }
 
 /// The new extents of a scan.
@@ -316,9 +314,13 @@ pub fn new_rows<L: Lookup, Z: Sizes>(
         (plan_of stretch.entry.plan.now) stretch.entry.old.now stretch.entry.new.now) }
 {
     let (plan, old, new) = (stretch.plan, stretch.old, stretch.new);
-    let estimate = new_bytes(plan, old, new, sizes);
+    let bytes = new_bytes(plan, old, new, sizes);
     let tree = wanted_change(alloc, want, plan, old, new, DeltaWay::Scan)?;
-    Ok(Some(PricedDelta { estimate, tree }))
+    let price = DeltaPrice {
+        estimate: bytes,
+        bytes,
+    };
+    Ok(Some(PricedDelta { price, tree }))
 }
 
 /// A least delta of the part of which it is made, if that has one.
@@ -331,8 +333,6 @@ pub fn delta_of_child<L: Lookup, Z: Sizes>(
     lookup: &L,
     sizes: &Z,
 ) -> Result<Option<PricedDelta>, Memory>
-    requires cuts { AreCutsOf (Z.lengths sizes.now) (plan_of stretch.plan.now)
-        stretch.old.now stretch.new.now }
     requires by { IncreasesByChild (L.entries lookup.now) (Z.lengths sizes.now) (plan_of stretch.plan.now)
         stretch.old.now stretch.new.now child }
     requires delta { LeastDeltaIfAny want (L.entries lookup.now) (Z.lengths sizes.now)
@@ -344,9 +344,9 @@ pub fn delta_of_child<L: Lookup, Z: Sizes>(
         None => Ok(None),
         Some(delta) => {
             let (plan, old, new) = (stretch.plan, stretch.old, stretch.new);
-            let estimate = plus(delta.estimate, new_bytes(plan, old, new, sizes));
+            let price = with_bytes(delta.price.estimate, delta.price.bytes);
             let tree = of_child(alloc, plan, old, new, delta.tree)?;
-            Ok(Some(PricedDelta { estimate, tree }))
+            Ok(Some(PricedDelta { price, tree }))
         }
     }
 }
@@ -362,8 +362,6 @@ pub fn delta_of_distinct<L: Lookup, Z: Sizes>(
     lookup: &L,
     sizes: &Z,
 ) -> Result<Option<PricedDelta>, Memory>
-    requires cuts { AreCutsOf (Z.lengths sizes.now) (plan_of stretch.plan.now)
-        stretch.old.now stretch.new.now }
     requires by { IncreasesByPair (λ d r. OfDistinct r d) (L.entries lookup.now) (Z.lengths sizes.now)
         (plan_of stretch.plan.now) stretch.old.now stretch.new.now child before }
     requires pair { LeastPairIfAny want (L.entries lookup.now) (Z.lengths sizes.now) child before pair }
@@ -373,11 +371,11 @@ pub fn delta_of_distinct<L: Lookup, Z: Sizes>(
     match pair {
         None => Ok(None),
         Some(PricedPair { delta, best }) => {
-            let parts = plus(best.estimate, delta.estimate);
+            let parts = plus(best.estimate, delta.price.estimate);
             let (plan, old, new) = (stretch.plan, stretch.old, stretch.new);
-            let estimate = plus(parts, new_bytes(plan, old, new, sizes));
+            let price = with_bytes(parts, delta.price.bytes);
             let tree = of_distinct(alloc, plan, old, new, best.tree, delta.tree)?;
-            Ok(Some(PricedDelta { estimate, tree }))
+            Ok(Some(PricedDelta { price, tree }))
         }
     }
 }
@@ -393,8 +391,6 @@ pub fn delta_of_join<L: Lookup, Z: Sizes>(
     lookup: &L,
     sizes: &Z,
 ) -> Result<Option<PricedDelta>, Memory>
-    requires cuts { AreCutsOf (Z.lengths sizes.now) (plan_of stretch.plan.now)
-        stretch.old.now stretch.new.now }
     requires by { IncreasesByPair (λ d r. OfJoin d r) (L.entries lookup.now) (Z.lengths sizes.now)
         (plan_of stretch.plan.now) stretch.old.now stretch.new.now left right }
     requires pair { LeastPairIfAny want (L.entries lookup.now) (Z.lengths sizes.now) left right pair }
@@ -404,11 +400,22 @@ pub fn delta_of_join<L: Lookup, Z: Sizes>(
     match pair {
         None => Ok(None),
         Some(PricedPair { delta, best }) => {
-            let parts = plus(delta.estimate, best.estimate);
+            let parts = plus(delta.price.estimate, best.estimate);
             let (plan, old, new) = (stretch.plan, stretch.old, stretch.new);
-            let estimate = plus(parts, new_bytes(plan, old, new, sizes));
+            let price = with_bytes(parts, delta.price.bytes);
             let tree = of_join(alloc, plan, old, new, delta.tree, best.tree)?;
-            Ok(Some(PricedDelta { estimate, tree }))
+            Ok(Some(PricedDelta { price, tree }))
         }
+    }
+}
+
+// The price of a delta whose parts have this estimate, and which adds these bytes.
+fn with_bytes(parts: u64, bytes: u64) -> DeltaPrice
+    ensures bytes { result.bytes ≡ bytes }
+    ensures estimate { (a b : ℕ) → parts ≡ capped a → bytes ≡ capped b → result.estimate ≡ capped (a + b) }
+{
+    DeltaPrice {
+        estimate: plus(parts, bytes),
+        bytes,
     }
 }

@@ -1,4 +1,6 @@
 //! The parts that a least rewriting of a plan is made of.
+ghost use Rattle.std.specs.Prelude.{◌≡◌};
+ghost use Rattle.rewriter.specs.Stretches.{before, after};
 
 use plan_core::Plan;
 use rows_core::Cut;
@@ -20,6 +22,30 @@ pub struct Stretch<'p, 'c> {
     pub place: u64,
     pub old: &'c [Cut],
     pub new: &'c [Cut],
+}
+
+impl<'p, 'c> Stretch<'p, 'c> {
+    /// The plan at the old cut.
+    pub fn before(self) -> Part<'p, 'c>
+        ensures { result ≡ before self.entry }
+    {
+        Part {
+            plan: self.plan,
+            place: self.place,
+            cuts: self.old,
+        }
+    }
+
+    /// The plan at the new cut.
+    pub fn after(self) -> Part<'p, 'c>
+        ensures { result ≡ after self.entry }
+    {
+        Part {
+            plan: self.plan,
+            place: self.place,
+            cuts: self.new,
+        }
+    }
 }
 
 /// What the operator of a plan takes in.

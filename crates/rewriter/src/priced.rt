@@ -20,11 +20,12 @@ pub enum Form {
     Grown,
 }
 
-/// The form of a least rewriting, and its estimate.
+/// The form of a least rewriting, its estimate, and the bytes under its plan at its cut.
 #[derive(Clone, Copy)]
 pub struct Choice {
     pub form: Form,
     pub estimate: u64,
+    pub bytes: u64,
 }
 
 /// The estimate of a rewriting, and the rewriting where it is wanted.
@@ -34,10 +35,24 @@ pub struct Priced {
     pub tree: Option<Rewriting>,
 }
 
-/// The estimate of a delta, and the delta where it is wanted.
+/// A priced rewriting, and the bytes under its plan at its cut.
+#[derive(Drop)]
+pub struct Weighed {
+    pub priced: Priced,
+    pub bytes: u64,
+}
+
+/// The estimate of a delta, and the new bytes under its plan between its cuts.
+#[derive(Clone, Copy)]
+pub struct DeltaPrice {
+    pub estimate: u64,
+    pub bytes: u64,
+}
+
+/// The price of a delta, and the delta where it is wanted.
 #[derive(Drop)]
 pub struct PricedDelta {
-    pub estimate: u64,
+    pub price: DeltaPrice,
     pub tree: Option<Delta>,
 }
 

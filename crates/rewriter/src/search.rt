@@ -5,10 +5,11 @@ ghost use Rattle.std.specs.Prelude.{IfOk, OnOk};
 ghost use Rattle.plan_core.specs.PlainPlan.{plan_of};
 ghost use Rattle.estimator.specs.Bytes.{IsCutOf};
 ghost use Rattle.rewrite_core.specs.Entries.{AreSound, IsEarlier};
-ghost use Rattle.rewriter.specs.Forms.{IsComputed, IsRead, IsGrown};
+ghost use Rattle.rewriter.specs.Forms.{IsRead, IsGrown};
 ghost use Rattle.rewriter.specs.InStreams.{AreCutsOf};
 ghost use Rattle.rewriter.specs.declared.priced.Want.TheVariants as want;
-ghost use Rattle.rewriter.specs.Search.{Least, LeastOf, LeastIfAny, LeastDeltaIfAny, LeastPairIfAny};
+ghost use Rattle.rewriter.specs.Search.{LeastWeighed, ComputedWeighed, LeastIfAny, LeastDeltaIfAny};
+ghost use Rattle.rewriter.specs.Search.{LeastPairIfAny};
 ghost use Rattle.rewriter.specs.Search.{IsChoice, IsDeltaPriceIfAny};
 ghost use Rattle.rewriter.specs.Table.{AreFound};
 
@@ -21,7 +22,7 @@ use crate::made::{
     grown_both, grown_left, grown_right, grown_tail, new_rows, read_whole, unchanged,
 };
 use crate::parts::{Growth, Increase, Inputs, Part, Stretch};
-use crate::priced::{Choice, Form, Priced, PricedDelta, PricedPair, Want};
+use crate::priced::{Choice, DeltaPrice, Form, Priced, PricedDelta, PricedPair, Want, Weighed};
 use crate::table::Found;
 use estimator::Sizes;
 use rewrite_core::{Hit, Lookup};
@@ -37,11 +38,11 @@ pub fn least_at<'p, L: Lookup, Z: Sizes>(
     lookup: &L,
     sizes: &Z,
     found: &mut Found<'p>,
-) -> Result<Priced, Memory>
+) -> Result<Weighed, Memory>
     requires sound { AreSound (L.entries lookup.now) }
     requires cuts { IsCutOf (Z.lengths sizes.now) (plan_of part.plan.now) part.cuts.now }
     requires found { AreFound (L.entries lookup.now) (Z.lengths sizes.now) found.old }
-    ensures answer { IfOk result (Least want (L.entries lookup.now) (Z.lengths sizes.now)
+    ensures answer { IfOk result (LeastWeighed want (L.entries lookup.now) (Z.lengths sizes.now)
         (plan_of part.entry.plan.now) part.entry.cuts.now) }
     ensures found { OnOk result (AreFound (L.entries lookup.now) (Z.lengths sizes.now) found.new) }
 {
@@ -61,13 +62,13 @@ fn chosen_at<'p, L: Lookup, Z: Sizes>(
     lookup: &L,
     sizes: &Z,
     found: &mut Found<'p>,
-) -> Result<Priced, Memory>
+) -> Result<Weighed, Memory>
     requires sound { AreSound (L.entries lookup.now) }
     requires cuts { IsCutOf (Z.lengths sizes.now) (plan_of part.plan.now) part.cuts.now }
     requires choice { IsChoice (L.entries lookup.now) (Z.lengths sizes.now) (plan_of part.plan.now)
         part.cuts.now choice }
     requires found { AreFound (L.entries lookup.now) (Z.lengths sizes.now) found.old }
-    ensures answer { IfOk result (Least want.Tree (L.entries lookup.now) (Z.lengths sizes.now)
+    ensures answer { IfOk result (LeastWeighed want.Tree (L.entries lookup.now) (Z.lengths sizes.now)
         (plan_of part.entry.plan.now) part.entry.cuts.now) }
     ensures found { OnOk result (AreFound (L.entries lookup.now) (Z.lengths sizes.now) found.new) }
 {
@@ -78,11 +79,17 @@ fn chosen_at<'p, L: Lookup, Z: Sizes>(
             Ok(made)
         }
         Form::Read => match read_at(alloc, want, part, lookup, sizes)? {
-            Some(read) => Ok(read),
+            Some(priced) => Ok(Weighed {
+                priced,
+                bytes: choice.bytes,
+            }),
             None => unreachable!(),
         },
         Form::Grown => match grown_at(alloc, want, part, lookup, sizes, found)? {
-            Some(grown) => Ok(grown),
+            Some(priced) => Ok(Weighed {
+                priced,
+                bytes: choice.bytes,
+            }),
             None => unreachable!(),
         },
     }
@@ -144,11 +151,11 @@ fn computed_at<'p, L: Lookup, Z: Sizes>(
     lookup: &L,
     sizes: &Z,
     found: &mut Found<'p>,
-) -> Result<Priced, Memory>
+) -> Result<Weighed, Memory>
     requires sound { AreSound (L.entries lookup.now) }
     requires cuts { IsCutOf (Z.lengths sizes.now) (plan_of part.plan.now) part.cuts.now }
     requires found { AreFound (L.entries lookup.now) (Z.lengths sizes.now) found.old }
-    ensures answer { IfOk result (LeastOf want IsComputed (L.entries lookup.now) (Z.lengths sizes.now)
+    ensures answer { IfOk result (ComputedWeighed want (L.entries lookup.now) (Z.lengths sizes.now)
         (plan_of part.entry.plan.now) part.entry.cuts.now) }
     ensures found { OnOk result (AreFound (L.entries lookup.now) (Z.lengths sizes.now) found.new) }
 {
@@ -277,7 +284,10 @@ fn pair_at<'p, L: Lookup, Z: Sizes>(
         None => Ok(None),
         Some(delta) => {
             let best = least_at(alloc, want, part, lookup, sizes, found)?;
-            Ok(Some(PricedPair { delta, best }))
+            Ok(Some(PricedPair {
+                delta,
+                best: best.priced,
+            }))
         }
     }
 }
@@ -309,7 +319,7 @@ fn delta_at<'p, L: Lookup, Z: Sizes>(
     }
 }
 
-// The estimate of a least delta over the stretch, which is looked for once.
+// The price of a least delta over the stretch, which is looked for once.
 #[cycle(search)]
 fn price_at<'p, L: Lookup, Z: Sizes>(
     alloc: Global,
@@ -317,7 +327,7 @@ fn price_at<'p, L: Lookup, Z: Sizes>(
     lookup: &L,
     sizes: &Z,
     found: &mut Found<'p>,
-) -> Result<Option<u64>, Memory>
+) -> Result<Option<DeltaPrice>, Memory>
     requires sound { AreSound (L.entries lookup.now) }
     requires cuts { AreCutsOf (Z.lengths sizes.now) (plan_of stretch.plan.now) stretch.old.now
         stretch.new.now }

@@ -8,7 +8,7 @@ ghost use Rattle.rewriter.specs.Table.{AreFound, IsKnownChoice, IsKnownDelta};
 
 use crate::parts::{Part, Stretch};
 use crate::places::key;
-use crate::priced::Choice;
+use crate::priced::{Choice, DeltaPrice};
 use estimator::are_same_cuts;
 use indexmap::IndexMap;
 use plan_core::Plan;
@@ -36,18 +36,18 @@ impl KnownChoice<'_> {
     }
 }
 
-/// The estimate of a least delta of a plan between two cuts; none where there is no delta.
+/// The price of a least delta of a plan between two cuts; none where there is no delta.
 #[derive(Drop)]
 struct KnownDelta<'p> {
     plan: &'p Plan,
     old: Seq<Cut>,
     new: Seq<Cut>,
-    price: Option<u64>,
+    price: Option<DeltaPrice>,
 }
 
 impl KnownDelta<'_> {
     // The price, where it is for this stretch.
-    fn price_of(&self, stretch: Stretch<'_, '_>) -> Option<Option<u64>>
+    fn price_of(&self, stretch: Stretch<'_, '_>) -> Option<Option<DeltaPrice>>
         ensures { (entries : Entries) (lengths : Lengths) → IsKnownDelta entries lengths self.now
             → IfSome result (IsDeltaPriceIfAny entries lengths (plan_of stretch.entry.plan.now)
             stretch.entry.old.now stretch.entry.new.now) }
@@ -112,8 +112,8 @@ impl<'p> Found<'p> {
         Ok(())
     }
 
-    /// The estimate of a least delta over this stretch, if it was looked for.
-    pub fn price(&self, stretch: Stretch<'_, '_>) -> Option<Option<u64>>
+    /// The price of a least delta over this stretch, if it was looked for.
+    pub fn price(&self, stretch: Stretch<'_, '_>) -> Option<Option<DeltaPrice>>
         ensures { (entries : Entries) (lengths : Lengths) → AreFound entries lengths self.now
             → IfSome result (IsDeltaPriceIfAny entries lengths (plan_of stretch.entry.plan.now)
             stretch.entry.old.now stretch.entry.new.now) }
@@ -129,7 +129,7 @@ impl<'p> Found<'p> {
         &mut self,
         alloc: Global,
         stretch: Stretch<'p, '_>,
-        price: Option<u64>,
+        price: Option<DeltaPrice>,
     ) -> Result<(), Memory>
         ensures { OnOk result ((entries : Entries) (lengths : Lengths) → AreFound entries lengths self.old
             → IsDeltaPriceIfAny entries lengths (plan_of stretch.entry.plan.now)

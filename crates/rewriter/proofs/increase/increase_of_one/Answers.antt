@@ -1,4 +1,4 @@
-use Rattle.std.proofs.Common.{refl}
+use Rattle.std.proofs.Common.{refl, ap}
 use Rattle.plan_core.specs.PlainPlan.{plan_of}
 use Rattle.rewriter.proofs.Growths.{child_of_row, child_of_distinct}
 use Rattle.rewriter.proofs.LeastParts as law
@@ -9,7 +9,7 @@ pub returns-then-is_by_row : goal.returns-then-is_by_row
 returns-then-is_by_row g c = child_of_row (g.L.Lookup.entries c.args.lookup.now) (g.Z.Sizes.lengths c.args.sizes.now) (plan_of c.args.stretch.plan.now) c.args.stretch.old.now c.args.stretch.new.now c.requires.differ c.requires.cuts _ (c.if-is_by_row.ensures.0 holds) c.requires.child c.requires.lower refl refl
 
 pub returns-then-is_distinct : goal.returns-then-is_distinct
-returns-then-is_distinct g c = child_of_distinct (g.L.Lookup.entries c.args.lookup.now) (g.Z.Sizes.lengths c.args.sizes.now) (plan_of c.args.stretch.plan.now) c.args.stretch.old.now c.args.stretch.new.now c.requires.differ c.requires.cuts _ _ (c.if-is_distinct.ensures.0 holds) c.requires.child c.requires.lower refl refl refl refl
+returns-then-is_distinct g c = child_of_distinct (g.L.Lookup.entries c.args.lookup.now) (g.Z.Sizes.lengths c.args.sizes.now) (plan_of c.args.stretch.plan.now) c.args.stretch.old.now c.args.stretch.new.now c.requires.differ c.requires.cuts _ _ (c.if-is_distinct.ensures.0 holds) c.requires.child c.requires.lower refl refl (ap (λ p. plan_of p.plan.now) c.before-then-is_distinct.ensures) (ap (λ p. p.cuts.now) c.before-then-is_distinct.ensures)
 
 pub returns : goal.returns
 returns g c =

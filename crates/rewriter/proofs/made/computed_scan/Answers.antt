@@ -6,7 +6,10 @@ use Rattle.rewriter.proofs.made.computed_scan.Goals as goal
 pub returns : goal.returns
 returns g c =
     record {
-      of = Node (plan_of c.args.part.plan.now) c.args.part.cuts.now Scan;
-      least = law.computed_scan (g.L.Lookup.entries c.args.lookup.now) (g.Z.Sizes.lengths c.args.sizes.now) (plan_of c.args.part.plan.now) c.args.part.cuts.now c.requires.scan;
-      prices = record { estimate = c.whole_bytes-estimate.ensures; shown = c.in_ok-tree.ensures.shown; given = c.in_ok-tree.ensures.given };
+      least = record {
+        of = Node (plan_of c.args.part.plan.now) c.args.part.cuts.now Scan;
+        least = law.computed_scan (g.L.Lookup.entries c.args.lookup.now) (g.Z.Sizes.lengths c.args.sizes.now) (plan_of c.args.part.plan.now) c.args.part.cuts.now c.requires.scan;
+        prices = record { estimate = c.whole_bytes-bytes.ensures; shown = c.in_ok-tree.ensures.shown; given = c.in_ok-tree.ensures.given };
+      };
+      bytes = c.whole_bytes-bytes.ensures;
     }

@@ -1,3 +1,5 @@
+use Rattle.std.proofs.Common.{sym, ap, ◌∙◌}
+use Rattle.estimator.specs.Bytes.{capped}
 use Rattle.plan_core.specs.PlainPlan.{plan_of}
 use Rattle.rewrite_core.specs.PlainRewriting.{Change, OfChild}
 use Rattle.rewriter.proofs.made.delta_of_child.Goals as goal
@@ -8,8 +10,10 @@ returns-in-None g c = c.requires.by.none (rw c.in-None.is at c.requires.delta)
 pub returns-in_ok-tree-in-Some : goal.returns-in_ok-tree-in-Some
 returns-in_ok-tree-in-Some g c =
     let l = rw c.in-Some.is at c.requires.delta in
+    let bytes = l.bytes ∙ ap capped (sym c.requires.by.bytes) in
     record {
       of = Change (plan_of c.args.stretch.plan.now) c.args.stretch.old.now c.args.stretch.new.now (OfChild l.of);
       least = c.requires.by.makes l.of l.least;
-      prices = record { estimate = c.plus-estimate.ensures _ _ l.prices.estimate c.new_bytes.ensures; shown = c.in_ok-tree-in-Some.ensures.shown _ l.prices.shown; given = c.in_ok-tree-in-Some.ensures.given _ l.prices.given };
+      prices = record { estimate = c.with_bytes-price.ensures.estimate _ _ l.prices.estimate bytes; shown = c.in_ok-tree-in-Some.ensures.shown _ l.prices.shown; given = c.in_ok-tree-in-Some.ensures.given _ l.prices.given };
+      bytes = c.with_bytes-price.ensures.bytes ∙ bytes;
     }

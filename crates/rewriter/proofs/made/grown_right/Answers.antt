@@ -1,15 +1,8 @@
-use Rattle.std.proofs.Common.{subst, sym, ◌≡◌}
-use Rattle.estimator.specs.Bytes.{IsCutOf, new_bytes, capped}
-use Rattle.estimator.specs.Cuts.{EndAtOrBefore}
+use Rattle.std.proofs.Common.{sym, ap, ◌∙◌}
+use Rattle.estimator.specs.Bytes.{capped}
 use Rattle.plan_core.specs.PlainPlan.{plan_of}
 use Rattle.rewrite_core.specs.PlainRewriting.{Node, RightGrew}
 use Rattle.rewriter.proofs.made.grown_right.Goals as goal
-
-pub new_bytes-requires-clause-old : goal.new_bytes-requires-clause-old
-new_bytes-requires-clause-old g c = subst (IsCutOf (g.Z.Sizes.lengths c.args.sizes.now) (plan_of c.args.part.plan.now)) (sym c.items.ensures) c.requires.cuts.before
-
-pub new_bytes-requires-clause-grows : goal.new_bytes-requires-clause-grows
-new_bytes-requires-clause-grows g c = subst (λ o. EndAtOrBefore o c.args.part.cuts.now) (sym c.items.ensures) c.requires.cuts.grows
 
 pub returns-in-None : goal.returns-in-None
 returns-in-None g c = c.requires.by.none (rw c.in-None.is at c.requires.pair)
@@ -20,5 +13,9 @@ returns-in_ok-tree-in-Some g c =
     record {
       of = Node (plan_of c.args.part.plan.now) c.args.part.cuts.now (RightGrew c.args.hit.now l.best.of l.delta.of);
       least = c.requires.by.makes l.delta.of l.best.of l.delta.least l.best.least;
-      prices = record { estimate = c.plus-estimate.ensures _ _ (c.plus-parts.ensures _ _ (c.plus.ensures _ _ c.file_len.ensures l.best.prices.estimate) l.delta.prices.estimate) (subst (λ o. c.new_bytes.result ≡ capped (new_bytes (g.Z.Sizes.lengths c.args.sizes.now) (plan_of c.args.part.plan.now) o c.args.part.cuts.now)) c.items.ensures c.new_bytes.ensures); shown = c.in_ok-tree-in-Some.ensures.shown _ _ l.best.prices.shown l.delta.prices.shown; given = c.in_ok-tree-in-Some.ensures.given _ l.best.prices.given l.delta.prices.given };
+      prices = record {
+        estimate = c.plus-estimate.ensures _ _ (c.plus-parts.ensures _ _ (c.plus.ensures _ _ c.file_len.ensures l.best.prices.estimate) l.delta.prices.estimate) (l.delta.bytes ∙ ap capped (sym c.requires.by.bytes));
+        shown = c.in_ok-tree-in-Some.ensures.shown _ _ l.best.prices.shown l.delta.prices.shown;
+        given = c.in_ok-tree-in-Some.ensures.given _ l.best.prices.given l.delta.prices.given;
+      };
     }

@@ -3,23 +3,26 @@ use Rattle.plan_core.specs.OperatorCount.{operator_count}
 use Rattle.plan_core.specs.PlainPlan.{plan_of}
 use Rattle.rewriter.specs.declared.priced.Form.TheVariants as form
 use Rattle.rewriter.specs.declared.priced.Want.TheVariants as want
-use Rattle.rewriter.specs.Search.{Least, LeastDeltaIfAny}
-use Rattle.rewriter.proofs.Choices.{least_by_form, form_there}
+use Rattle.rewriter.specs.Search.{LeastWeighed, LeastDeltaIfAny}
+use Rattle.rewriter.proofs.Choices.{least_by_form, weighed_by_form, form_there}
 use Rattle.rewriter.proofs.LeastParts as law
-use Rattle.rewriter.proofs.Ranges.{hit_cuts}
 use Rattle.rewriter.proofs.search.+search.Goals as goal
 
 pub least_at-returns-in-Price-clause-answer : goal.least_at-returns-in-Price-clause-answer
 least_at-returns-in-Price-clause-answer g t c =
-    subst (λ w. Least w (g.L.Lookup.entries c.args.lookup.now) (g.Z.Sizes.lengths c.args.sizes.now) (plan_of c.args.part.plan.now) c.args.part.cuts.now c.without_tree.result) (sym c.in-Price.is) (c.without_tree.ensures (g.L.Lookup.entries c.args.lookup.now) (g.Z.Sizes.lengths c.args.sizes.now) (plan_of c.args.part.plan.now) c.args.part.cuts.now c.in_ok-choice.ensures.answer)
+    subst (λ w. LeastWeighed w (g.L.Lookup.entries c.args.lookup.now) (g.Z.Sizes.lengths c.args.sizes.now) (plan_of c.args.part.plan.now) c.args.part.cuts.now c.without_tree.result) (sym c.in-Price.is) (c.without_tree.ensures (g.L.Lookup.entries c.args.lookup.now) (g.Z.Sizes.lengths c.args.sizes.now) (plan_of c.args.part.plan.now) c.args.part.cuts.now c.in_ok-choice.ensures.answer)
 
 pub least_at-returns-in-Tree-clause-answer : goal.least_at-returns-in-Tree-clause-answer
 least_at-returns-in-Tree-clause-answer g t c =
-    subst (λ w. IfOk c.chosen_at.result (Least w (g.L.Lookup.entries c.args.lookup.now) (g.Z.Sizes.lengths c.args.sizes.now) (plan_of c.args.part.plan.now) c.args.part.cuts.now)) (sym c.in-Tree.is) c.chosen_at.ensures.answer
+    subst (λ w. IfOk c.chosen_at.result (LeastWeighed w (g.L.Lookup.entries c.args.lookup.now) (g.Z.Sizes.lengths c.args.sizes.now) (plan_of c.args.part.plan.now) c.args.part.cuts.now)) (sym c.in-Tree.is) c.chosen_at.ensures.answer
 
 pub chosen_at-returns-in_ok-made-in-Computed-clause-answer : goal.chosen_at-returns-in_ok-made-in-Computed-clause-answer
 chosen_at-returns-in_ok-made-in-Computed-clause-answer g t c =
-    least_by_form (g.L.Lookup.entries c.args.lookup.now) (g.Z.Sizes.lengths c.args.sizes.now) (plan_of c.args.part.plan.now) c.args.part.cuts.now want.Tree c.args.choice form.Computed c.in_ok-made-in-Computed.made c.in-Computed.is c.requires.choice c.in_ok-made-in-Computed.ensures.answer
+    let answer = c.in_ok-made-in-Computed.ensures.answer in
+    record {
+      least = least_by_form (g.L.Lookup.entries c.args.lookup.now) (g.Z.Sizes.lengths c.args.sizes.now) (plan_of c.args.part.plan.now) c.args.part.cuts.now want.Tree c.args.choice form.Computed _ c.in-Computed.is c.requires.choice answer.least;
+      bytes = answer.bytes;
+    }
 
 pub choice_at-returns-in-Some-clause-answer : goal.choice_at-returns-in-Some-clause-answer
 choice_at-returns-in-Some-clause-answer g t c =
@@ -95,22 +98,6 @@ grown_from-pair_at-requires-in-Both-2 g t c κs within =
     let lower = c.in-Both.ensures.right.lower in
     let found = c.in_ok-before-in-Both.ensures.found in search rules
 
-pub grown_from-grown_tail-requires-clause-cuts : goal.grown_from-grown_tail-requires-clause-cuts
-grown_from-grown_tail-requires-clause-cuts g t c =
-    hit_cuts (g.Z.Sizes.lengths c.args.sizes.now) (g.L.Lookup.entries c.args.lookup.now) (plan_of c.args.part.plan.now) c.args.part.cuts.now c.args.hit.now c.requires.sound c.requires.hit c.requires.cuts
-
-pub grown_from-grown_left-requires-clause-cuts : goal.grown_from-grown_left-requires-clause-cuts
-grown_from-grown_left-requires-clause-cuts g t c =
-    hit_cuts (g.Z.Sizes.lengths c.args.sizes.now) (g.L.Lookup.entries c.args.lookup.now) (plan_of c.args.part.plan.now) c.args.part.cuts.now c.args.hit.now c.requires.sound c.requires.hit c.requires.cuts
-
-pub grown_from-grown_right-requires-clause-cuts : goal.grown_from-grown_right-requires-clause-cuts
-grown_from-grown_right-requires-clause-cuts g t c =
-    hit_cuts (g.Z.Sizes.lengths c.args.sizes.now) (g.L.Lookup.entries c.args.lookup.now) (plan_of c.args.part.plan.now) c.args.part.cuts.now c.args.hit.now c.requires.sound c.requires.hit c.requires.cuts
-
-pub grown_from-grown_both-requires-clause-cuts : goal.grown_from-grown_both-requires-clause-cuts
-grown_from-grown_both-requires-clause-cuts g t c =
-    hit_cuts (g.Z.Sizes.lengths c.args.sizes.now) (g.L.Lookup.entries c.args.lookup.now) (plan_of c.args.part.plan.now) c.args.part.cuts.now c.args.hit.now c.requires.sound c.requires.hit c.requires.cuts
-
 pub increased_at-delta_at-requires : goal.increased_at-delta_at-requires
 increased_at-delta_at-requires g t c κs within =
     let cut = c.in-Child.ensures.stretch.cuts in
@@ -136,7 +123,7 @@ pair_at-returns-in-None-clause-answer g t c =
 
 pub pair_at-returns-in_ok-best-in-Some-clause-answer : goal.pair_at-returns-in_ok-best-in-Some-clause-answer
 pair_at-returns-in_ok-best-in-Some-clause-answer g t c =
-    record { delta = rw c.in-Some.is at c.in_ok-delta_at.ensures.answer; best = c.in_ok-best-in-Some.ensures.answer }
+    record { delta = rw c.in-Some.is at c.in_ok-delta_at.ensures.answer; best = c.in_ok-best-in-Some.ensures.answer.least }
 
 pub price_at-returns-in-Some-clause-answer : goal.price_at-returns-in-Some-clause-answer
 price_at-returns-in-Some-clause-answer g t c =
