@@ -9,7 +9,7 @@ ghost use Rattle.gated_log.specs.Logs.{front, contents};
 ghost use Rattle.record_codec.specs.Spelling.{change_spelling, HasChangeSpelling};
 ghost use Rattle.catalog_core.specs.Table.{Table, empty_table, after, Fits};
 ghost use Rattle.catalog_core.specs.Catalogs.{table_of, IsReady};
-ghost use Rattle.journal_store.specs.Readings.{generation_file, LogHasAtMost};
+ghost use Rattle.journal_store.specs.Readings.{generation_file, IsUnfinished, LogHasAtMost};
 ghost use Rattle.journal_store.specs.Journals.{end_of, generation_of};
 ghost use Rattle.folder.specs.State.{State, table, file_bytes};
 ghost use Rattle.folder.specs.Replay.{Replays, ReadsAs, StopsReading, StopsReplay, due_in, is_checkpoint};
@@ -61,6 +61,9 @@ impl Folder {
             → OnOk result ⊥ }
         ensures place { IsTrue D.tells → (file at g b : ℕ) → StopsReading (D.view store.old).files file at
             → IsErrOf result (LoadRefusal.NotAStore g b) → (g ≡ file) × (b ≡ at) }
+        // Where the making is finished no file is changed, nor before `NotAStore`.
+        ensures finished { IsTrue D.tells → (IsUnfinished ((D.view store.old).files 0) → ⊥)
+            → Narrows (D.view store.old) (D.view store.new) }
         ensures unchanged { IsTrue D.tells → (file at : ℕ) → IsErrOf result (LoadRefusal.NotAStore file at)
             → Narrows (D.view store.old) (D.view store.new) }
         ensures cause { IsErrOf result LoadRefusal.Fault

@@ -1,9 +1,10 @@
 -- Counts that don't fall, and which of them rose where a run ends.
-use Rattle.std.proofs.Common.{ℕ, ◌≤◌, arith}
+use Rattle.std.proofs.Common.{◌≡◌, ◌∙◌, ℕ, ◌≤◌, refl, arith}
 use Rattle.outside_traits.specs.Counts.{Rose}
 use Rattle.outside_traits.specs.Calls.{Rises}
 use Rattle.outside_traits.specs.View.{Counts}
-use Rattle.nectar_top.specs.Outside.{Faults, NoneFell, faults}
+use Rattle.nectar_top.specs.Outside.{Faults, NoneFell, NoWriteFailed, faults}
+use Rattle.nectar_top.specs.Loading.{HasLoadingCause, WereNotTaken}
 use Rattle.nectar_top.specs.Turns.{HasCause}
 use Rattle.nectar_top.specs.declared.exit.Exit.{Exit}
 use Rattle.nectar_top.specs.declared.exit.Exit.TheVariants as exit
@@ -37,12 +38,37 @@ pub Rose-since : (begun before now : ℕ) → begun ≤ before → Rose before n
 Rose-since begun before now counts rose = omega arith
 
 -- a count that rose since a later moment rose since an earlier one
-pub caused_since : (e : Exit) (a b c : Faults) → NoneFell a b → HasCause e b c → HasCause e a c
-caused_since exit.Done a b c p cause = tt
-caused_since exit.ScriptLimit a b c p cause = tt
-caused_since exit.SourceFault a b c p cause = Rose-since a.source b.source c.source p.source cause
-caused_since exit.SinkFault a b c p cause = Rose-since a.sink b.sink c.sink p.sink cause
-caused_since exit.StoreFault a b c p cause = Rose-since a.store.writes b.store.writes c.store.writes p.store.writes cause
-caused_since exit.Usage a b c p cause = absurd cause
-caused_since exit.Memory a b c p cause = absurd cause
-caused_since (exit.NotAStore file at) a b c p cause = absurd cause
+pub caused_since : (e : Exit) (a b c : Faults) → NoneFell a b → NoWriteFailed a b → HasCause e b c → HasCause e a c
+caused_since exit.Done a b c p held cause = cause ∙ held
+caused_since exit.ScriptLimit a b c p held cause = cause ∙ held
+caused_since exit.SourceFault a b c p held cause = (Rose-since a.source b.source c.source p.source cause.0, cause.1 ∙ held)
+caused_since exit.SinkFault a b c p held cause = (Rose-since a.sink b.sink c.sink p.sink cause.0, cause.1 ∙ held)
+caused_since exit.StoreFault a b c p held cause = Rose-since a.store.writes b.store.writes c.store.writes p.store.writes cause
+caused_since exit.Usage a b c p held cause = absurd cause
+caused_since exit.Memory a b c p held cause = absurd cause
+caused_since (exit.NotAStore file at) a b c p held cause = absurd cause
+
+-- a run that serves commands ends in no exit before the script is read
+pub served_is_taken : (e : Exit) (a b : Faults) → HasCause e a b → WereNotTaken e → ⊥
+served_is_taken exit.Usage a b cause taken = cause
+served_is_taken exit.Memory a b cause taken = cause
+served_is_taken (exit.NotAStore file at) a b cause taken = cause
+served_is_taken _ a b cause taken = taken
+
+-- unless it ends in `StoreFault` no write has failed
+pub no_write_failed : (e : Exit) (a b : Faults) → HasCause e a b → (e ≡ exit.StoreFault → ⊥) → NoWriteFailed a b
+no_write_failed exit.Done a b cause other = cause
+no_write_failed exit.ScriptLimit a b cause other = cause
+no_write_failed exit.SourceFault a b cause other = cause.1
+no_write_failed exit.SinkFault a b cause other = cause.1
+no_write_failed exit.StoreFault a b cause other = absurd (other refl)
+no_write_failed exit.Usage a b cause other = absurd cause
+no_write_failed exit.Memory a b cause other = absurd cause
+no_write_failed (exit.NotAStore file at) a b cause other = absurd cause
+
+-- a run whose folder isn't loaded ends in one of these exits
+pub unloaded_exit : (e : Exit) (a b : Counts) → HasLoadingCause e a b → (WereNotTaken e → ⊥) → (e ≡ exit.StoreFault → ⊥) → ⊥
+unloaded_exit exit.StoreFault a b cause taken other = other refl
+unloaded_exit exit.Memory a b cause taken other = taken tt
+unloaded_exit (exit.NotAStore file at) a b cause taken other = taken tt
+unloaded_exit _ a b cause taken other = cause

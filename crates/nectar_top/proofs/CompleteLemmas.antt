@@ -29,15 +29,10 @@ use Rattle.nectar_top.specs.Run.{longest_script, IsDone, IsComplete}
 use Rattle.nectar_top.specs.Turns.{Ends, HasCause}
 use Rattle.nectar_top.specs.declared.exit.Exit.{Exit}
 use Rattle.nectar_top.specs.declared.exit.Exit.TheVariants as exit
-use Rattle.nectar_top.proofs.CauseLemmas.{caused_since}
-use Rattle.nectar_top.proofs.FaultLemmas.{all_items_are_sparing}
+use Rattle.nectar_top.proofs.CauseLemmas.{Rose-since}
+use Rattle.nectar_top.proofs.FaultLemmas.{all_items_are_sparing, not_a_fault}
 
 -- ---- answers
-
-not_a_fault : (why : Refusal) → fault_in (answer.Refused why) ≡ 0 → why ≡ refusal.Fault → ⊥
-not_a_fault why none is =
-    let one : 1 ≡ 0 = subst (λ (w : Refusal). fault_in (answer.Refused w) ≡ 0) is none in
-    absurd (omega (arith, one))
 
 same_refusal : (why w : Refusal) (a : Answer) (new old : State) → a ≡ answer.Refused why → session.outcome a new ≡ session.refused old w → w ≡ why
 same_refusal why w a new old is out =
@@ -45,7 +40,7 @@ same_refusal why w a new old is out =
     cc
 
 step_sparing : (old new : State) (i : Item) (a : Answer) → Step Whole old i a new → IsSparingItem i → fault_in a ≡ 0 → IsSparing a
-step_sparing old new (item.Command command) (answer.Refused why) step sparing none = step_spares old new command why step (not_a_fault why none)
+step_sparing old new (item.Command command) (answer.Refused why) step sparing none = step_spares old new command why step (λ is. not_a_fault (answer.Refused why) none (ap answer.Refused is))
 step_sparing old new (item.Refused w) (answer.Refused why) (inl is) sparing none = subst SparesStore (same_refusal why w (answer.Refused why) new old refl is) sparing
 step_sparing old new (item.Refused w) (answer.Refused why) (inr is) sparing none = subst SparesStore (same_refusal why refusal.Memory (answer.Refused why) new old refl is) tt
 step_sparing old new i answer.Ok step sparing none = tt
@@ -62,7 +57,7 @@ run_sparing old new (c ∷ commands) (a ∷ answers) run sparing none =
 
 no_faults : (n a b : ℕ) → RoseBy n a b → (Rose a b → ⊥) → n ≡ 0
 no_faults zero a b rose none = refl
-no_faults (suc n) a b rose none = absurd (none (omega (arith, rose)))
+no_faults (suc n) a b rose none = absurd (none (omega (arith, rose.0)))
 
 -- ---- exits
 
@@ -87,9 +82,9 @@ complete_done s u v begun now done none = record {
 pub complete_served : (s : State) (u v : View) (e : Exit) (begun now : Outside) (input : List ℕ) (old mid new : Faults) → Ends (intact s) u v e begun now → begun.left ≡ Some input → length input ≤ longest_script
     → NoneFell old mid → HasCause e mid new → NoneFailed old new → (Rose begun.counts.reads now.counts.reads → ⊥) → IsCompleteOr s u v e begun now
 complete_served s u v exit.Done begun now input old mid new ends left within fell cause none reads = inl (refl, complete_done s u v begun now ends reads)
-complete_served s u v exit.SourceFault begun now input old mid new ends left within fell cause none reads = absurd (none.source (caused_since exit.SourceFault old mid new fell cause))
-complete_served s u v exit.SinkFault begun now input old mid new ends left within fell cause none reads = absurd (none.sink (caused_since exit.SinkFault old mid new fell cause))
-complete_served s u v exit.StoreFault begun now input old mid new ends left within fell cause none reads = absurd (none.writes (caused_since exit.StoreFault old mid new fell cause))
+complete_served s u v exit.SourceFault begun now input old mid new ends left within fell cause none reads = absurd (none.source (Rose-since old.source mid.source new.source fell.source cause.0))
+complete_served s u v exit.SinkFault begun now input old mid new ends left within fell cause none reads = absurd (none.sink (Rose-since old.sink mid.sink new.sink fell.sink cause.0))
+complete_served s u v exit.StoreFault begun now input old mid new ends left within fell cause none reads = absurd (none.writes (Rose-since old.store.writes mid.store.writes new.store.writes fell.store.writes cause))
 complete_served s u v exit.ScriptLimit begun now input old mid new ends left within fell cause none reads = absurd (too_long begun.left now.left input ends.taken ends.byte left ends.took ends.full within)
 complete_served s u v exit.Usage begun now input old mid new ends left within fell cause none reads = absurd ends
 complete_served s u v exit.Memory begun now input old mid new ends left within fell cause none reads = absurd ends

@@ -1,8 +1,7 @@
 -- How often a failed read is told, and what the reader of scripts refuses.
-use Rattle.std.proofs.Common.{◌≡◌, ◌+◌, ◌≤◌, ℕ, List, [], ◌∷◌, ◌++◌, Ok, Err, Result, IfOk, refl, sym, subst, inl, inr, arith}
+use Rattle.std.proofs.Common.{◌≡◌, ◌∙◌, ◌+◌, ◌≤◌, ℕ, List, [], ◌∷◌, ◌++◌, Ok, Err, Result, IfOk, refl, sym, subst, inl, inr, arith}
 use Rattle.std.specs.List.{AllByRecursion}
 use Rattle.std.proofs.lemmas.List.Sums.{sum_by_push}
-use Rattle.outside_traits.specs.Calls.{Rises}
 use Rattle.outside_traits.specs.Counts.{Rose}
 use Rattle.outside_traits.specs.View.{Counts}
 use Rattle.outside_traits.specs.declared.failed.Failed.{Failed}
@@ -20,14 +19,14 @@ use Rattle.nectar_top.specs.Refusals.{IsSparingItem, fault_in, faults_in, RoseBy
 
 -- ---- counts
 
-pub rose_by_none : (a b : ℕ) → a ≤ b → RoseBy 0 a b
-rose_by_none a b counts = omega (arith, counts)
+pub rose_by_none : (a b : ℕ) → b ≡ a → RoseBy 0 a b
+rose_by_none a b same = (omega (arith, same), λ none. same)
 
-pub rose_by_since : (n a b c : ℕ) → RoseBy n a b → b ≤ c → RoseBy n a c
-rose_by_since n a b c rose counts = omega (arith, rose, counts)
+pub rose_by_since : (n a b c : ℕ) → RoseBy n a b → c ≡ b → RoseBy n a c
+rose_by_since n a b c rose same = (omega (arith, rose.0, same), λ none. same ∙ rose.1 none)
 
 rose_by_on : (m n a b c : ℕ) → RoseBy m a b → RoseBy n b c → RoseBy (m + n) a c
-rose_by_on m n a b c x y = omega (arith, x, y)
+rose_by_on m n a b c x y = (omega (arith, x.0, y.0), λ none. y.1 (omega (arith, none)) ∙ x.1 (omega (arith, none)))
 
 -- one answer more
 pub faults-push : (answers : List Answer) (answer : Answer) (a b c : ℕ) → RoseBy (faults_in answers) a b → RoseBy (fault_in answer) b c → RoseBy (faults_in (answers ++ answer ∷ [])) a c
@@ -66,18 +65,25 @@ sparing_given spelled given (inr none) is = subst IsSparingItem (sym none) tt
 
 -- ---- a command's answer
 
-pub fault_rose : (result : Result (Session × Answer) Failed) (old new : Counts) → IfOk result (λ next. next.1 ≡ answer.Refused refusal.Fault → Rose old.reads new.reads) → Rises old new
+-- no other answer is `refused fault`
+pub not_a_fault : (a : Answer) → fault_in a ≡ 0 → a ≡ answer.Refused refusal.Fault → ⊥
+not_a_fault a none is =
+    let one : 1 ≡ 0 = subst (λ (x : Answer). fault_in x ≡ 0) is none in
+    absurd (omega (arith, one))
+
+pub fault_rose : (result : Result (Session × Answer) Failed) (old new : Counts) → IfOk result (λ next. next.1 ≡ answer.Refused refusal.Fault → Rose old.reads new.reads)
+    → IfOk result (λ next. (next.1 ≡ answer.Refused refusal.Fault → ⊥) → new.reads ≡ old.reads)
     → IfOk result (λ next. RoseBy (fault_in next.1) old.reads new.reads)
-fault_rose (Ok next) old new fault rises = by next.1 fault
+fault_rose (Ok next) old new fault other = by next.1 fault other
   where
-    by : (a : Answer) → (a ≡ answer.Refused refusal.Fault → Rose old.reads new.reads) → RoseBy (fault_in a) old.reads new.reads
-    by (answer.Refused refusal.Fault) rose = rose refl
-    by _ rose = rose_by_none old.reads new.reads rises.reads
-fault_rose (Err failed) old new fault rises = tt
+    by : (a : Answer) → (a ≡ answer.Refused refusal.Fault → Rose old.reads new.reads) → ((a ≡ answer.Refused refusal.Fault → ⊥) → new.reads ≡ old.reads) → RoseBy (fault_in a) old.reads new.reads
+    by (answer.Refused refusal.Fault) rose same = (rose refl, λ none. absurd (omega (arith, none)))
+    by _ rose same = rose_by_none old.reads new.reads (same (not_a_fault _ refl))
+fault_rose (Err failed) old new fault other = tt
 
 pub fault_of_item : (i : Item) (why : Refusal) (n : ℕ) → i ≡ item.Refused why → IsSparingItem i → RoseBy (fault_in (answer.Refused why)) n n
 fault_of_item i why n is sparing = by why (subst IsSparingItem is sparing)
   where
     by : (why : Refusal) → SparesStore why → RoseBy (fault_in (answer.Refused why)) n n
     by refusal.Fault spares = absurd spares
-    by _ spares = rose_by_none n n (omega arith)
+    by _ spares = rose_by_none n n refl

@@ -3,7 +3,9 @@ use Rattle.std.proofs.Common.{◌≡◌, ◌⊎◌, ◌∙◌, ℕ, List, Result
 use Rattle.std.specs.Prelude.{IsErrOf}
 use Rattle.session.specs.declared.session.Session.{Session}
 use Rattle.outside_traits.specs.Calls.{Idles}
+use Rattle.outside_traits.specs.Runs.{Narrows}
 use Rattle.outside_traits.specs.View.{View}
+use Rattle.journal_store.specs.Readings.{IsUnfinished}
 use Rattle.outside_traits.proofs.RunLemmas.{idles_narrow, narrows_on, spans_on, spans_narrowed}
 use Rattle.folder.specs.Left.{IsLeft, IsSoundForOneOf, Everything, Since}
 use Rattle.folder.specs.Replay.{StopsReading}
@@ -44,6 +46,11 @@ module _ (u v : View) (idle : Idles u v) where
 
   pub stops_behind : (file at : ℕ) → StopsReading u.files file at → StopsReading v.files file at
   stops_behind file at stops = subst (λ (f : ℕ → List ℕ). StopsReading f file at) (λ i g. sym (idle.same g) i) stops
+
+  -- where the making is finished no file is changed
+  pub finished_behind : (w : View) → ((IsUnfinished (v.files 0) → ⊥) → Narrows v w) → (IsUnfinished (u.files 0) → ⊥) → Narrows u w
+  finished_behind w loaded made =
+      narrows_on u v w (idles_narrow u v idle) (loaded (λ unmade. made (subst (λ (bytes : List ℕ). IsUnfinished bytes) (idle.same 0) unmade)))
 
 -- the exit tells the refusal
 pub refusal_is : (r : LoadRefusal) (e : Exit) (file at : ℕ) → e ≡ exit_of r → IsErrOf {T = Session} (Err e) (exit.NotAStore file at) → IsErrOf {T = Session} (Err r) (refusal.NotAStore file at)

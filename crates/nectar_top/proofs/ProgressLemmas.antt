@@ -4,7 +4,6 @@ use Rattle.std.specs.Prelude.{Result, Ok, Err}
 use Rattle.std.specs.Io.KnownBytes.{Appends}
 use Rattle.std.proofs.KnownBytes.{Appends-nil, Appends-trans}
 use Rattle.std.proofs.lemmas.List.Concat.{flat_map-append}
-use Rattle.outside_traits.specs.Calls.{Rises}
 use Rattle.outside_traits.specs.View.{View, Counts}
 use Rattle.outside_traits.specs.declared.failed.Failed.{Failed}
 use Rattle.script_text.specs.Answer.{answer_text}
@@ -68,9 +67,9 @@ breaks_item care u v old i command (Ok next) is p = tt
 breaks_item care u v old i command (Err failed) is p = record { answer = p.answer; new = p.new; step = subst (λ j. Step care old j p.answer p.new) (sym is) p.step; left = p.left; since = p.since }
 
 -- nothing was taken
-pub Progress-new : (found : Found) (u v : View) (reader : Lines) (session : Session) (left written : Option (List ℕ)) (old new : Counts) → Stands reader [] → standing.Stands found.care v session found.first → Since found.care found.first found.other u v → Rises old new
+pub Progress-new : (found : Found) (u v : View) (reader : Lines) (session : Session) (left written : Option (List ℕ)) (old new : Counts) → Stands reader [] → standing.Stands found.care v session found.first → Since found.care found.first found.other u v → new.reads ≡ old.reads
     → Progress found u v reader session [] (shown left written old) (shown left written new)
-Progress-new found u v reader session left written old new reads stands since rises = record {
+Progress-new found u v reader session left written old new reads stands since same = record {
   done = [];
   part = [];
   commands = [];
@@ -84,7 +83,7 @@ Progress-new found u v reader session left written old new reads stands since ri
   since = reaches_loaded found u v since;
   reads = reads;
   wrote = Appends-nil written;
-  faults = rose_by_none old.reads new.reads rises.reads;
+  faults = rose_by_none old.reads new.reads same;
 }
 
 module _ (found : Found) (u v : View) (reader : Lines) (session : Session) (taken : List ℕ) (begun now : Outside) (at : Progress found u v reader session taken begun now) where

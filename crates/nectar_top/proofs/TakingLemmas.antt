@@ -22,12 +22,14 @@ pub record TakenSoFar (D : Type 0) (view : D → View) (tells : Bool) (r0 r1 : L
   pub bound : at ≤ length piece
   pub serving : IsTrue tells → (found : Found) (origin : D) → Serves found (view origin) r0 s0 w0 v0 c0 piece r1 s1 w1 v1 c1 (take at piece) (drop at piece)
   pub counts : (source : ℕ) → NoneFell (faults source f0 c0) (faults source f1 c1)
+  pub writes : c1.writes ≡ c0.writes
 
 pub TakenSoFar-none : (D : Type 0) (view : D → View) (tells : Bool) (reader : Lines) (session : Session) (written : Option (List ℕ)) (v : View) (f : ℕ) (c : Counts) (piece : List ℕ) → TakenSoFar D view tells reader reader session session written written v v f f c c piece 0
 TakenSoFar-none D view tells reader session written v f c piece = record {
   bound = omega arith;
   serving = λ told found origin served begun before at. subst (λ t. Serving found (view origin) v reader session t piece begun (with_answer before written c)) (sym (append-nil served)) at;
   counts = λ source. none_fell (faults source f c);
+  writes = refl;
 }
 
 module _ (D : Type 0) (view : D → View) (tells : Bool) (r0 r1 : Lines) (s0 s1 : Session) (w0 w1 : Option (List ℕ)) (v0 v1 : View) (f0 f1 : ℕ) (c0 c1 : Counts) (piece : List ℕ) (at : ℕ)
@@ -46,14 +48,15 @@ module _ (D : Type 0) (view : D → View) (tells : Bool) (r0 r1 : Lines) (s0 s1 
 
   pub TakenSoFar-more : (r2 : Lines) (s2 : Session) (w2 : Option (List ℕ)) (v2 : View) (f2 : ℕ) (c2 : Counts) (count : ℕ) → count ≤ length part
       → (IsTrue tells → (found : Found) (origin : D) → Serves found (view origin) r1 s1 w1 v1 c1 part r2 s2 w2 v2 c2 (take count part) (drop count part))
-      → ((source : ℕ) → NoneFell (faults source f1 c1) (faults source f2 c2)) → TakenSoFar D view tells r0 r2 s0 s2 w0 w2 v0 v2 f0 f2 c0 c2 piece (at + count)
-  TakenSoFar-more r2 s2 w2 v2 f2 c2 count fits serves counts = record {
+      → ((source : ℕ) → NoneFell (faults source f1 c1) (faults source f2 c2)) → c2.writes ≡ c1.writes → TakenSoFar D view tells r0 r2 s0 s2 w0 w2 v0 v2 f0 f2 c0 c2 piece (at + count)
+  TakenSoFar-more r2 s2 w2 v2 f2 c2 count fits serves counts writes = record {
     bound = omega (arith, fits, so_far.bound, length-take (length piece - at) (drop at piece), length-drop at piece);
     serving = λ told found origin served begun before serving.
         subst (λ rest. Serving found (view origin) v2 r2 s2 (served ++ take (at + count) piece) rest begun (with_answer before w2 c2)) (rest_next count)
         (subst (λ t. Serving found (view origin) v2 r2 s2 t (drop count part) begun (with_answer before w2 c2)) (append_assoc served (take at piece) (take count part) ∙ ap (λ t. served ++ t) (taken_next piece at count))
         (serves told found origin (served ++ take at piece) begun before (at_part told found origin served begun before serving)));
     counts = λ source. none_fell_on (faults source f0 c0) (faults source f1 c1) (faults source f2 c2) (so_far.counts source) (counts source);
+    writes = writes ∙ so_far.writes;
   }
 
   -- the bytes are those of the piece, whichever part of them is served
@@ -67,7 +70,7 @@ module _ (D : Type 0) (view : D → View) (tells : Bool) (r0 r1 : Lines) (s0 s1 
       ends told found origin (served ++ take at piece) begun before (at_part told found origin served begun before serving) (omega (arith, within, ap length (whole served)))
 
   pub HasCause-more : (exit : Exit) (f2 : ℕ) (c2 : Counts) → ((source : ℕ) → HasCause exit (faults source f1 c1) (faults source f2 c2)) → (source : ℕ) → HasCause exit (faults source f0 c0) (faults source f2 c2)
-  HasCause-more exit f2 c2 cause source = caused_since exit (faults source f0 c0) (faults source f1 c1) (faults source f2 c2) (so_far.counts source) (cause source)
+  HasCause-more exit f2 c2 cause source = caused_since exit (faults source f0 c0) (faults source f1 c1) (faults source f2 c2) (so_far.counts source) so_far.writes (cause source)
 
   -- all of the piece is served
   pub Serves-all : length piece ≤ at → IsTrue tells → (found : Found) (origin : D) → Serves found (view origin) r0 s0 w0 v0 c0 piece r1 s1 w1 v1 c1 piece []

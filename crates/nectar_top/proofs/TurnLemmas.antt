@@ -10,7 +10,7 @@ use Rattle.script_text.specs.declared.item.Item.{Item}
 use Rattle.script_text.specs.declared.lines.Lines.{Lines}
 use Rattle.session.specs.declared.session.Session.{Session}
 use Rattle.nectar_top.specs.Crash.{Found}
-use Rattle.nectar_top.specs.Outside.{Outside, shown, with_answer, Faults, NoneFell}
+use Rattle.nectar_top.specs.Outside.{Outside, shown, with_answer, Faults, NoneFell, NoWriteFailed}
 use Rattle.nectar_top.specs.Progress.{Progress, Sends, Fails}
 use Rattle.nectar_top.specs.Run.{longest_script, Answered, AnsweredInPart, BrokenOff}
 use Rattle.nectar_top.specs.Turns.{Serving, Ends, HasCause}
@@ -165,6 +165,7 @@ pub record ReadSoFar (D : Type 0) (view : D → View) (tells : Bool) (r0 r1 : Li
   pub turns : turn ≤ count
   pub serving : IsTrue tells → (found : Found) (origin : D) (begun : Outside) → Serving found (view origin) v0 r0 s0 [] [] begun start → (served : List ℕ) × (length served ≡ count) × Serving found (view origin) v1 r1 s1 served [] begun now
   pub counts : NoneFell f0 f1
+  pub writes : NoWriteFailed f0 f1
 
 -- what stands at the exit that came
 pub Ends-at : (found : Found) (u v : View) (exit : Exit) (begun now : Outside) → Ends found u v exit begun now → (other : Exit) → exit ≡ other → Ends found u v other begun now

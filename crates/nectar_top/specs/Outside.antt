@@ -1,5 +1,5 @@
 -- What the program works on shows of itself.
-use Rattle.std.specs.Prelude.{ℕ, ◌≤◌, List, Option}
+use Rattle.std.specs.Prelude.{◌≡◌, ℕ, ◌≤◌, List, Option}
 use Rattle.outside_traits.specs.Counts.{Rose}
 use Rattle.outside_traits.specs.View.{Counts}
 use Rattle.outside_traits.specs.Calls.{Rises}
@@ -38,3 +38,7 @@ pub record NoneFell (old new : Faults) : Type 0 where
   pub source : old.source ≤ new.source
   pub sink : old.sink ≤ new.sink
   pub store : Rises old.store new.store
+
+-- no write, cut or sync of the store has failed
+abbrev pub NoWriteFailed : Faults → Faults → Type 0
+NoWriteFailed old new = new.store.writes ≡ old.store.writes

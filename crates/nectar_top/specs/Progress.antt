@@ -73,7 +73,7 @@ pub record SendsInPart (care : Care) (u v : View) (old : State) (command : Item)
 -- the store failed in a command, of which no answer was written
 pub record BreaksOff (care : Care) (u v : View) (old : State) (command : Item) (before now : Outside) : Type 0 where
   pub breaks : Breaks care u v old command
-  pub counts : before.counts.reads ≤ now.counts.reads
+  pub counts : now.counts.reads ≡ before.counts.reads
   pub wrote : now.written ≡ before.written
 
 -- a command was not performed and answered whole, and the run ends so

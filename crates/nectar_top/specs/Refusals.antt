@@ -1,5 +1,5 @@
 -- Answers that lay it to the store that a command isn't performed, and how many of them tell a failed read.
-use Rattle.std.specs.Prelude.{ℕ, ◌+◌, ◌-◌, ◌^◌, ◌≤◌, min, List, sum_by, ⊤}
+use Rattle.std.specs.Prelude.{◌≡◌, ℕ, ◌+◌, ◌-◌, ◌^◌, ◌≤◌, min, List, sum_by, ⊤}
 use Rattle.script_text.specs.declared.answer.Answer.{Answer}
 use Rattle.script_text.specs.declared.answer.Answer.TheVariants as answer
 use Rattle.script_text.specs.declared.answer.Refusal.TheVariants as refusal
@@ -25,6 +25,6 @@ fault_in _ = 0
 abbrev pub faults_in : List Answer → ℕ
 faults_in answers = sum_by fault_in answers
 
--- the count rose by as many at least, or stands at its last value
+-- the count rose by as many at least, or stands at its last value; where they are none it is as before
 abbrev pub RoseBy : ℕ → ℕ → ℕ → Type 0
-RoseBy n before now = min (before + n) (2 ^ 64 - 1) ≤ now
+RoseBy n before now = (min (before + n) (2 ^ 64 - 1) ≤ now) × (n ≡ 0 → now ≡ before)

@@ -22,8 +22,8 @@ abbrev pub longest_script : ℕ
 longest_script = 1073741824
 
 -- These commands, none left out, in another order or twice, were performed from the first state on, and the text of their
--- answers was written, and nothing else. A failed read is told at most as often as the store's count of them rose. The store
--- is left with the state after them.
+-- answers was written, and nothing else. A failed read is told at most as often as the store's count of them rose, and where
+-- none is told none has failed. The store is left with the state after them.
 pub record Answered (found : Found) (u v : View) (commands : List Item) (begun now : Outside) : Type 0 where
   pub answers : List Answer
   pub state : State

@@ -1,12 +1,12 @@
 -- A run of the program between two reads of the source, and at its exit.
-use Rattle.std.specs.Prelude.{ℕ, List, ◌++◌, ⊤}
+use Rattle.std.specs.Prelude.{ℕ, List, ◌++◌}
 use Rattle.std.specs.Io.KnownBytes.{Consumes}
 use Rattle.outside_traits.specs.Counts.{Rose}
 use Rattle.outside_traits.specs.View.{View}
 use Rattle.script_text.specs.declared.lines.Lines.{Lines}
 use Rattle.session.specs.declared.session.Session.{Session}
 use Rattle.nectar_top.specs.Crash.{Found}
-use Rattle.nectar_top.specs.Outside.{Outside, Faults}
+use Rattle.nectar_top.specs.Outside.{Outside, Faults, NoWriteFailed}
 use Rattle.nectar_top.specs.Progress.{Progress}
 use Rattle.nectar_top.specs.Run.{IsDone, IsCutOff, IsTooLong, IsUnwritten, IsBroken}
 use Rattle.nectar_top.specs.declared.exit.Exit.{Exit}
@@ -27,11 +27,11 @@ Ends found u v exit.StoreFault begun now = IsBroken found u v begun now
 Ends found u v exit.ScriptLimit begun now = IsTooLong found u v begun now
 Ends found u v _ begun now = ⊥
 
--- which count rose where a run that serves commands ends so
+-- Which count rose where a run that serves commands ends so. Unless it ends in `StoreFault`, no write, cut or sync has failed.
 abbrev pub HasCause : Exit → Faults → Faults → Type 0
-HasCause exit.Done old new = ⊤
-HasCause exit.ScriptLimit old new = ⊤
-HasCause exit.SourceFault old new = Rose old.source new.source
-HasCause exit.SinkFault old new = Rose old.sink new.sink
+HasCause exit.Done old new = NoWriteFailed old new
+HasCause exit.ScriptLimit old new = NoWriteFailed old new
+HasCause exit.SourceFault old new = Rose old.source new.source × NoWriteFailed old new
+HasCause exit.SinkFault old new = Rose old.sink new.sink × NoWriteFailed old new
 HasCause exit.StoreFault old new = Rose old.store.writes new.store.writes
 HasCause _ old new = ⊥

@@ -1,6 +1,6 @@
 //! The whole program as one call.
 ghost use Rattle.std.specs.Prelude.{◌≡◌, ◌↔◌, ◌⊎◌, ℕ, ◌+◌, ◌<◌, ◌≤◌, List, ◌++◌, [], length, IfOk, IfErr};
-ghost use Rattle.std.specs.Prelude.{IsTrue, IsErrOf, Option, Some};
+ghost use Rattle.std.specs.Prelude.{IsTrue, IsErrOf, OnOk, Option, Some};
 ghost use Rattle.std.specs.Io.KnownBytes.{IsAtEnd};
 ghost use Rattle.outside_traits.specs.Counts.{Rose};
 ghost use Rattle.outside_traits.specs.Calls.{Rises};
@@ -11,6 +11,7 @@ ghost use Rattle.folder.specs.Replay.{StopsReading};
 ghost use Rattle.folder.specs.Sound.{Whole};
 ghost use Rattle.folder.specs.State.{State};
 ghost use Rattle.session.specs.Standing.{Stands};
+ghost use Rattle.journal_store.specs.Readings.{IsUnfinished};
 ghost use Rattle.nectar_top.specs.Crash.{Found};
 ghost use Rattle.nectar_top.specs.Loading.{HasLoadingCause, WereNotTaken, exit_of};
 ghost use Rattle.nectar_top.specs.Outside.{Outside, shown, faults, NoneFell, NoneFailed};
@@ -94,6 +95,11 @@ pub fn nectar<S: Source, K: Sink, D: Store>(
         ⊎ ((source.new ≡ source.old) × (sink.new ≡ sink.old)
         × Rose (D.counts store.old).reads (D.counts store.new).reads) }
 
+    // A failed write, cut or sync ends the run in `StoreFault`: where it took commands and ends otherwise,
+    // none has failed.
+    ensures no_store_fault { (WereNotTaken result → ⊥) → (result ≡ Exit.StoreFault → ⊥)
+        → (D.counts store.new).writes ≡ (D.counts store.old).writes }
+
     // Over a folder of one state whose files hold their bytes, where no call fails and the script has no more
     // bytes than the limit, the run is done, and no answer is laid to the store; or memory was refused.
     ensures complete { IsTrue D.tells → AreAccepted words.now → (s : State) (input : List ℕ)
@@ -109,6 +115,10 @@ pub fn nectar<S: Source, K: Sink, D: Store>(
     ensures memory { IsTrue D.tells → (found : Found)
         → IsLeft found.care (D.view store.old) found.first found.other → result ≡ Exit.Memory
         → IsUnloaded found (D.view store.old) (D.view store.new) }
+
+    // A run that takes no command changes no file of a folder whose making is finished.
+    ensures finished { IsTrue D.tells → (IsUnfinished ((D.view store.old).files 0) → ⊥)
+        → WereNotTaken result → Narrows (D.view store.old) (D.view store.new) }
 
     // Reading the log files stops there, and no file is changed; and where it stops the run ends so, but for
     // a fault of the store or want of memory.
@@ -143,7 +153,12 @@ fn begin<D: Store>(alloc: Global, folder: &str, store: &mut D) -> Result<(Server
     ensures stopped { IsTrue D.tells → (file at : ℕ) → StopsReading (D.view store.old).files file at
         → IsErrOf result (Exit.NotAStore file at) ⊎ (IsErrOf result Exit.StoreFault
         ⊎ IsErrOf result Exit.Memory) }
+    ensures finished { IsTrue D.tells → (IsUnfinished ((D.view store.old).files 0) → ⊥)
+        → Narrows (D.view store.old) (D.view store.new) }
     ensures cause { IfErr result (λ exit. HasLoadingCause exit (D.counts store.old) (D.counts store.new)) }
+    ensures no_fault { OnOk result
+        (((D.counts store.new).reads ≡ (D.counts store.old).reads)
+        × ((D.counts store.new).writes ≡ (D.counts store.old).writes)) }
     ensures counts { Rises (D.counts store.old) (D.counts store.new) }
 {
     match room_of_a_run(alloc) {
@@ -181,7 +196,12 @@ fn load_folder<D: Store>(alloc: Global, folder: &str, store: &mut D) -> Result<S
     ensures stopped { IsTrue D.tells → (file at : ℕ) → StopsReading (D.view store.old).files file at
         → IsErrOf result (Exit.NotAStore file at) ⊎ (IsErrOf result Exit.StoreFault
         ⊎ IsErrOf result Exit.Memory) }
+    ensures finished { IsTrue D.tells → (IsUnfinished ((D.view store.old).files 0) → ⊥)
+        → Narrows (D.view store.old) (D.view store.new) }
     ensures cause { IfErr result (λ exit. HasLoadingCause exit (D.counts store.old) (D.counts store.new)) }
+    ensures no_fault { OnOk result
+        (((D.counts store.new).reads ≡ (D.counts store.old).reads)
+        × ((D.counts store.new).writes ≡ (D.counts store.old).writes)) }
     ensures counts { Rises (D.counts store.old) (D.counts store.new) }
 {
     match store.attach(folder) {
@@ -269,6 +289,7 @@ fn serve_piece<S: Source, K: Sink, D: Store>(
     ensures cause { IfErr result (λ exit. HasCause exit
         (faults (S.faults source.old) (K.faults sink.old) (D.counts store.old))
         (faults (S.faults source.new) (K.faults sink.new) (D.counts store.new))) }
+    ensures no_fault { OnOk result ((D.counts store.new).writes ≡ (D.counts store.old).writes) }
     ensures counts { NoneFell (faults (S.faults source.old) (K.faults sink.old) (D.counts store.old))
         (faults (S.faults source.new) (K.faults sink.new) (D.counts store.new)) }
 {

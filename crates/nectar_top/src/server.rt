@@ -1,6 +1,6 @@
 //! What serves a script: the reader of its commands, the session, and the room for a line of an answer.
 ghost use Rattle.std.specs.Prelude.{◌≡◌, ℕ, ◌<◌, ◌≤◌, List, [], ◌++◌, length, take, drop, IfOk};
-ghost use Rattle.std.specs.Prelude.{IfErr, OnErr, IsTrue, vec_capacity};
+ghost use Rattle.std.specs.Prelude.{IfErr, OnOk, OnErr, IsTrue, vec_capacity};
 ghost use Rattle.std.specs.Io.KnownBytes.{IsAtEnd};
 ghost use Rattle.outside_traits.specs.Counts.{Rose};
 ghost use Rattle.outside_traits.specs.Calls.{Rises};
@@ -72,6 +72,7 @@ impl Server {
         ensures cause { IfErr result (λ exit. (source : ℕ)
             → HasCause exit (faults source (K.faults sink.old) (D.counts store.old))
             (faults source (K.faults sink.new) (D.counts store.new))) }
+        ensures no_fault { OnOk result ((D.counts store.new).writes ≡ (D.counts store.old).writes) }
         ensures counts { (source : ℕ) → NoneFell (faults source (K.faults sink.old) (D.counts store.old))
             (faults source (K.faults sink.new) (D.counts store.new)) }
     {
@@ -142,6 +143,7 @@ impl Server {
         ensures cause { IfErr result (λ exit. (source : ℕ)
             → HasCause exit (faults source (K.faults sink.old) (D.counts store.old))
             (faults source (K.faults sink.new) (D.counts store.new))) }
+        ensures no_fault { OnOk result ((D.counts store.new).writes ≡ (D.counts store.old).writes) }
         ensures counts { (source : ℕ) → NoneFell (faults source (K.faults sink.old) (D.counts store.old))
             (faults source (K.faults sink.new) (D.counts store.new)) }
     {
@@ -219,6 +221,7 @@ fn answer<K: Sink, D: Store>(
     ensures cause { IfErr result (λ exit. (source : ℕ)
         → HasCause exit (faults source (K.faults sink.old) (D.counts store.old))
         (faults source (K.faults sink.new) (D.counts store.new))) }
+    ensures no_fault { OnOk result ((D.counts store.new).writes ≡ (D.counts store.old).writes) }
     ensures counts { (source : ℕ) → NoneFell (faults source (K.faults sink.old) (D.counts store.old))
         (faults source (K.faults sink.new) (D.counts store.new)) }
 {
@@ -244,8 +247,10 @@ fn perform<D: Store>(
         → OnErr result (Breaks care (D.view store.old) (D.view store.new) old item) }
     ensures narrow { IfOk result (λ next. IsNarrow next.1) }
     ensures cause { OnErr result (Rose (D.counts store.old).writes (D.counts store.new).writes) }
+    ensures no_fault { OnOk result ((D.counts store.new).writes ≡ (D.counts store.old).writes) }
     ensures faults { IsSparingItem item → IfOk result
         (λ next. RoseBy (fault_in next.1) (D.counts store.old).reads (D.counts store.new).reads) }
+    ensures looks { OnErr result ((D.counts store.new).reads ≡ (D.counts store.old).reads) }
     ensures counts { Rises (D.counts store.old) (D.counts store.new) }
 {
     match item {

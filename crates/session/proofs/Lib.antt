@@ -1,5 +1,6 @@
 pub mod FewColumns
 pub mod FileLemmas
+pub mod LeavingLemmas
 pub mod LoadLemmas
 pub mod OneReading
 pub mod OutcomeLemmas

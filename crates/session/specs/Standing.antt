@@ -1,15 +1,18 @@
 -- How a session stands to its store, and what a step does to both.
-use Rattle.std.specs.Prelude.{◌≡◌, ◌⊎◌}
+use Rattle.std.specs.Prelude.{◌≡◌, ◌⊎◌, ℕ, ⊤}
+use Rattle.outside_traits.specs.Runs.{Narrows, Spans}
 use Rattle.outside_traits.specs.View.{View}
 use Rattle.script_text.specs.declared.answer.Answer.{Answer}
 use Rattle.script_text.specs.declared.answer.Answer.TheVariants.{Refused}
 use Rattle.script_text.specs.declared.answer.Refusal.TheVariants.{Memory}
 use Rattle.script_text.specs.declared.item.Command.{Command}
-use Rattle.folder.specs.Folders.{FolderMeans}
+use Rattle.folder.specs.Folders.{FolderMeans, journal_of, table_in}
 use Rattle.folder.specs.Left.{IsLeft, IsLeftWith, Since}
 use Rattle.folder.specs.Sound.{Care}
 use Rattle.folder.specs.State.{State}
 use Rattle.folder.specs.declared.folder.Folder.{Folder}
+use Rattle.journal_store.specs.Journals.{generation_of}
+use Rattle.journal_store.specs.Readings.{generation_file}
 use Rattle.session.specs.declared.session.Session.{Session}
 use Rattle.session.specs.Machine.{Step}
 
@@ -49,3 +52,16 @@ Keeps care u v session s new answer given = ((given ≡ answer) × Records care 
 pub record KeepsNot (care : Care) (u v : View) (s new : State) : Type 0 where
   pub since : Since care s new u v
   pub left : IsLeftWith care v s new
+
+-- a refusal changes no file: each crash since leaves what a crash left before
+abbrev pub LeavesWhereRefused : Answer → View → View → Type 0
+LeavesWhereRefused (Refused why) u v = Narrows u v
+LeavesWhereRefused _ u v = ⊤
+
+-- the log in use, and the file that the next extent gets
+abbrev pub IsWritten : Folder → ℕ → Type 0
+IsWritten folder file = (file ≡ generation_file (generation_of (journal_of folder))) ⊎ (file ≡ (table_in folder).next_file)
+
+-- no other file is changed, nor what a crash since leaves of one
+abbrev pub WritesAtMost : Folder → View → View → Type 0
+WritesAtMost folder u v = Spans (IsWritten folder) (λ image. Unit {0}) u v

@@ -16,7 +16,7 @@ ghost use Rattle.folder.specs.Standing.{IsNext};
 ghost use Rattle.folder.specs.State.{State, table};
 ghost use Rattle.folder.specs.StreamRows.{CountsRead, TakesAtMost, bytes_at};
 ghost use Rattle.journal_store.specs.Journals.{generation_of};
-ghost use Rattle.journal_store.specs.Readings.{generation_file, LogHasAtMost};
+ghost use Rattle.journal_store.specs.Readings.{generation_file, IsUnfinished, LogHasAtMost};
 ghost use Rattle.plan_core.specs.PlainPlan.{leaves};
 ghost use Rattle.plan_grammar.specs.Counts.{IsWithinLimits};
 ghost use Rattle.planning.specs.Appending.{Append, append_change, file_bytes};
@@ -56,6 +56,7 @@ pub struct Session {
 
 impl Session {
     ghost use Rattle.session.specs.Standing.{Stands, Performs, Breaks, Records, Keeps, KeepsNot, folder_of};
+    ghost use Rattle.session.specs.Standing.{LeavesWhereRefused, WritesAtMost};
 
     /// Loads a folder, which is made where its making isn't finished. `NotAStore` comes exactly where its log
     /// files have no reading, with the first byte where reading stops, unless the store fails or memory is
@@ -76,12 +77,18 @@ impl Session {
             → OnErr result (IsLeftWith care (D.view store.new) a b) }
         ensures not_a_store { IsTrue D.tells → (file at : ℕ) → IsErrOf result (LoadRefusal.NotAStore file at)
             → StopsReading (D.view store.old).files file at × Narrows (D.view store.old) (D.view store.new) }
+        // Where the making is finished no file is changed.
+        ensures finished { IsTrue D.tells → (IsUnfinished ((D.view store.old).files 0) → ⊥)
+            → Narrows (D.view store.old) (D.view store.new) }
         ensures only { IsTrue D.tells → (file at : ℕ) → StopsReading (D.view store.old).files file at
             → IsErrOf result (LoadRefusal.NotAStore file at) ⊎ (IsErrOf result LoadRefusal.Fault
             ⊎ IsErrOf result LoadRefusal.Memory) }
         ensures cause { IsErrOf result LoadRefusal.Fault
             → Rose (D.counts store.old).reads (D.counts store.new).reads
             ⊎ Rose (D.counts store.old).writes (D.counts store.new).writes }
+        ensures no_fault { OnOk result
+            (((D.counts store.new).reads ≡ (D.counts store.old).reads)
+            × ((D.counts store.new).writes ≡ (D.counts store.old).writes)) }
         ensures taken { IsTrue D.tells → IfOk result (λ session. (D.counts store.new).taken
             ≤ (D.counts store.old).taken + length ((D.view store.old).files 0)
             + length ((D.view store.old).files
@@ -114,9 +121,19 @@ impl Session {
         ensures err { IsTrue D.tells → (care : Care) (s : State) → Stands care (D.view store.old) self s
             → OnErr result (Breaks care (D.view store.old) (D.view store.new) s command) }
         ensures narrow { IfOk result (λ next. IsNarrow next.1) }
+        // Whatever the answer, only the log in use and the file of a new extent are written.
+        ensures alone { WritesAtMost (folder_of self) (D.view store.old) (D.view store.new) }
         ensures cause { OnErr result (Rose (D.counts store.old).writes (D.counts store.new).writes) }
+        ensures no_fault { OnOk result ((D.counts store.new).writes ≡ (D.counts store.old).writes) }
+        // A refused command changes no file: at most it has read.
+        ensures refused { IfOk result
+            (λ next. LeavesWhereRefused next.1 (D.view store.old) (D.view store.new)) }
         ensures fault { IfOk result (λ next. next.1 ≡ Answer.Refused Refusal.Fault
             → Rose (D.counts store.old).reads (D.counts store.new).reads) }
+        // A failed look is told: after any other answer, and after `Failed`, none has failed.
+        ensures only_fault { IfOk result (λ next. (next.1 ≡ Answer.Refused Refusal.Fault → ⊥)
+            → (D.counts store.new).reads ≡ (D.counts store.old).reads) }
+        ensures looks { OnErr result ((D.counts store.new).reads ≡ (D.counts store.old).reads) }
         // Where the store tells its files, damage and unreadable bytes are those of a file that a run reads.
         ensures found { IsTrue D.tells → IfOk result (λ next. HasByteCause (table_in (folder_of self)) command
             (D.view store.old).files next.1) }
@@ -152,7 +169,11 @@ impl Session {
             → OnErr result (Breaks care (D.view store.old) (D.view store.new) s
             (command.Stream name columns)) }
         ensures narrow { IfOk result (λ next. IsNarrow next.1) }
+        ensures alone { WritesAtMost (folder_of self) (D.view store.old) (D.view store.new) }
         ensures cause { OnErr result (Rose (D.counts store.old).writes (D.counts store.new).writes) }
+        ensures no_fault { OnOk result ((D.counts store.new).writes ≡ (D.counts store.old).writes) }
+        ensures refused { IfOk result
+            (λ next. LeavesWhereRefused next.1 (D.view store.old) (D.view store.new)) }
         ensures of_no_file { IfOk result (λ next. TellsOfNoFile next.1) }
         ensures crash { IsTrue D.tells → FolderStands (D.view store.old) (folder_of self)
             → IfOk result (λ next. FolderStands (D.view store.new) (folder_of next.0)) }
@@ -184,7 +205,11 @@ impl Session {
         ensures err { IsTrue D.tells → (care : Care) (s : State) → Stands care (D.view store.old) self s
             → OnErr result (Breaks care (D.view store.old) (D.view store.new) s (command.Append name lines)) }
         ensures narrow { IfOk result (λ next. IsNarrow next.1) }
+        ensures alone { WritesAtMost (folder_of self) (D.view store.old) (D.view store.new) }
         ensures cause { OnErr result (Rose (D.counts store.old).writes (D.counts store.new).writes) }
+        ensures no_fault { OnOk result ((D.counts store.new).writes ≡ (D.counts store.old).writes) }
+        ensures refused { IfOk result
+            (λ next. LeavesWhereRefused next.1 (D.view store.old) (D.view store.new)) }
         ensures of_no_file { IfOk result (λ next. TellsOfNoFile next.1) }
         ensures crash { IsTrue D.tells → FolderStands (D.view store.old) (folder_of self)
             → IfOk result (λ next. FolderStands (D.view store.new) (folder_of next.0)) }
@@ -204,6 +229,7 @@ impl Session {
 
 impl Session {
     ghost use Rattle.session.specs.Standing.{Stands, Performs, Breaks, Records, Keeps, KeepsNot, folder_of};
+    ghost use Rattle.session.specs.Standing.{LeavesWhereRefused, WritesAtMost};
 
     // Runs a plan on the rows of its streams, and records the program that it is stored as where it has a
     // result.
@@ -220,9 +246,16 @@ impl Session {
         ensures err { IsTrue D.tells → (care : Care) (s : State) → Stands care (D.view store.old) self s
             → OnErr result (Breaks care (D.view store.old) (D.view store.new) s (command.Run name plan.now)) }
         ensures narrow { IfOk result (λ next. IsNarrow next.1) }
+        ensures alone { WritesAtMost (folder_of self) (D.view store.old) (D.view store.new) }
         ensures cause { OnErr result (Rose (D.counts store.old).writes (D.counts store.new).writes) }
+        ensures no_fault { OnOk result ((D.counts store.new).writes ≡ (D.counts store.old).writes) }
+        ensures refused { IfOk result
+            (λ next. LeavesWhereRefused next.1 (D.view store.old) (D.view store.new)) }
         ensures fault { IfOk result (λ next. next.1 ≡ Answer.Refused Refusal.Fault
             → Rose (D.counts store.old).reads (D.counts store.new).reads) }
+        ensures only_fault { IfOk result (λ next. (next.1 ≡ Answer.Refused Refusal.Fault → ⊥)
+            → (D.counts store.new).reads ≡ (D.counts store.old).reads) }
+        ensures looks { OnErr result ((D.counts store.new).reads ≡ (D.counts store.old).reads) }
         ensures found { IsTrue D.tells → IfOk result (λ next. HasByteCause (table_in (folder_of self))
             (command.Run name plan.now) (D.view store.old).files next.1) }
         ensures taken { IsTrue D.tells → (care : Care) (s : State) → Stands care (D.view store.old) self s
@@ -267,7 +300,11 @@ impl Session {
             → OnErr result (KeepsNot care (D.view store.old) (D.view store.new) s new) }
         ensures narrow { IsNarrow answer → IfOk result (λ next. IsNarrow next.1) }
         ensures given { IfOk result (λ next. (next.1 ≡ answer) ⊎ (next.1 ≡ Answer.Refused Refusal.Memory)) }
+        ensures alone { WritesAtMost (folder_of self) (D.view store.old) (D.view store.new) }
         ensures cause { OnErr result (Rose (D.counts store.old).writes (D.counts store.new).writes) }
+        ensures no_fault { OnOk result ((D.counts store.new).writes ≡ (D.counts store.old).writes) }
+        ensures refused { LeavesWhereRefused answer (D.view store.old) (D.view store.new) → IfOk result
+            (λ next. LeavesWhereRefused next.1 (D.view store.old) (D.view store.new)) }
         ensures crash { IsTrue D.tells → FolderStands (D.view store.old) (folder_of self)
             → IfOk result (λ next. FolderStands (D.view store.new) (folder_of next.0)) }
         ensures counts { MayRaiseWrites (D.counts store.old) (D.counts store.new) }
@@ -296,7 +333,9 @@ impl Session {
             → IsNext care (D.view store.old) s recording.change new
             → OnErr result (KeepsNot care (D.view store.old) (D.view store.new) s new) }
         ensures answer { IfOk result (λ next. next.1 ≡ answer) }
+        ensures alone { WritesAtMost (folder_of self) (D.view store.old) (D.view store.new) }
         ensures cause { OnErr result (Rose (D.counts store.old).writes (D.counts store.new).writes) }
+        ensures no_fault { OnOk result ((D.counts store.new).writes ≡ (D.counts store.old).writes) }
         ensures crash { IsTrue D.tells → FolderStands (D.view store.old) (folder_of self)
             → IfOk result (λ next. FolderStands (D.view store.new) (folder_of next.0)) }
         ensures counts { MayRaiseWrites (D.counts store.old) (D.counts store.new) }
@@ -333,7 +372,9 @@ impl Session {
             → OnErr result (KeepsNot care (D.view store.old) (D.view store.new) s
             (with_rows s a.place a.rows) ⊎ KeepsNot care (D.view store.old) (D.view store.new) s s) }
         ensures answer { IfOk result (λ next. next.1 ≡ Answer.Held plan.held) }
+        ensures alone { WritesAtMost (folder_of self) (D.view store.old) (D.view store.new) }
         ensures cause { OnErr result (Rose (D.counts store.old).writes (D.counts store.new).writes) }
+        ensures no_fault { OnOk result ((D.counts store.new).writes ≡ (D.counts store.old).writes) }
         ensures crash { IsTrue D.tells → FolderStands (D.view store.old) (folder_of self)
             → IfOk result (λ next. FolderStands (D.view store.new) (folder_of next.0)) }
         ensures counts { MayRaiseWrites (D.counts store.old) (D.counts store.new) }
@@ -356,6 +397,9 @@ impl Session {
         ensures narrow { IfOk result (λ rows. HaveFewValues rows.items) }
         ensures fault { IsErrOf result Refusal.Fault
             → Rose (D.counts store.old).reads (D.counts store.new).reads }
+        ensures only_fault { IfErr result (λ why. (why ≡ Refusal.Fault → ⊥)
+            → (D.counts store.new).reads ≡ (D.counts store.old).reads) }
+        ensures no_fault { OnOk result ((D.counts store.new).reads ≡ (D.counts store.old).reads) }
         ensures found { IsTrue D.tells → IfErr result (IsOfFiles (table_in (folder_of self.now)).streams
             (leaves typed.now.plan) (D.view store.old).files) }
         ensures taken { IsTrue D.tells → (care : Care) (s : State) → Stands care (D.view store.old) self.now s

@@ -1,5 +1,6 @@
+use Rattle.std.proofs.Common.{◌∙◌}
 use Rattle.outside_traits.proofs.RunLemmas.{idles_narrow, narrows_on}
-use Rattle.nectar_top.proofs.LoadingLemmas.{left_attached, since_attached, unloaded_attached, unloaded_since, stops_before, stops_behind, refusal_is, exit_is, loaded_not_stopped}
+use Rattle.nectar_top.proofs.LoadingLemmas.{finished_behind, left_attached, since_attached, unloaded_attached, unloaded_since, stops_before, stops_behind, refusal_is, exit_is, loaded_not_stopped}
 use Rattle.nectar_top.proofs.program.load_folder.Goals as goal
 
 pub returns-in-Ok-load-clause-since : goal.returns-in-Ok-load-clause-since
@@ -29,3 +30,15 @@ returns-in-Err-load-clause-stopped g c = λ told file at stops. exit_is c.in-Err
 
 pub returns-in-Ok-load-clause-stopped : goal.returns-in-Ok-load-clause-stopped
 returns-in-Ok-load-clause-stopped g c = λ told file at stops. absurd (loaded_not_stopped c.in-Ok-load.session file at (c.in-Ok-load.ensures.only told file at (stops_behind _ _ c.attach.ensures.idles file at stops)))
+
+pub returns-in-Ok-load-clause-finished : goal.returns-in-Ok-load-clause-finished
+returns-in-Ok-load-clause-finished g c = λ told. finished_behind _ _ c.attach.ensures.idles _ (c.load.ensures.finished told)
+
+pub returns-in-Err-load-clause-finished : goal.returns-in-Err-load-clause-finished
+returns-in-Err-load-clause-finished g c = λ told. finished_behind _ _ c.attach.ensures.idles _ (c.load.ensures.finished told)
+
+pub returns-in-Err-clause-finished : goal.returns-in-Err-clause-finished
+returns-in-Err-clause-finished g c = λ told made. idles_narrow _ _ c.attach.ensures.idles
+
+pub returns-in-Ok-load-clause-no_fault : goal.returns-in-Ok-load-clause-no_fault
+returns-in-Ok-load-clause-no_fault g c = (c.in-Ok-load.ensures.no_fault.0 ∙ c.in-Ok.ensures.no_fault, c.in-Ok-load.ensures.no_fault.1 ∙ c.attach.ensures.counts.writes)

@@ -1,10 +1,12 @@
-use Rattle.std.proofs.Common.{Err, ap, inl, inr, refl, arith}
+use Rattle.std.proofs.Common.{Err, ap, inl, inr, refl, arith, ◌∙◌}
 use Rattle.nectar_top.specs.declared.exit.Exit.TheVariants as exit
 use Rattle.nectar_top.specs.Crash.{intact}
 use Rattle.nectar_top.specs.Outside.{faults}
 use Rattle.nectar_top.proofs.CompleteLemmas.{complete_served, complete_unserved}
 use Rattle.nectar_top.proofs.LoadingLemmas.{goes_on, exit_told}
-use Rattle.nectar_top.proofs.TurnLemmas.{Ends-at}
+use Rattle.nectar_top.proofs.TurnLemmas.{Cause-at, Ends-at}
+use Rattle.outside_traits.proofs.RunLemmas.{narrows_none}
+use Rattle.nectar_top.proofs.CauseLemmas.{served_is_taken, no_write_failed, unloaded_exit}
 use Rattle.nectar_top.proofs.program.nectar.Goals as goal
 
 pub returns-in-Ok-clause-done : goal.returns-in-Ok-clause-done
@@ -48,3 +50,21 @@ returns-in-Ok-clause-complete g c = λ told accepted s input left is within none
 pub returns-in-Err-clause-complete : goal.returns-in-Err-clause-complete
 returns-in-Err-clause-complete g c = λ told accepted s input left is within none.
     complete_unserved s _ _ c.in-Err.exit _ _ _ _ c.in-Err.ensures.cause none left (λ file at e. (c.in-Err.ensures.not_a_store told file at (ap Err e)).0)
+
+pub returns-in-Ok-clause-source_cause : goal.returns-in-Ok-clause-source_cause
+returns-in-Ok-clause-source_cause g c = λ is. (Cause-at _ _ _ c.serve.ensures.cause exit.SourceFault is).0
+
+pub returns-in-Ok-clause-sink_cause : goal.returns-in-Ok-clause-sink_cause
+returns-in-Ok-clause-sink_cause g c = λ is. (Cause-at _ _ _ c.serve.ensures.cause exit.SinkFault is).0
+
+pub returns-in-Ok-clause-no_store_fault : goal.returns-in-Ok-clause-no_store_fault
+returns-in-Ok-clause-no_store_fault g c = λ taken other. no_write_failed _ _ _ c.serve.ensures.cause other ∙ c.in-Ok.ensures.no_fault.1
+
+pub returns-in-Err-clause-no_store_fault : goal.returns-in-Err-clause-no_store_fault
+returns-in-Err-clause-no_store_fault g c = λ taken other. absurd (unloaded_exit _ _ _ c.in-Err.ensures.cause taken other)
+
+pub returns-in-Ok-clause-finished : goal.returns-in-Ok-clause-finished
+returns-in-Ok-clause-finished g c = λ told made taken. absurd (served_is_taken _ _ _ c.serve.ensures.cause taken)
+
+pub returns-in-Err-clause-finished : goal.returns-in-Err-clause-finished
+returns-in-Err-clause-finished g c = λ told made taken. c.begin.ensures.finished told made

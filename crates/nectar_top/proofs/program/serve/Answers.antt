@@ -1,4 +1,4 @@
-use Rattle.std.proofs.Common.{◌++◌, length-append, length-take, arith, rules}
+use Rattle.std.proofs.Common.{◌∙◌, ◌++◌, length-append, length-take, arith, rules}
 use Rattle.nectar_top.specs.Outside.{shown}
 use Rattle.nectar_top.proofs.CauseLemmas.{none_fell_on, caused_since}
 use Rattle.nectar_top.proofs.program.serve.Goals as goal
@@ -28,7 +28,14 @@ loop-preserved g c = record {
       let next = c.in-Ok.ensures.ok told found origin at.0 begun at.2 in
       (at.0 ++ next.0, omega (arith, at.1, next.1, length-append at.0 next.0), next.2);
   counts = none_fell_on _ _ _ c.loop.invariant.counts c.serve_piece.ensures.counts;
+  writes = c.in-Ok.ensures.no_fault ∙ c.loop.invariant.writes;
 }
 
 pub returns-in-Ok-default-eq0-clause-cause : goal.returns-in-Ok-default-eq0-clause-cause
-returns-in-Ok-default-eq0-clause-cause g c = caused_since _ _ _ _ (none_fell_on _ _ _ c.loop.invariant.counts c.serve_piece.ensures.counts) (c.end.ensures.cause _)
+returns-in-Ok-default-eq0-clause-cause g c = caused_since _ _ _ _ (none_fell_on _ _ _ c.loop.invariant.counts c.serve_piece.ensures.counts) (c.in-Ok-default-eq0.ensures.no_fault ∙ c.loop.invariant.writes) (c.end.ensures.cause _)
+
+pub returns-then-taken-eq-MAX_SCRIPT_LEN-clause-cause : goal.returns-then-taken-eq-MAX_SCRIPT_LEN-clause-cause
+returns-then-taken-eq-MAX_SCRIPT_LEN-clause-cause g c = caused_since _ _ _ _ c.loop.invariant.counts c.loop.invariant.writes c.serve_limit.ensures.cause
+
+pub returns-in-Err-clause-cause : goal.returns-in-Err-clause-cause
+returns-in-Err-clause-cause g c = caused_since _ _ _ _ c.loop.invariant.counts c.loop.invariant.writes c.in-Err.ensures.cause

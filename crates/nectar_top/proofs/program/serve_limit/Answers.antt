@@ -1,4 +1,4 @@
-use Rattle.std.proofs.Common.{◌≡◌, [], take, ap, subst, arith, rules, length-take}
+use Rattle.std.proofs.Common.{◌≡◌, [], take, ap, subst, arith, rules, length-take, refl}
 use Rattle.std.specs.Io.KnownBytes.{Consumes}
 use Rattle.nectar_top.specs.Outside.{shown}
 use Rattle.nectar_top.proofs.TurnLemmas.{Serving-read, Ends-too_long, Ends-read}
@@ -17,3 +17,6 @@ returns-in-Ok-clause-ends g c = λ told found origin served begun at full.
 
 pub returns-in-Err-clause-ends : goal.returns-in-Err-clause-ends
 returns-in-Err-clause-ends g c = λ told found origin served begun at full. Ends-read found _ _ _ _ served begun _ _ _ at _ (omega (arith, full)) c.in-Err.ensures.failed
+
+pub returns-in-Err-clause-cause : goal.returns-in-Err-clause-cause
+returns-in-Err-clause-cause g c = (c.in-Err.ensures.cause, refl)

@@ -1,4 +1,4 @@
-use Rattle.std.proofs.Common.{take, arith, length-append, length-take}
+use Rattle.std.proofs.Common.{take, arith, length-append, length-take, refl}
 use Rattle.nectar_top.specs.Outside.{shown}
 use Rattle.nectar_top.proofs.CauseLemmas.{source_first}
 use Rattle.nectar_top.proofs.TurnLemmas.{Serving-read, Ends-read}
@@ -24,3 +24,6 @@ returns-in-Ok-take-clause-counts g c = source_first _ _ _ _ _ _ c.read.ensures.c
 
 pub returns-in-Err-take-clause-counts : goal.returns-in-Err-take-clause-counts
 returns-in-Err-take-clause-counts g c = source_first _ _ _ _ _ _ c.read.ensures.counts (c.take.ensures.counts _)
+
+pub returns-in-Err-clause-cause : goal.returns-in-Err-clause-cause
+returns-in-Err-clause-cause g c = (c.in-Err.ensures.cause, refl)

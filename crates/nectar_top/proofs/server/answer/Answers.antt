@@ -10,4 +10,7 @@ returns-in-Err-send-clause-err g c = λ told care old before stands.
     record { session = c.in-Ok.session; answer = c.in-Ok.answer; performs = c.in-Ok.ensures.ok told care old stands; faults = c.in-Ok.ensures.faults; sent = c.in-Err-send.ensures.err }
 
 pub returns-in-Err-clause-err : goal.returns-in-Err-clause-err
-returns-in-Err-clause-err g c = λ told care old before stands. record { breaks = c.in-Err.ensures.err told care old stands; counts = c.perform.ensures.counts.reads; wrote = refl }
+returns-in-Err-clause-err g c = λ told care old before stands. record { breaks = c.in-Err.ensures.err told care old stands; counts = c.in-Err.ensures.looks; wrote = refl }
+
+pub returns-in-Err-send-clause-cause : goal.returns-in-Err-send-clause-cause
+returns-in-Err-send-clause-cause g c = λ source. (c.in-Err-send.ensures.cause, c.in-Ok.ensures.no_fault)

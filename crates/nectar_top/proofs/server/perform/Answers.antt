@@ -9,7 +9,7 @@ pub returns-in-Command-clause-err : goal.returns-in-Command-clause-err
 returns-in-Command-clause-err g c = λ told care old stands. breaks_item care _ _ old _ c.in-Command.command _ c.in-Command.is (c.step.ensures.err told care old stands)
 
 pub returns-in-Command-clause-faults : goal.returns-in-Command-clause-faults
-returns-in-Command-clause-faults g c = λ sparing. fault_rose _ _ _ c.step.ensures.fault c.step.ensures.counts
+returns-in-Command-clause-faults g c = λ sparing. fault_rose _ _ _ c.step.ensures.fault c.step.ensures.only_fault
 
 pub returns-in-Refused-clause-faults : goal.returns-in-Refused-clause-faults
 returns-in-Refused-clause-faults g c = λ sparing. fault_of_item _ c.in-Refused.refusal _ c.in-Refused.is sparing

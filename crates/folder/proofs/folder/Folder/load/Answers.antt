@@ -37,6 +37,9 @@ returns-clause-place g c = λ told file at h b stops is.
     (load_stops (g.D.Store.view c.args.store.now) h b c.load-read.result (gave c.load-read.result c.over_read.result h b c.over_read.ensures is) (c.load-read.ensures.reading told) (c.load-read.ensures.not_a_store told))
     stops
 
+pub returns-clause-finished : goal.returns-clause-finished
+returns-clause-finished g c = c.load-read.ensures.finished
+
 pub returns-clause-unchanged : goal.returns-clause-unchanged
 returns-clause-unchanged g c = λ told file at is.
     load_unchanged (g.D.Store.view c.args.store.now) (g.D.Store.view c.load-read.new.store) file at c.load-read.result (gave c.load-read.result c.over_read.result file at c.over_read.ensures is) (c.load-read.ensures.reading told) (c.load-read.ensures.finished told) c.load-read.ensures.unchanged

@@ -8,3 +8,6 @@ returns-in-Ok-clause-ends g c = λ told found origin served begun before at at_e
 pub returns-in-Some-clause-ends : goal.returns-in-Some-clause-ends
 returns-in-Some-clause-ends g c = λ told found origin served begun before at at_end within.
     Ends-last-failed found _ _ _ _ served begun _ at at_end within _ c.in-Some.item c.in-Some.ensures.item c.in-Err.exit _ _ (c.in-Err.ensures.err told found.care at.progress.state before at.progress.stands)
+
+pub returns-in-Ok-clause-cause : goal.returns-in-Ok-clause-cause
+returns-in-Ok-clause-cause g c = λ source. c.in-Ok.ensures.no_fault

@@ -1,5 +1,8 @@
 use Rattle.std.proofs.Common.{refl, inr}
 use Rattle.session.proofs.StepLemmas.{stands_prepared, table_prepared, records_none, keeps_recorded}
+use Rattle.outside_traits.proofs.RunLemmas.{narrows_none}
+use Rattle.session.proofs.LeavingLemmas.{leaves_given, writes_none, writes_prepared}
+use Rattle.session.specs.Standing.{folder_of}
 use Rattle.session.proofs.session.Session.keep.Goals as goal
 
 pub returns-in-Ok-clause-ok : goal.returns-in-Ok-clause-ok
@@ -14,3 +17,15 @@ returns-in-Ok-clause-crash g c = λ told stands. c.record.ensures.crash told (ta
 
 pub returns-in-Err-clause-crash : goal.returns-in-Err-clause-crash
 returns-in-Err-clause-crash g c = λ told stands. table_prepared _ c.args.self c.prepare.new.self c.prepare.ensures.table c.prepare.ensures.journal stands
+
+pub returns-in-Ok-clause-refused : goal.returns-in-Ok-clause-refused
+returns-in-Ok-clause-refused g c = λ leaves. leaves_given (g.D.Store.view c.args.store.now) (g.D.Store.view c.record.new.store) c.args.answer leaves _ c.record.ensures.answer
+
+pub returns-in-Err-clause-refused : goal.returns-in-Err-clause-refused
+returns-in-Err-clause-refused g c = λ leaves. narrows_none _
+
+pub returns-in-Ok-clause-alone : goal.returns-in-Ok-clause-alone
+returns-in-Ok-clause-alone g c = writes_prepared _ _ c.args.self c.prepare.new.self c.prepare.ensures.table c.prepare.ensures.journal c.record.ensures.alone
+
+pub returns-in-Err-clause-alone : goal.returns-in-Err-clause-alone
+returns-in-Err-clause-alone g c = writes_none (folder_of c.args.self) _

@@ -27,3 +27,12 @@ returns-in-Ok-clause-most_taken g c = c.load.ensures.most_taken
 
 pub returns-in-Err-clause-most_taken : goal.returns-in-Err-clause-most_taken
 returns-in-Err-clause-most_taken g c = c.load.ensures.most_taken
+
+pub returns-in-Ok-clause-finished : goal.returns-in-Ok-clause-finished
+returns-in-Ok-clause-finished g c = c.load.ensures.finished
+
+pub returns-in-Err-clause-finished : goal.returns-in-Err-clause-finished
+returns-in-Err-clause-finished g c = c.load.ensures.finished
+
+pub returns-in-Ok-clause-no_fault : goal.returns-in-Ok-clause-no_fault
+returns-in-Ok-clause-no_fault g c = c.in-Ok.ensures.no_fault

@@ -11,6 +11,9 @@ use Rattle.folder.specs.State.{table}
 use Rattle.session.proofs.StepLemmas.{refuses, stands_prepared, table_prepared, made_ok, made_err, kept_performs, kept_breaks}
 use Rattle.session.proofs.RefusalLemmas.{making_refuses}
 use Rattle.session.proofs.TakenLemmas.{of_no_file}
+use Rattle.outside_traits.proofs.RunLemmas.{narrows_none}
+use Rattle.session.proofs.LeavingLemmas.{leaves_given, writes_none, writes_prepared}
+use Rattle.session.specs.Standing.{folder_of}
 use Rattle.session.proofs.session.Session.make.Goals as goal
 
 pub returns-in-Ok-prepare-clause-ok : goal.returns-in-Ok-prepare-clause-ok
@@ -51,3 +54,21 @@ returns-in-Ok-prepare-clause-crash g c = λ told stands. c.record.ensures.crash 
 
 pub returns-in-Err-prepare-clause-crash : goal.returns-in-Err-prepare-clause-crash
 returns-in-Err-prepare-clause-crash g c = λ told stands. table_prepared _ c.args.self c.prepare.new.self c.prepare.ensures.table c.prepare.ensures.journal stands
+
+pub returns-in-Ok-prepare-clause-refused : goal.returns-in-Ok-prepare-clause-refused
+returns-in-Ok-prepare-clause-refused g c = leaves_given (g.D.Store.view c.args.store.now) (g.D.Store.view c.record.new.store) answer.Ok tt _ c.record.ensures.answer
+
+pub returns-in-Err-clause-refused : goal.returns-in-Err-clause-refused
+returns-in-Err-clause-refused g c = narrows_none _
+
+pub returns-in-Err-prepare-clause-refused : goal.returns-in-Err-prepare-clause-refused
+returns-in-Err-prepare-clause-refused g c = narrows_none _
+
+pub returns-in-Ok-prepare-clause-alone : goal.returns-in-Ok-prepare-clause-alone
+returns-in-Ok-prepare-clause-alone g c = writes_prepared _ _ c.args.self c.prepare.new.self c.prepare.ensures.table c.prepare.ensures.journal c.record.ensures.alone
+
+pub returns-in-Err-clause-alone : goal.returns-in-Err-clause-alone
+returns-in-Err-clause-alone g c = writes_none (folder_of c.args.self) _
+
+pub returns-in-Err-prepare-clause-alone : goal.returns-in-Err-prepare-clause-alone
+returns-in-Err-prepare-clause-alone g c = writes_none (folder_of c.args.self) _

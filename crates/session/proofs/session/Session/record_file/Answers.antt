@@ -9,6 +9,7 @@ use Rattle.planning.specs.Appending.{Append}
 use Rattle.session.specs.Standing.{Stands, folder_of}
 use Rattle.session.proofs.FileLemmas.{file_is, change_of, next_number}
 use Rattle.session.proofs.StepLemmas.{records_behind, breaks_behind, breaks_before}
+use Rattle.session.proofs.LeavingLemmas.{count_then, writes_file, writes_on}
 use Rattle.session.proofs.session.Session.record_file.Goals as goal
 
 pub write_extent-requires : goal.write_extent-requires
@@ -47,3 +48,12 @@ returns-in-Err-clause-err g c = λ told care s a stands are change_is bytes_is.
 
 pub returns-in-Ok-clause-crash : goal.returns-in-Ok-clause-crash
 returns-in-Ok-clause-crash g c = λ told stands. c.record.ensures.crash told (c.write_extent.ensures.stands stands)
+
+pub returns-in-Ok-clause-no_fault : goal.returns-in-Ok-clause-no_fault
+returns-in-Ok-clause-no_fault g c = count_then _ _ _ _ c.in-Ok.ensures.no_fault c.record.ensures.no_fault
+
+pub returns-in-Ok-clause-alone : goal.returns-in-Ok-clause-alone
+returns-in-Ok-clause-alone g c = writes_on (folder_of c.args.self) _ _ _ (writes_file (folder_of c.args.self) _ _ c.write_extent.ensures.alone) c.record.ensures.alone
+
+pub returns-in-Err-clause-alone : goal.returns-in-Err-clause-alone
+returns-in-Err-clause-alone g c = writes_file (folder_of c.args.self) _ _ c.write_extent.ensures.alone

@@ -15,6 +15,7 @@ use Rattle.session.specs.Standing.{folder_of}
 use Rattle.session.proofs.ReadLemmas.{rows_moved, refused_moved}
 use Rattle.session.proofs.RefusalLemmas.{of_rows, of_reading}
 use Rattle.session.proofs.TakenLemmas.{on_any}
+use Rattle.session.proofs.LeavingLemmas.{refused_after, unread_counts}
 use Rattle.session.proofs.session.Session.rows_of.Goals as goal
 
 pub rows_on-requires : goal.rows_on-requires
@@ -67,3 +68,12 @@ returns-in-Err-clause-found g c = λ told.
     subst (λ w. IsOfFiles (table_in (folder_of c.args.self.now)).streams (leaves c.args.typed.now.plan) (g.D.Store.view c.args.store.now).files w) (sym c.refusal_of.ensures)
     (of_reading (table_in (folder_of c.args.self.now)).streams (leaves c.args.typed.now.plan) (g.D.Store.view c.args.store.now).files c.in-Err.refusal (subst (λ (t : Table). IsOfStreams t.streams (leaves c.args.typed.now.plan) (g.D.Store.view c.args.store.now).files c.in-Err.refusal) (ap table_of c.catalog.ensures)
     (subst (λ (ns : List ℕ). IsOfStreams (table_of c.catalog.result.now).streams ns (g.D.Store.view c.args.store.now).files c.in-Err.refusal) (c.leaves.ensures.leaves ∙ c.leaves.ensures.typed.1) (c.in-Err.ensures.found told))))
+
+pub returns-in-Ok-clause-only_fault : goal.returns-in-Ok-clause-only_fault
+returns-in-Ok-clause-only_fault g c = refused_after _ _ _ c.in-Ok.ensures.no_fault
+
+pub returns-in-Err-clause-only_fault : goal.returns-in-Err-clause-only_fault
+returns-in-Err-clause-only_fault g c = unread_counts c.in-Err.refusal _ (g.D.Store.counts c.args.store.now) (g.D.Store.counts c.read_streams.new.store) c.refusal_of.ensures c.in-Err.ensures.cause
+
+pub returns-in-Ok-clause-no_fault : goal.returns-in-Ok-clause-no_fault
+returns-in-Ok-clause-no_fault g c = on_any _ _ c.in-Ok.ensures.no_fault

@@ -1,5 +1,5 @@
 use Rattle.std.proofs.Common.{◌≡◌, ◌⊎◌, ◌∙◌, Some, Ok, Err, ap, sym, subst, refl, inl}
-use Rattle.outside_traits.proofs.RunLemmas.{spans_narrowed}
+use Rattle.outside_traits.proofs.RunLemmas.{narrows_none, spans_narrowed}
 use Rattle.catalog_core.specs.Catalogs.{table_of}
 use Rattle.catalog_core.specs.Table.{Fits, Table}
 use Rattle.script_text.specs.declared.answer.Answer.{Answer}
@@ -13,13 +13,14 @@ use Rattle.folder.specs.Standing.{IsNext}
 use Rattle.folder.specs.State.{State, table}
 use Rattle.session.specs.Machine as machine
 use Rattle.session.specs.Machine.{outcome}
-use Rattle.session.specs.Standing.{Stands, folder_of}
+use Rattle.session.specs.Standing.{LeavesWhereRefused, Stands, folder_of}
 use Rattle.session.proofs.StepLemmas.{refuses, ran_ok, ran_err, ran_refused, keeps_performs, kept_breaks, not_behind, event_step}
 use Rattle.folder.proofs.StreamReading.{at_most_none}
 use Rattle.planning.specs.Running.{running}
 use Rattle.script_text.specs.declared.answer.Refusal.TheVariants as refusal
 use Rattle.session.proofs.RefusalLemmas.{run_kept, run_unread, run_refused}
 use Rattle.session.proofs.TakenLemmas.{told_of_kept, read_then, read_bytes, most_same, most_then, run_bytes}
+use Rattle.session.proofs.LeavingLemmas.{leaves_then, count_then, looked_before, reads_only, writes_none, writes_on, failed_after}
 use Rattle.session.proofs.session.Session.run.Goals as goal
 
 pub returns-in-Ok-rows_of-clause-ok : goal.returns-in-Ok-rows_of-clause-ok
@@ -109,3 +110,34 @@ returns-in-Ok-rows_of-clause-crash g c = λ told stands. c.keep.ensures.crash to
 
 pub returns-in-Err-rows_of-clause-crash : goal.returns-in-Err-rows_of-clause-crash
 returns-in-Err-rows_of-clause-crash g c = λ told stands. c.left_stores.ensures.stands c.args.store.now c.rows_of.new.store _ _ c.rows_of.ensures.narrows stands
+
+pub returns-in-Ok-rows_of-clause-refused : goal.returns-in-Ok-rows_of-clause-refused
+returns-in-Ok-rows_of-clause-refused g c = leaves_then (g.D.Store.view c.args.store.now) (g.D.Store.view c.rows_of.new.store) (g.D.Store.view c.keep.new.store) c.rows_of.ensures.narrows _
+    (c.keep.ensures.refused (subst (λ (a : Answer). LeavesWhereRefused a (g.D.Store.view c.rows_of.new.store) (g.D.Store.view c.keep.new.store)) (sym c.result_of-answer.ensures) tt))
+
+pub returns-in-Err-rows_of-clause-refused : goal.returns-in-Err-rows_of-clause-refused
+returns-in-Err-rows_of-clause-refused g c = c.rows_of.ensures.narrows
+
+pub returns-in-Err-clause-refused : goal.returns-in-Err-clause-refused
+returns-in-Err-clause-refused g c = narrows_none _
+
+pub returns-in-Ok-rows_of-clause-no_fault : goal.returns-in-Ok-rows_of-clause-no_fault
+returns-in-Ok-rows_of-clause-no_fault g c = count_then _ _ _ _ c.rows_of.ensures.counts.writes c.keep.ensures.no_fault
+
+pub returns-in-Ok-rows_of-clause-alone : goal.returns-in-Ok-rows_of-clause-alone
+returns-in-Ok-rows_of-clause-alone g c = writes_on (folder_of c.args.self) _ _ _ (reads_only (folder_of c.args.self) _ _ c.rows_of.ensures.narrows) c.keep.ensures.alone
+
+pub returns-in-Err-rows_of-clause-alone : goal.returns-in-Err-rows_of-clause-alone
+returns-in-Err-rows_of-clause-alone g c = reads_only (folder_of c.args.self) _ _ c.rows_of.ensures.narrows
+
+pub returns-in-Err-clause-alone : goal.returns-in-Err-clause-alone
+returns-in-Err-clause-alone g c = writes_none (folder_of c.args.self) _
+
+pub returns-in-Ok-rows_of-clause-only_fault : goal.returns-in-Ok-rows_of-clause-only_fault
+returns-in-Ok-rows_of-clause-only_fault g c = looked_before _ _ _ (c.keep.ensures.counts.reads ∙ c.in-Ok-rows_of.ensures.no_fault)
+
+pub returns-in-Err-rows_of-clause-only_fault : goal.returns-in-Err-rows_of-clause-only_fault
+returns-in-Err-rows_of-clause-only_fault g c = λ other. c.in-Err-rows_of.ensures.only_fault (λ is. other (ap answer.Refused is))
+
+pub returns-in-Ok-rows_of-clause-looks : goal.returns-in-Ok-rows_of-clause-looks
+returns-in-Ok-rows_of-clause-looks g c = failed_after _ _ (c.keep.ensures.counts.reads ∙ c.in-Ok-rows_of.ensures.no_fault)

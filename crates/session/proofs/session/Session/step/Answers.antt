@@ -7,6 +7,7 @@ use Rattle.session.specs.Standing.{Performs, folder_of}
 use Rattle.session.specs.Taken.{bytes_to_read}
 use Rattle.session.proofs.RefusalLemmas.{stream_causes, append_causes, no_fault_in}
 use Rattle.session.proofs.TakenLemmas.{told_of_any, none_taken}
+use Rattle.session.proofs.LeavingLemmas.{looked_before, failed_after}
 use Rattle.session.proofs.session.Session.step.Goals as goal
 
 pub returns-in-Stream-clause-ok : goal.returns-in-Stream-clause-ok
@@ -52,3 +53,15 @@ returns-in-Stream-clause-fault g c = no_fault_in _ _ _ c.make.ensures.of_no_file
 
 pub returns-in-Append-clause-fault : goal.returns-in-Append-clause-fault
 returns-in-Append-clause-fault g c = no_fault_in _ _ _ c.append.ensures.of_no_file
+
+pub returns-in-Stream-clause-only_fault : goal.returns-in-Stream-clause-only_fault
+returns-in-Stream-clause-only_fault g c = looked_before _ _ _ c.make.ensures.counts.reads
+
+pub returns-in-Append-clause-only_fault : goal.returns-in-Append-clause-only_fault
+returns-in-Append-clause-only_fault g c = looked_before _ _ _ c.append.ensures.counts.reads
+
+pub returns-in-Stream-clause-looks : goal.returns-in-Stream-clause-looks
+returns-in-Stream-clause-looks g c = failed_after _ _ c.make.ensures.counts.reads
+
+pub returns-in-Append-clause-looks : goal.returns-in-Append-clause-looks
+returns-in-Append-clause-looks g c = failed_after _ _ c.append.ensures.counts.reads

@@ -1,0 +1,92 @@
+-- What a command leaves as it was.
+use Rattle.std.proofs.Common.{◌≡◌, ◌∙◌, ℕ, Ok, Err, Result, IfOk, IfErr, OnOk, OnErr, ◌⊎◌, refl, sym, subst, inl, inr}
+use Rattle.outside_traits.specs.View.{View, Counts}
+use Rattle.outside_traits.specs.Runs.{Narrows, ChangesOnly}
+use Rattle.outside_traits.specs.declared.failed.Failed.{Failed}
+use Rattle.outside_traits.proofs.RunLemmas.{narrows_on, spans_none, spans_of, spans_on, spans_wider, spans_narrowed}
+use Rattle.script_text.specs.declared.answer.Answer.{Answer}
+use Rattle.script_text.specs.declared.answer.Answer.TheVariants as answer
+use Rattle.script_text.specs.declared.answer.Refusal.{Refusal}
+use Rattle.script_text.specs.declared.answer.Refusal.TheVariants as refusal
+use Rattle.catalog_core.specs.Table.{Table}
+use Rattle.journal_store.specs.Journals.{generation_of}
+use Rattle.journal_store.specs.Readings.{generation_file}
+use Rattle.journal_store.specs.declared.journal.Journal.{Journal}
+use Rattle.folder.specs.Folders.{journal_of, table_in}
+use Rattle.folder.specs.StreamRows.{HasReadCause}
+use Rattle.folder.specs.declared.folder.Folder.{Folder}
+use Rattle.folder.specs.declared.refusal.ReadRefusal.{ReadRefusal}
+use Rattle.folder.specs.declared.refusal.ReadRefusal.TheVariants as reading
+use Rattle.session.specs.declared.session.Session.{Session}
+use Rattle.session.specs.ReadEvents.{refusal_of}
+use Rattle.session.specs.Standing.{LeavesWhereRefused, IsWritten, WritesAtMost, folder_of}
+
+-- the answer is this one
+pub leaves_given : (u v : View) (given : Answer) → LeavesWhereRefused given u v → (result : Result (Session × Answer) Failed) → IfOk result (λ next. next.1 ≡ given) → IfOk result (λ next. LeavesWhereRefused next.1 u v)
+leaves_given u v given leaves (Ok next) is = subst (λ (a : Answer). LeavesWhereRefused a u v) (sym is) leaves
+leaves_given u v given leaves (Err failed) is = tt
+
+-- reading came before it
+module _ (u v w : View) (first : Narrows u v) where
+  leaves_behind : (given : Answer) → LeavesWhereRefused given v w → LeavesWhereRefused given u w
+  leaves_behind (answer.Refused why) then = narrows_on u v w first then
+  leaves_behind _ then = tt
+
+  pub leaves_then : (result : Result (Session × Answer) Failed) → IfOk result (λ next. LeavesWhereRefused next.1 v w) → IfOk result (λ next. LeavesWhereRefused next.1 u w)
+  leaves_then (Ok next) then = leaves_behind next.1 then
+  leaves_then (Err failed) then = tt
+
+-- a count that nothing raised before
+pub count_then : {T E : Type 0} (result : Result T E) (a b c : ℕ) → b ≡ a → OnOk result (c ≡ b) → OnOk result (c ≡ a)
+count_then (Ok x) a b c first then = then ∙ first
+count_then (Err e) a b c first then = tt
+
+-- ---- which files are written
+
+module _ (folder : Folder) where
+  pub writes_none : (v : View) → WritesAtMost folder v v
+  writes_none v = spans_none (IsWritten folder) (λ image. Unit {0}) v (λ image is. tt)
+
+  -- what was only read
+  pub reads_only : (u v : View) → Narrows u v → WritesAtMost folder u v
+  reads_only u v run = spans_narrowed (IsWritten folder) (λ image. Unit {0}) u v run (λ image is. tt)
+
+  pub writes_on : (u v w : View) → WritesAtMost folder u v → WritesAtMost folder v w → WritesAtMost folder u w
+  writes_on u v w first then = spans_on (IsWritten folder) (λ image. Unit {0}) u v w first then
+
+  -- a change is recorded in the log
+  pub writes_log : (u v : View) → ChangesOnly (generation_file (generation_of (journal_of folder))) u v → WritesAtMost folder u v
+  writes_log u v run = spans_of (generation_file (generation_of (journal_of folder))) (λ x. Unit {0}) (IsWritten folder) (λ image. Unit {0}) u v run (inl refl) (λ image here others. tt)
+
+  pub writes_file : (u v : View) → ChangesOnly (table_in folder).next_file u v → WritesAtMost folder u v
+  writes_file u v run = spans_of (table_in folder).next_file (λ x. Unit {0}) (IsWritten folder) (λ image. Unit {0}) u v run (inr refl) (λ image here others. tt)
+
+-- a session that is the same but for the memory that it has taken
+pub writes_prepared : (u v : View) (session session' : Session) → table_in (folder_of session') ≡ table_in (folder_of session) → journal_of (folder_of session') ≡ journal_of (folder_of session)
+    → WritesAtMost (folder_of session') u v → WritesAtMost (folder_of session) u v
+writes_prepared u v session session' t j writes =
+    spans_wider (IsWritten (folder_of session')) (IsWritten (folder_of session)) (λ image. Unit {0}) (λ image. Unit {0}) u v writes
+    (λ file is. subst (λ (x : Table). (file ≡ generation_file (generation_of (journal_of (folder_of session)))) ⊎ (file ≡ x.next_file)) t
+    (subst (λ (x : Journal). (file ≡ generation_file (generation_of x)) ⊎ (file ≡ (table_in (folder_of session')).next_file)) j is))
+    (λ image any others. tt)
+
+-- ---- counts of failed looks
+
+-- no other refusal raises it
+pub looked_before : (result : Result (Session × Answer) Failed) (a b : ℕ) → b ≡ a → IfOk result (λ next. (next.1 ≡ answer.Refused refusal.Fault → ⊥) → b ≡ a)
+looked_before (Ok next) a b same = λ other. same
+looked_before (Err failed) a b same = tt
+
+pub failed_after : {T E : Type 0} (result : Result T E) (P : Type 0) → P → OnErr result P
+failed_after (Ok x) P holds = tt
+failed_after (Err e) P holds = holds
+
+pub refused_after : {T : Type 0} (result : Result T Refusal) (a b : ℕ) → b ≡ a → IfErr result (λ why. (why ≡ refusal.Fault → ⊥) → b ≡ a)
+refused_after (Ok x) a b same = tt
+refused_after (Err why) a b same = λ other. same
+
+pub unread_counts : (r : ReadRefusal) (why : Refusal) (a b : Counts) → why ≡ refusal_of r → HasReadCause r a b → (why ≡ refusal.Fault → ⊥) → b.reads ≡ a.reads
+unread_counts reading.Fault why a b is cause other = absurd (other is)
+unread_counts (reading.Damaged file kept found) why a b is cause other = cause.1
+unread_counts (reading.Unreadable file at) why a b is cause other = cause
+unread_counts reading.Memory why a b is cause other = cause
