@@ -71,15 +71,15 @@ not_a_fault a none is =
     let one : 1 ≡ 0 = subst (λ (x : Answer). fault_in x ≡ 0) is none in
     absurd (omega (arith, one))
 
-pub fault_rose : (result : Result (Session × Answer) Failed) (old new : Counts) → IfOk result (λ next. next.1 ≡ answer.Refused refusal.Fault → Rose old.reads new.reads)
-    → IfOk result (λ next. (next.1 ≡ answer.Refused refusal.Fault → ⊥) → new.reads ≡ old.reads)
-    → IfOk result (λ next. RoseBy (fault_in next.1) old.reads new.reads)
-fault_rose (Ok next) old new fault other = by next.1 fault other
+pub fault_rose : (result : Result (Session × Answer) Failed) (before now : ℕ) → IfOk result (λ next. next.1 ≡ answer.Refused refusal.Fault → Rose before now)
+    → IfOk result (λ next. (next.1 ≡ answer.Refused refusal.Fault → ⊥) → now ≡ before)
+    → IfOk result (λ next. RoseBy (fault_in next.1) before now)
+fault_rose (Ok next) before now fault other = by next.1 fault other
   where
-    by : (a : Answer) → (a ≡ answer.Refused refusal.Fault → Rose old.reads new.reads) → ((a ≡ answer.Refused refusal.Fault → ⊥) → new.reads ≡ old.reads) → RoseBy (fault_in a) old.reads new.reads
+    by : (a : Answer) → (a ≡ answer.Refused refusal.Fault → Rose before now) → ((a ≡ answer.Refused refusal.Fault → ⊥) → now ≡ before) → RoseBy (fault_in a) before now
     by (answer.Refused refusal.Fault) rose same = (rose refl, λ none. absurd (omega (arith, none)))
-    by _ rose same = rose_by_none old.reads new.reads (same (not_a_fault _ refl))
-fault_rose (Err failed) old new fault other = tt
+    by _ rose same = rose_by_none before now (same (not_a_fault _ refl))
+fault_rose (Err failed) before now fault other = tt
 
 pub fault_of_item : (i : Item) (why : Refusal) (n : ℕ) → i ≡ item.Refused why → IsSparingItem i → RoseBy (fault_in (answer.Refused why)) n n
 fault_of_item i why n is sparing = by why (subst IsSparingItem is sparing)
