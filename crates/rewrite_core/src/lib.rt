@@ -5,8 +5,10 @@ mod computed;
 mod files;
 pub mod laws;
 pub mod lookup;
+pub mod places;
 pub mod rewriting;
 
 pub use laws::computed_rewritings;
 pub use lookup::Lookup;
+pub use places::Places;
 pub use rewriting::{Delta, DeltaWay, Hit, Parts, Rewriting, Way};
