@@ -14,6 +14,7 @@ pub mod refusal;
 mod rows;
 mod two_inputs;
 
+pub use bounds::are_bounded;
 pub use deltas::{added_of_child, added_of_distinct, added_of_join};
 pub use grown::made_of_grown;
 pub use joins::{made_of_both, made_of_left, made_of_right};
