@@ -1,0 +1,10 @@
+pub mod PlanParts
+pub mod TreeParts
+pub mod Steps
+pub mod Loads
+pub mod Bounded
+pub mod Needs
+pub mod Above
+pub mod Nodes
+pub mod Fits
+pub mod TakenPieces

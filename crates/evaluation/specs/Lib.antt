@@ -1,0 +1,5 @@
+pub mod Loading
+pub mod Parts
+pub mod Passing
+pub mod Evaluating
+pub mod Laws
