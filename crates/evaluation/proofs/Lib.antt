@@ -8,3 +8,4 @@ pub mod Above
 pub mod Nodes
 pub mod Fits
 pub mod TakenPieces
+pub mod Chains

@@ -70,6 +70,7 @@ module _ (piece : Piece) (before after : Loads) where
 module _ (makes : MakesResults) (adds : AddsResults) (valid : GivesValid) (p : PlainPlan) where
   module _ (c : Cuts) (before after : Loads) (result : Result Made MakeRefusal) (takes : TakesFit before after result) (held : TakesHeld before after result) where
     pub read_makes : (hit : Hit) → IsReady p (Entry p hit.id ∷ []) before → Computed p c (Read hit) before after result
+    unfolding piece_ready
     read_makes hit ready = λ extents results rest all.
         let part = held extents results (Entry p hit.id) rest all in
         (took_makes _ p (Ok (made_before (results hit.id))) result (law.above_passes makes adds valid extents results p c (Read hit)) part.0 (bounded before after result (piece_ready (Entry p hit.id) before after ready) takes), part.1)
@@ -82,6 +83,7 @@ module _ (makes : MakesResults) (adds : AddsResults) (valid : GivesValid) (p : P
       gathered_fits = subst (λ ps. MakesFit p ps before after result) (sym (gathered_pieces p c way chain)) (piece_fits (Gathered p c) before after result takes)
 
       pub gathered_makes : IsFormed (Node p c way) → IsReady p (pieces_of (Node p c way)) before → Tree (Node p c way) before after result
+      unfolding piece_ready
       gathered_makes formed ready = λ extents results rest all.
           let part = held extents results (Gathered p c) rest (subst (λ ps. HoldAll extents results (ps ++ rest) (reverse before)) (gathered_pieces p c way chain) all) in (
             took_makes _ p (made_by extents results (Node p c way)) result (law.above_passes makes adds valid extents results p c way)
@@ -100,10 +102,10 @@ module _ (makes : MakesResults) (adds : AddsResults) (valid : GivesValid) (p : P
     grown_pieces p (parts.BothGrew' _ _ _ _ _ _ _ _ _ _ _ _ _ _) = refl
 
     old_passes : (extents : Extents) (results : KeptResults) (of : parts.Parts) → IsAbove p (Ok (made_before (results hit.id))) → Passes extents results (Node p c (grown_way hit of))
-    old_passes extents results (parts.Tail' _ _ _ _) above = law.old_lifts makes adds valid extents results p c hit _ (λ is. is.2.0) above
-    old_passes extents results (parts.LeftGrew' _ _ _ _ _ _ _) above = law.old_lifts makes adds valid extents results p c hit _ (λ is. is.2.0) above
-    old_passes extents results (parts.RightGrew' _ _ _ _ _ _ _) above = law.old_lifts makes adds valid extents results p c hit _ (λ is. is.2.0) above
-    old_passes extents results (parts.BothGrew' _ _ _ _ _ _ _ _ _ _ _ _ _ _) above = law.old_lifts makes adds valid extents results p c hit _ (λ is. is.2.0) above
+    old_passes extents results (parts.Tail' a b d e) above = law.old_lifts makes adds valid extents results p c hit (grown_way hit (parts.Tail' a b d e)) (λ (is : IsRewriting (kept_among extents results) p c (Node p c (grown_way hit (parts.Tail' a b d e)))). is.2.0) above
+    old_passes extents results (parts.LeftGrew' a b d e f g h) above = law.old_lifts makes adds valid extents results p c hit (grown_way hit (parts.LeftGrew' a b d e f g h)) (λ (is : IsRewriting (kept_among extents results) p c (Node p c (grown_way hit (parts.LeftGrew' a b d e f g h)))). is.2.0) above
+    old_passes extents results (parts.RightGrew' a b d e f g h) above = law.old_lifts makes adds valid extents results p c hit (grown_way hit (parts.RightGrew' a b d e f g h)) (λ (is : IsRewriting (kept_among extents results) p c (Node p c (grown_way hit (parts.RightGrew' a b d e f g h)))). is.2.0) above
+    old_passes extents results (parts.BothGrew' a b d e f g h i j k l m n o) above = law.old_lifts makes adds valid extents results p c hit (grown_way hit (parts.BothGrew' a b d e f g h i j k l m n o)) (λ (is : IsRewriting (kept_among extents results) p c (Node p c (grown_way hit (parts.BothGrew' a b d e f g h i j k l m n o)))). is.2.0) above
 
     module _ (of : parts.Parts) (before mid : Loads) where
       abbrev Way : PlainWay

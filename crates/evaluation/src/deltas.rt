@@ -23,6 +23,7 @@ use std::alloc::Global;
 
 /// What a delta adds.
 #[cycle(evaluation)]
+#[tactic(none)]
 pub fn added(alloc: Global, delta: &Delta, pieces: &mut Vec<Loaded>) -> Result<Added, MakeRefusal>
     requires formed { IsFormedDelta (delta_of delta.now) }
     requires ready { IsReady (plan_of delta.now.plan) (pieces_of_delta (delta_of delta.now))
@@ -44,6 +45,7 @@ pub fn added(alloc: Global, delta: &Delta, pieces: &mut Vec<Loaded>) -> Result<A
 
 // What it adds of its parts.
 #[cycle(evaluation)]
+#[tactic(none)]
 fn added_in(
     alloc: Global,
     plan: &Plan,

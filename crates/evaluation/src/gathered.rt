@@ -1,32 +1,63 @@
 //! Rewritings and deltas that are read at once, from the extents of one stream.
 ghost use Rattle.std.specs.Prelude.{◌≡◌};
+ghost use Rattle.plan_core.specs.PlainPlan.{plan_of};
 ghost use Rattle.growth_laws.specs.Pieces.{is_chain_of, is_gathered, is_chain_delta};
 ghost use Rattle.rewrite_core.specs.PlainRewriting.{rewriting_of, delta_of};
+ghost use Rattle.evaluation.specs.Gathering.{is_row_wise, gathers};
 
 use plan_core::Plan;
 use rewrite_core::{Delta, DeltaWay, Rewriting, Way};
 
+// An operator that passes each row on by itself, or none.
+fn is_row_wise(plan: &Plan) -> bool
+    ensures { result ≡ is_row_wise (plan_of plan.now) }
+{
+    match plan {
+        Plan::Filter { .. } => true,
+        Plan::Project { .. } => true,
+        _ => false,
+    }
+}
+
+// Such a one, a grouping or a distinct.
+fn gathers(plan: &Plan) -> bool
+    ensures { result ≡ gathers (plan_of plan.now) }
+{
+    match plan {
+        Plan::Filter { .. } => true,
+        Plan::Project { .. } => true,
+        Plan::Distinct { .. } => true,
+        Plan::Group { .. } => true,
+        _ => false,
+    }
+}
+
 // A computed scan, with computed filters and projections over it, or none.
+#[tactic(auto, using(crate::proofs::Chains::chain_one, crate::proofs::Chains::chain_grown))]
 fn is_chain(r: &Rewriting) -> bool
     ensures { result ≡ is_chain_of (rewriting_of r.now) }
 {
-    match (&r.plan, &r.way) {
-        (_, Way::Scan) => true,
-        (Plan::Filter { .. }, Way::One(input)) => is_chain(input),
-        (Plan::Project { .. }, Way::One(input)) => is_chain(input),
-        _ => false,
+    match &r.way {
+        Way::Scan => true,
+        Way::One(input) => is_row_wise(&r.plan) && is_chain(input),
+        Way::Two(_, _) => false,
+        Way::Read(_) => false,
+        Way::Grown { hit: _, parts: _ } => false,
     }
 }
 
 /// Whether it is a piece of its own: a computed scan with computed filters and projections over it, or none,
 /// or a computed grouping or distinct over these.
+#[tactic(auto, using(crate::proofs::Chains::gathered_scan, crate::proofs::Chains::gathered_one, crate::proofs::Chains::gathered_two, crate::proofs::Chains::gathered_read, crate::proofs::Chains::gathered_grown))]
 pub fn is_gathered(r: &Rewriting) -> bool
     ensures { result ≡ is_gathered (rewriting_of r.now) }
 {
-    match (&r.plan, &r.way) {
-        (Plan::Group { .. }, Way::One(input)) => is_chain(input),
-        (Plan::Distinct { .. }, Way::One(input)) => is_chain(input),
-        _ => is_chain(r),
+    match &r.way {
+        Way::Scan => true,
+        Way::One(input) => gathers(&r.plan) && is_chain(input),
+        Way::Two(_, _) => false,
+        Way::Read(_) => false,
+        Way::Grown { hit: _, parts: _ } => false,
     }
 }
 

@@ -28,6 +28,7 @@ use std::alloc::Global;
 
 /// What a rewriting makes.
 #[cycle(evaluation)]
+#[tactic(none)]
 pub fn made(alloc: Global, r: &Rewriting, pieces: &mut Vec<Loaded>) -> Result<Made, MakeRefusal>
     requires formed { IsFormed (rewriting_of r.now) }
     requires ready { IsReady (plan_of r.now.plan) (pieces_of (rewriting_of r.now)) pieces.old.items }
@@ -47,6 +48,7 @@ pub fn made(alloc: Global, r: &Rewriting, pieces: &mut Vec<Loaded>) -> Result<Ma
 
 // What it makes of its parts, or of a kept result.
 #[cycle(evaluation)]
+#[tactic(none)]
 fn made_in(
     alloc: Global,
     plan: &Plan,
@@ -88,6 +90,7 @@ fn made_in(
 
 // What is made of the earlier result and of what came since.
 #[cycle(evaluation)]
+#[tactic(none)]
 fn grown(
     alloc: Global,
     plan: &Plan,
