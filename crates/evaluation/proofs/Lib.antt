@@ -9,3 +9,4 @@ pub mod Nodes
 pub mod Fits
 pub mod TakenPieces
 pub mod Chains
+pub mod Arms

@@ -67,6 +67,10 @@ module _ (piece : Piece) (before after : Loads) where
   piece_fits result takes = λ schemas rest typed are.
       if_ok _ (λ made. IsFit schemas (piece_plan piece) made.kept × AreFit schemas rest (reverse after)) result (λ made fit. (fit.0, fit.2)) (takes schemas piece rest are)
 
+module _ (p : PlainPlan) (c : Cuts) (way : PlainWay) (chain : is_gathered (Node p c way) ≡ true) (before : Loads) where
+  pub gathered_ready : IsReady p (pieces_of (Node p c way)) before → HasPiece before
+  gathered_ready ready = (ready.0, Gathered p c, ready.1, subst (λ ps. AreFit ready.0 (ps ++ ready.1) (reverse before)) (gathered_pieces p c way chain) ready.3)
+
 module _ (makes : MakesResults) (adds : AddsResults) (valid : GivesValid) (p : PlainPlan) where
   module _ (c : Cuts) (before after : Loads) (result : Result Made MakeRefusal) (takes : TakesFit before after result) (held : TakesHeld before after result) where
     pub read_makes : (hit : Hit) → IsReady p (Entry p hit.id ∷ []) before → Computed p c (Read hit) before after result
@@ -76,19 +80,16 @@ module _ (makes : MakesResults) (adds : AddsResults) (valid : GivesValid) (p : P
         (took_makes _ p (Ok (made_before (results hit.id))) result (law.above_passes makes adds valid extents results p c (Read hit)) part.0 (bounded before after result (piece_ready (Entry p hit.id) before after ready) takes), part.1)
 
     module _ (way : PlainWay) (chain : is_gathered (Node p c way) ≡ true) where
-      pub gathered_ready : IsReady p (pieces_of (Node p c way)) before → IsReady p (Gathered p c ∷ []) before
-      gathered_ready ready = (ready.0, ready.1, ready.2, subst (λ ps. AreFit ready.0 (ps ++ ready.1) (reverse before)) (gathered_pieces p c way chain) ready.3)
-
       pub gathered_fits : MakesFit p (pieces_of (Node p c way)) before after result
       gathered_fits = subst (λ ps. MakesFit p ps before after result) (sym (gathered_pieces p c way chain)) (piece_fits (Gathered p c) before after result takes)
 
       pub gathered_makes : IsFormed (Node p c way) → IsReady p (pieces_of (Node p c way)) before → Tree (Node p c way) before after result
-      unfolding piece_ready
+      unfolding gathered_ready
       gathered_makes formed ready = λ extents results rest all.
           let part = held extents results (Gathered p c) rest (subst (λ ps. HoldAll extents results (ps ++ rest) (reverse before)) (gathered_pieces p c way chain) all) in (
             took_makes _ p (made_by extents results (Node p c way)) result (law.above_passes makes adds valid extents results p c way)
                 (subst (λ given. Took p given result) (sym (gathered extents results p c (Node p c way) formed chain)) part.0)
-                (bounded before after result (piece_ready (Gathered p c) before after (gathered_ready ready)) takes),
+                (bounded before after result (gathered_ready p c way chain before ready) takes),
             part.1,
           )
 

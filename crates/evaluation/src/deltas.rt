@@ -39,7 +39,7 @@ pub fn added(alloc: Global, delta: &Delta, pieces: &mut Vec<Loaded>) -> Result<A
         Ok(rows_added(alloc, taken(pieces)?))
     } else {
         let (old, new) = (delta.old.items(), delta.new.items());
-        added_in(alloc, &delta.plan, old, new, &delta.way, pieces)
+        added_in(alloc, &delta.way, &delta.plan, old, new, pieces)
     }
 }
 
@@ -48,10 +48,10 @@ pub fn added(alloc: Global, delta: &Delta, pieces: &mut Vec<Loaded>) -> Result<A
 #[tactic(none)]
 fn added_in(
     alloc: Global,
+    way: &DeltaWay,
     plan: &Plan,
     _old: &[Cut],
     _new: &[Cut],
-    way: &DeltaWay,
     pieces: &mut Vec<Loaded>,
 ) -> Result<Added, MakeRefusal>
     requires formed { IsFormedDelta (Change (plan_of plan.now) _old.now _new.now (delta_way_of way.now)) }

@@ -42,7 +42,7 @@ pub fn made(alloc: Global, r: &Rewriting, pieces: &mut Vec<Loaded>) -> Result<Ma
     if is_gathered(r) {
         taken(pieces)
     } else {
-        made_in(alloc, &r.plan, r.cuts.items(), &r.way, pieces)
+        made_in(alloc, &r.way, &r.plan, r.cuts.items(), pieces)
     }
 }
 
@@ -51,9 +51,9 @@ pub fn made(alloc: Global, r: &Rewriting, pieces: &mut Vec<Loaded>) -> Result<Ma
 #[tactic(none)]
 fn made_in(
     alloc: Global,
+    way: &Way,
     plan: &Plan,
     cuts: &[Cut],
-    way: &Way,
     pieces: &mut Vec<Loaded>,
 ) -> Result<Made, MakeRefusal>
     requires formed { IsFormed (Node (plan_of plan.now) cuts.now (way_of way.now)) }
@@ -83,7 +83,7 @@ fn made_in(
         Way::Read(_) => taken(pieces),
         Way::Grown { hit, parts } => {
             let old = taken(pieces)?;
-            grown(alloc, plan, cuts, hit, parts, old, pieces)
+            grown(alloc, parts, plan, cuts, hit, old, pieces)
         }
     }
 }
@@ -93,10 +93,10 @@ fn made_in(
 #[tactic(none)]
 fn grown(
     alloc: Global,
+    parts: &Parts,
     plan: &Plan,
     _cuts: &[Cut],
     _hit: &Hit,
-    parts: &Parts,
     old: Made,
     pieces: &mut Vec<Loaded>,
 ) -> Result<Made, MakeRefusal>
