@@ -10,3 +10,4 @@ pub mod Fits
 pub mod TakenPieces
 pub mod Chains
 pub mod Arms
+pub mod Sizes

@@ -1,5 +1,5 @@
 -- What each part of a node answers goes into the node's answer.
-use Rattle.std.proofs.Common.{rules, ◌≡◌, sym, ap, subst, ◌∙◌, true, false, [], ◌∷◌, ◌++◌, reverse, Ok, Err}
+use Rattle.std.proofs.Common.{arith, ◌≡◌, sym, ap, subst, ◌∙◌, true, false, [], ◌∷◌, ◌++◌, reverse, Ok, Err}
 use Rattle.std.proofs.lemmas.Bool.{false≢true}
 use Rattle.std.proofs.lemmas.Result.{err_from_is_err_and}
 use Rattle.plan_core.specs.PlainPlan.{plan_of}
@@ -16,6 +16,7 @@ use Rattle.evaluation.proofs.Fits as fits
 use Rattle.evaluation.proofs.Loads.{other_pieces, other_delta_pieces}
 use Rattle.evaluation.proofs.Nodes as nodes
 use Rattle.evaluation.proofs.Nodes.{Computed, Grown, DeltaTree, Passed}
+use Rattle.evaluation.proofs.Sizes.{way_size, delta_way_size}
 use Rattle.evaluation.proofs.TakenPieces as taken
 use Rattle.evaluation.proofs.+evaluation.Goals as goal
 
@@ -67,7 +68,7 @@ deltas::added-added_in-requires t c =
     let way = delta_way_of c.args.delta.now.way in
     let before = c.args.pieces.now.items in
     let chain = sym c.if-is_gathered_delta.ensures in (
-      search rules,
+      omega (arith, c.decreases),
       (
         subst (λ o. IsFormedDelta (Change p o c.items-new.result.now way)) (sym c.items-old.ensures) (subst (λ n. IsFormedDelta (Change p old n way)) (sym c.items-new.ensures) c.requires.formed),
         (
@@ -147,7 +148,7 @@ deltas::added_in-added-requires t c =
     let w : delta_way_of c.args.way.now ≡ OfChild d = ap delta_way_of c.in-Tail.is ∙ ap (λ (v : Delta). OfChild (delta_of v)) (sym c.deref.ensures) in
     let formed : IsFormedDelta (Change p old new (OfChild d)) = subst (λ way. IsFormedDelta (Change p old new way)) w c.requires.formed in
     let ready : IsReady p (pieces_in_delta (OfChild d)) before = subst (λ way. IsReady p (pieces_in_delta way) before) w c.requires.ready in
-    (search rules, fits.child_ready c.results_are_made.ensures.typed p old new before before d formed ready)
+    (omega (arith, ap delta_way_size w, c.decreases), fits.child_ready c.results_are_made.ensures.typed p old new before before d formed ready)
 
 -- src/deltas.rt:75:25
 pub deltas::added_in-returns-in_err-input-in-Tail-clause-fit :
@@ -199,7 +200,7 @@ deltas::added_in-made-requires t c =
     let w : delta_way_of c.args.way.now ≡ OfDistinct r d = ap delta_way_of c.in-Distinct.is ∙ ap (λ (v : Rewriting). OfDistinct (rewriting_of v) d) (sym c.deref-in-Distinct.ensures) in
     let formed : IsFormedDelta (Change p old new (OfDistinct r d)) = subst (λ way. IsFormedDelta (Change p old new way)) w c.requires.formed in
     let ready : IsReady p (pieces_in_delta (OfDistinct r d)) before = subst (λ way. IsReady p (pieces_in_delta way) before) w c.requires.ready in
-    (search rules, fits.distinct_ready c.results_are_made.ensures.typed p old new before before r d before formed ready)
+    (omega (arith, ap delta_way_size w, c.decreases), fits.distinct_ready c.results_are_made.ensures.typed p old new before before r d before formed ready)
 
 -- src/deltas.rt:79:23
 pub deltas::added_in-returns-in_err-old-in-Distinct-clause-fit :
@@ -241,7 +242,7 @@ deltas::added_in-added-requires-in-Distinct t c =
     let w : delta_way_of c.args.way.now ≡ OfDistinct r d = ap delta_way_of c.in-Distinct.is ∙ (λ i. OfDistinct (rewriting_of (first i)) (delta_of (second i))) in
     let formed : IsFormedDelta (Change p old new (OfDistinct r d)) = subst (λ way. IsFormedDelta (Change p old new way)) w c.requires.formed in
     let ready : IsReady p (pieces_in_delta (OfDistinct r d)) before = subst (λ way. IsReady p (pieces_in_delta way) before) w c.requires.ready in
-    (search rules, fits.distinct_ready_then c.results_are_made.ensures.typed p old new before c.made.new.pieces.items r d c.made.new.pieces.items formed ready c.in_ok-old-in-Distinct.old c.in_ok-old-in-Distinct.ensures.fit)
+    (omega (arith, ap delta_way_size w, c.decreases), fits.distinct_ready_then c.results_are_made.ensures.typed p old new before c.made.new.pieces.items r d c.made.new.pieces.items formed ready c.in_ok-old-in-Distinct.old c.in_ok-old-in-Distinct.ensures.fit)
 
 -- src/deltas.rt:80:25
 pub deltas::added_in-returns-in_err-input-in-Distinct-clause-fit :
@@ -317,7 +318,7 @@ deltas::added_in-added-requires-in-Join t c =
     let w : delta_way_of c.args.way.now ≡ OfJoin d r = ap delta_way_of c.in-Join.is ∙ ap (λ (v : Delta). OfJoin (delta_of v) r) (sym c.deref-in-Join.ensures) in
     let formed : IsFormedDelta (Change p old new (OfJoin d r)) = subst (λ way. IsFormedDelta (Change p old new way)) w c.requires.formed in
     let ready : IsReady p (pieces_in_delta (OfJoin d r)) before = subst (λ way. IsReady p (pieces_in_delta way) before) w c.requires.ready in
-    (search rules, fits.join_ready c.results_are_made.ensures.typed p old new before before d r before formed ready)
+    (omega (arith, ap delta_way_size w, c.decreases), fits.join_ready c.results_are_made.ensures.typed p old new before before d r before formed ready)
 
 -- src/deltas.rt:84:25
 pub deltas::added_in-returns-in_err-input-in-Join-clause-fit :
@@ -359,7 +360,7 @@ deltas::added_in-made-requires-in-Join t c =
     let w : delta_way_of c.args.way.now ≡ OfJoin d r = ap delta_way_of c.in-Join.is ∙ (λ i. OfJoin (delta_of (first i)) (rewriting_of (second i))) in
     let formed : IsFormedDelta (Change p old new (OfJoin d r)) = subst (λ way. IsFormedDelta (Change p old new way)) w c.requires.formed in
     let ready : IsReady p (pieces_in_delta (OfJoin d r)) before = subst (λ way. IsReady p (pieces_in_delta way) before) w c.requires.ready in
-    (search rules, fits.join_ready_then c.results_are_made.ensures.typed p old new before c.added-in-Join.new.pieces.items d r c.added-in-Join.new.pieces.items formed ready c.in_ok-input-in-Join.input c.in_ok-input-in-Join.ensures.fit)
+    (omega (arith, ap delta_way_size w, c.decreases), fits.join_ready_then c.results_are_made.ensures.typed p old new before c.added-in-Join.new.pieces.items d r c.added-in-Join.new.pieces.items formed ready c.in_ok-input-in-Join.input c.in_ok-input-in-Join.ensures.fit)
 
 -- src/deltas.rt:85:25
 pub deltas::added_in-returns-in_err-right-in-Join-clause-fit :
@@ -534,7 +535,7 @@ rewritings::grown-added-requires t c =
     let w : grown_way hit c.args.parts.now ≡ Tail hit d = ap (grown_way hit) c.in-Tail.is in
     let formed : IsFormed (Node p cuts (Tail hit d)) = subst (λ way. IsFormed (Node p cuts way)) w c.requires.formed in
     let ready : IsReadyWith p old (pieces_behind (Tail hit d)) before = subst (λ way. IsReadyWith p old (pieces_behind way) before) w c.requires.ready in
-    (search rules, fits.tail_ready c.results_are_made.ensures.typed p cuts hit old before d before formed ready)
+    (omega (arith, ap way_size w, c.decreases), fits.tail_ready c.results_are_made.ensures.typed p cuts hit old before d before formed ready)
 
 -- src/rewritings.rt:120:25
 pub rewritings::grown-returns-in_err-added-in-Tail-clause-fit :
@@ -590,7 +591,7 @@ rewritings::grown-added-requires-in-LeftGrew t c =
     let w : grown_way hit c.args.parts.now ≡ LeftGrew hit d r = ap (grown_way hit) c.in-LeftGrew.is in
     let formed : IsFormed (Node p cuts (LeftGrew hit d r)) = subst (λ way. IsFormed (Node p cuts way)) w c.requires.formed in
     let ready : IsReadyWith p old (pieces_behind (LeftGrew hit d r)) before = subst (λ way. IsReadyWith p old (pieces_behind way) before) w c.requires.ready in
-    (search rules, fits.left_ready c.results_are_made.ensures.typed p cuts hit old before d r before before formed ready)
+    (omega (arith, ap way_size w, c.decreases), fits.left_ready c.results_are_made.ensures.typed p cuts hit old before d r before before formed ready)
 
 -- src/rewritings.rt:124:25
 pub rewritings::grown-returns-in_err-added-in-LeftGrew-clause-fit :
@@ -632,7 +633,7 @@ rewritings::grown-made-requires t c =
     let w : grown_way hit c.args.parts.now ≡ LeftGrew hit d r = ap (grown_way hit) c.in-LeftGrew.is in
     let formed : IsFormed (Node p cuts (LeftGrew hit d r)) = subst (λ way. IsFormed (Node p cuts way)) w c.requires.formed in
     let ready : IsReadyWith p old (pieces_behind (LeftGrew hit d r)) before = subst (λ way. IsReadyWith p old (pieces_behind way) before) w c.requires.ready in
-    (search rules, fits.left_ready_then c.results_are_made.ensures.typed p cuts hit old before d r c.added-in-LeftGrew.new.pieces.items c.added-in-LeftGrew.new.pieces.items formed ready c.in_ok-added-in-LeftGrew.added c.in_ok-added-in-LeftGrew.ensures.fit)
+    (omega (arith, ap way_size w, c.decreases), fits.left_ready_then c.results_are_made.ensures.typed p cuts hit old before d r c.added-in-LeftGrew.new.pieces.items c.added-in-LeftGrew.new.pieces.items formed ready c.in_ok-added-in-LeftGrew.added c.in_ok-added-in-LeftGrew.ensures.fit)
 
 -- src/rewritings.rt:125:25
 pub rewritings::grown-returns-in_err-right-in-LeftGrew-clause-fit :
@@ -703,7 +704,7 @@ rewritings::grown-made-requires-in-RightGrew t c =
     let w : grown_way hit c.args.parts.now ≡ RightGrew hit l d = ap (grown_way hit) c.in-RightGrew.is in
     let formed : IsFormed (Node p cuts (RightGrew hit l d)) = subst (λ way. IsFormed (Node p cuts way)) w c.requires.formed in
     let ready : IsReadyWith p old (pieces_behind (RightGrew hit l d)) before = subst (λ way. IsReadyWith p old (pieces_behind way) before) w c.requires.ready in
-    (search rules, fits.right_ready c.results_are_made.ensures.typed p cuts hit old before l d before before formed ready)
+    (omega (arith, ap way_size w, c.decreases), fits.right_ready c.results_are_made.ensures.typed p cuts hit old before l d before before formed ready)
 
 -- src/rewritings.rt:129:24
 pub rewritings::grown-returns-in_err-left-in-RightGrew-clause-fit :
@@ -746,7 +747,7 @@ rewritings::grown-added-requires-in-RightGrew t c =
     let w : grown_way hit c.args.parts.now ≡ RightGrew hit l d = ap (grown_way hit) c.in-RightGrew.is in
     let formed : IsFormed (Node p cuts (RightGrew hit l d)) = subst (λ way. IsFormed (Node p cuts way)) w c.requires.formed in
     let ready : IsReadyWith p old (pieces_behind (RightGrew hit l d)) before = subst (λ way. IsReadyWith p old (pieces_behind way) before) w c.requires.ready in
-    (search rules, fits.right_ready_then c.results_are_made.ensures.typed p cuts hit old before l d c.made-in-RightGrew.new.pieces.items c.made-in-RightGrew.new.pieces.items formed ready c.in_ok-left-in-RightGrew.left c.in_ok-left-in-RightGrew.ensures.fit)
+    (omega (arith, ap way_size w, c.decreases), fits.right_ready_then c.results_are_made.ensures.typed p cuts hit old before l d c.made-in-RightGrew.new.pieces.items c.made-in-RightGrew.new.pieces.items formed ready c.in_ok-left-in-RightGrew.left c.in_ok-left-in-RightGrew.ensures.fit)
 
 -- src/rewritings.rt:130:25
 pub rewritings::grown-returns-in_err-added-in-RightGrew-clause-fit :
@@ -818,7 +819,7 @@ rewritings::grown-made-requires-in-BothGrew t c =
     let w : grown_way hit c.args.parts.now ≡ BothGrew hit l rd ld r = ap (grown_way hit) c.in-BothGrew.is in
     let formed : IsFormed (Node p cuts (BothGrew hit l rd ld r)) = subst (λ way. IsFormed (Node p cuts way)) w c.requires.formed in
     let ready : IsReadyWith p old (pieces_behind (BothGrew hit l rd ld r)) before = subst (λ way. IsReadyWith p old (pieces_behind way) before) w c.requires.ready in
-    (search rules, fits.both_ready c.results_are_made.ensures.typed p cuts hit old before l rd ld r before before before before formed ready)
+    (omega (arith, ap way_size w, c.decreases), fits.both_ready c.results_are_made.ensures.typed p cuts hit old before l rd ld r before before before before formed ready)
 
 -- src/rewritings.rt:139:28
 pub rewritings::grown-returns-in_err-old_left-in-BothGrew-clause-fit :
@@ -865,7 +866,7 @@ rewritings::grown-added-requires-in-BothGrew t c =
     let w : grown_way hit c.args.parts.now ≡ BothGrew hit l rd ld r = ap (grown_way hit) c.in-BothGrew.is in
     let formed : IsFormed (Node p cuts (BothGrew hit l rd ld r)) = subst (λ way. IsFormed (Node p cuts way)) w c.requires.formed in
     let ready : IsReadyWith p old (pieces_behind (BothGrew hit l rd ld r)) before = subst (λ way. IsReadyWith p old (pieces_behind way) before) w c.requires.ready in
-    (search rules, fits.both_ready_second c.results_are_made.ensures.typed p cuts hit old before l rd ld r c.made-in-BothGrew.new.pieces.items c.made-in-BothGrew.new.pieces.items c.made-in-BothGrew.new.pieces.items c.made-in-BothGrew.new.pieces.items formed ready c.in_ok-old_left-in-BothGrew.old_left c.in_ok-old_left-in-BothGrew.ensures.fit)
+    (omega (arith, ap way_size w, c.decreases), fits.both_ready_second c.results_are_made.ensures.typed p cuts hit old before l rd ld r c.made-in-BothGrew.new.pieces.items c.made-in-BothGrew.new.pieces.items c.made-in-BothGrew.new.pieces.items c.made-in-BothGrew.new.pieces.items formed ready c.in_ok-old_left-in-BothGrew.old_left c.in_ok-old_left-in-BothGrew.ensures.fit)
 
 -- src/rewritings.rt:140:31
 pub rewritings::grown-returns-in_err-right_added-in-BothGrew-clause-fit :
@@ -912,7 +913,7 @@ rewritings::grown-added-requires-in-BothGrew-2 t c =
     let w : grown_way hit c.args.parts.now ≡ BothGrew hit l rd ld r = ap (grown_way hit) c.in-BothGrew.is in
     let formed : IsFormed (Node p cuts (BothGrew hit l rd ld r)) = subst (λ way. IsFormed (Node p cuts way)) w c.requires.formed in
     let ready : IsReadyWith p old (pieces_behind (BothGrew hit l rd ld r)) before = subst (λ way. IsReadyWith p old (pieces_behind way) before) w c.requires.ready in
-    (search rules, fits.both_ready_third c.results_are_made.ensures.typed p cuts hit old before l rd ld r c.made-in-BothGrew.new.pieces.items c.added-in-BothGrew.new.pieces.items c.added-in-BothGrew.new.pieces.items c.added-in-BothGrew.new.pieces.items formed ready c.in_ok-old_left-in-BothGrew.old_left c.in_ok-old_left-in-BothGrew.ensures.fit c.in_ok-right_added-in-BothGrew.right_added c.in_ok-right_added-in-BothGrew.ensures.fit)
+    (omega (arith, ap way_size w, c.decreases), fits.both_ready_third c.results_are_made.ensures.typed p cuts hit old before l rd ld r c.made-in-BothGrew.new.pieces.items c.added-in-BothGrew.new.pieces.items c.added-in-BothGrew.new.pieces.items c.added-in-BothGrew.new.pieces.items formed ready c.in_ok-old_left-in-BothGrew.old_left c.in_ok-old_left-in-BothGrew.ensures.fit c.in_ok-right_added-in-BothGrew.right_added c.in_ok-right_added-in-BothGrew.ensures.fit)
 
 -- src/rewritings.rt:141:30
 pub rewritings::grown-returns-in_err-left_added-in-BothGrew-clause-fit :
@@ -959,7 +960,7 @@ rewritings::grown-made-requires-in-BothGrew-2 t c =
     let w : grown_way hit c.args.parts.now ≡ BothGrew hit l rd ld r = ap (grown_way hit) c.in-BothGrew.is in
     let formed : IsFormed (Node p cuts (BothGrew hit l rd ld r)) = subst (λ way. IsFormed (Node p cuts way)) w c.requires.formed in
     let ready : IsReadyWith p old (pieces_behind (BothGrew hit l rd ld r)) before = subst (λ way. IsReadyWith p old (pieces_behind way) before) w c.requires.ready in
-    (search rules, fits.both_ready_last c.results_are_made.ensures.typed p cuts hit old before l rd ld r c.made-in-BothGrew.new.pieces.items c.added-in-BothGrew.new.pieces.items c.added-in-BothGrew-2.new.pieces.items c.added-in-BothGrew-2.new.pieces.items formed ready c.in_ok-old_left-in-BothGrew.old_left c.in_ok-old_left-in-BothGrew.ensures.fit c.in_ok-right_added-in-BothGrew.right_added c.in_ok-right_added-in-BothGrew.ensures.fit c.in_ok-left_added-in-BothGrew.left_added c.in_ok-left_added-in-BothGrew.ensures.fit)
+    (omega (arith, ap way_size w, c.decreases), fits.both_ready_last c.results_are_made.ensures.typed p cuts hit old before l rd ld r c.made-in-BothGrew.new.pieces.items c.added-in-BothGrew.new.pieces.items c.added-in-BothGrew-2.new.pieces.items c.added-in-BothGrew-2.new.pieces.items formed ready c.in_ok-old_left-in-BothGrew.old_left c.in_ok-old_left-in-BothGrew.ensures.fit c.in_ok-right_added-in-BothGrew.right_added c.in_ok-right_added-in-BothGrew.ensures.fit c.in_ok-left_added-in-BothGrew.left_added c.in_ok-left_added-in-BothGrew.ensures.fit)
 
 -- src/rewritings.rt:142:25
 pub rewritings::grown-returns-in_err-right-in-BothGrew-clause-fit :
@@ -1193,7 +1194,7 @@ rewritings::made-made_in-requires t c =
     let way = way_of c.args.r.now.way in
     let before = c.args.pieces.now.items in
     let other = other_pieces p c.args.r.now.cuts way (sym c.if-is_gathered.ensures) in (
-      search rules,
+      omega (arith, c.decreases),
       (
         subst (λ cuts. IsFormed (Node p cuts way)) (sym c.items.ensures) c.requires.formed,
         (
@@ -1264,7 +1265,7 @@ rewritings::made_in-made-requires t c =
     let w : way_of c.args.way.now ≡ One r = ap way_of c.in-One.is ∙ ap (λ (v : Rewriting). One (rewriting_of v)) (sym c.deref.ensures) in
     let formed : IsFormed (Node p cuts (One r)) = subst (λ way. IsFormed (Node p cuts way)) w c.requires.formed in
     let ready : IsReady p (pieces_of r) before = subst (λ way. IsReady p (pieces_in p way) before) w c.requires.ready in
-    (search rules, fits.one_ready c.results_are_made.ensures.typed p cuts r before before formed ready)
+    (omega (arith, ap way_size w, c.decreases), fits.one_ready c.results_are_made.ensures.typed p cuts r before before formed ready)
 
 -- src/rewritings.rt:75:25
 pub rewritings::made_in-returns-in_err-input-in-One-clause-fit :
@@ -1313,7 +1314,7 @@ rewritings::made_in-made-requires-in-Two t c =
     let w : way_of c.args.way.now ≡ Two l r = ap way_of c.in-Two.is ∙ ap (λ (v : Rewriting). Two (rewriting_of v) r) (sym c.deref-in-Two.ensures) in
     let formed : IsFormed (Node p cuts (Two l r)) = subst (λ way. IsFormed (Node p cuts way)) w c.requires.formed in
     let ready : IsReady p (pieces_in p (Two l r)) before = subst (λ way. IsReady p (pieces_in p way) before) w c.requires.ready in
-    (search rules, fits.two_ready c.results_are_made.ensures.typed p cuts l r before before before formed ready)
+    (omega (arith, ap way_size w, c.decreases), fits.two_ready c.results_are_made.ensures.typed p cuts l r before before before formed ready)
 
 -- src/rewritings.rt:79:24
 pub rewritings::made_in-returns-in_err-left-in-Two-clause-fit :
@@ -1353,7 +1354,7 @@ rewritings::made_in-made-requires-in-Two-2 t c =
     let w : way_of c.args.way.now ≡ Two l r = ap way_of c.in-Two.is ∙ (λ i. Two (rewriting_of (first i)) (rewriting_of (second i))) in
     let formed : IsFormed (Node p cuts (Two l r)) = subst (λ way. IsFormed (Node p cuts way)) w c.requires.formed in
     let ready : IsReady p (pieces_in p (Two l r)) before = subst (λ way. IsReady p (pieces_in p way) before) w c.requires.ready in
-    (search rules, fits.two_ready_then c.results_are_made.ensures.typed p cuts l r before c.made-in-Two.new.pieces.items c.made-in-Two.new.pieces.items formed ready c.in_ok-left-in-Two.left c.in_ok-left-in-Two.ensures.fit)
+    (omega (arith, ap way_size w, c.decreases), fits.two_ready_then c.results_are_made.ensures.typed p cuts l r before c.made-in-Two.new.pieces.items c.made-in-Two.new.pieces.items formed ready c.in_ok-left-in-Two.left c.in_ok-left-in-Two.ensures.fit)
 
 -- src/rewritings.rt:80:25
 pub rewritings::made_in-returns-in_err-right-in-Two-clause-fit :
@@ -1454,7 +1455,7 @@ rewritings::made_in-grown-requires t c =
     let of = c.deref-in-Grown.result.now in
     let w : way_of c.args.way.now ≡ grown_way hit of = ap way_of c.in-Grown.is ∙ ap (grown_way hit) (sym c.deref-in-Grown.ensures) in
     let ready : IsReady p (pieces_in p (grown_way hit of)) before = subst (λ way. IsReady p (pieces_in p way) before) w c.requires.ready in
-    (search rules, (subst (λ way. IsFormed (Node p cuts way)) w c.requires.formed, taken.then_ready c.results_are_made.ensures.makes c.results_are_made.ensures.adds c.results_are_made.ensures.valid p cuts hit of before c.taken-in-Grown.new.pieces.items c.in_ok-old-in-Grown.old c.in_ok-old-in-Grown.ensures.fit ready))
+    (omega (arith, ap way_size w, c.decreases), (subst (λ way. IsFormed (Node p cuts way)) w c.requires.formed, taken.then_ready c.results_are_made.ensures.makes c.results_are_made.ensures.adds c.results_are_made.ensures.valid p cuts hit of before c.taken-in-Grown.new.pieces.items c.in_ok-old-in-Grown.old c.in_ok-old-in-Grown.ensures.fit ready))
 
 -- src/rewritings.rt:50:1
 pub rewritings::made_in-returns-in_ok-input-in-One-clause-fit :
