@@ -65,3 +65,5 @@ gathered_grown p c hit (parts.Tail' a b d e) = as_chain p c (grown_way hit (part
 gathered_grown p c hit (parts.LeftGrew' a b d e f g h) = as_chain p c (grown_way hit (parts.LeftGrew' a b d e f g h)) tt
 gathered_grown p c hit (parts.RightGrew' a b d e f g h) = as_chain p c (grown_way hit (parts.RightGrew' a b d e f g h)) tt
 gathered_grown p c hit (parts.BothGrew' a b d e f g h i j k l m n o) = as_chain p c (grown_way hit (parts.BothGrew' a b d e f g h i j k l m n o)) tt
+
+pub ruleset of_ways = (gathered_scan, gathered_one, gathered_two, gathered_read, gathered_grown)

@@ -48,7 +48,7 @@ fn is_chain(r: &Rewriting) -> bool
 
 /// Whether it is a piece of its own: a computed scan with computed filters and projections over it, or none,
 /// or a computed grouping or distinct over these.
-#[tactic(auto, using(crate::proofs::Chains::gathered_scan, crate::proofs::Chains::gathered_one, crate::proofs::Chains::gathered_two, crate::proofs::Chains::gathered_read, crate::proofs::Chains::gathered_grown))]
+#[tactic(auto, using(crate::proofs::Chains::of_ways))]
 pub fn is_gathered(r: &Rewriting) -> bool
     ensures { result ≡ is_gathered (rewriting_of r.now) }
 {

@@ -16,8 +16,8 @@ pub enum Stop {
     /// An operator met a number outside of i64.
     #[error("overflow")]
     Overflow,
-    /// The machine time is above 4,294,967,295, or what is kept lies outside of the bounds within which it may
-    /// be worked on.
+    /// The machine time is above 4,294,967,295, or what is kept lies outside of the bounds within which it
+    /// may be worked on.
     #[error("machine time above 4294967295")]
     Machine,
 }

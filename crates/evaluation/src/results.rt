@@ -20,8 +20,9 @@ use std::alloc::Global;
 
 /// What a rewriting makes of its loaded pieces, in the order in which they are read. Whatever the extents and
 /// the kept results hold of which these are: it is what the definitions give of them, with a machine time
-/// within the limit and within the bounds. `Overflow` comes only where that is an overflow, and `Machine`, over
-/// sound results with machine times within the limit, only where the machine time of the plan is above it.
+/// within the limit and within the bounds. `Overflow` comes only where that is an overflow, and `Machine`,
+/// over sound results with machine times within the limit, only where the machine time of the plan is above
+/// it.
 pub fn evaluate(
     alloc: Global,
     rewriting: &Rewriting,
