@@ -1,5 +1,5 @@
 -- What the rows of one more extent make of what was made of the earlier ones.
-use Rattle.std.proofs.Common.{◌≡◌, refl, sym, ap, ◌∙◌, subst, ℕ, ◌+◌, ◌-◌, ◌^◌, ◌<◌, ◌≤◌, List, [], ◌∷◌, ◌++◌, length, length-append, min, Result, Ok, Err, arith}
+use Rattle.std.proofs.Common.{◌≡◌, refl, sym, ap, ◌∙◌, subst, ℕ, ◌+◌, [], ◌∷◌, ◌++◌, length-append, Result, Ok, Err, arith}
 use Rattle.rows_core.specs.declared.overflow.Overflow.{Overflow}
 use Rattle.scalar_ops.specs.Meaning.{overflow}
 use Rattle.row_blob.specs.declared.kept.Kept.{Kept}
@@ -15,11 +15,10 @@ use Rattle.plan_laws.specs.GrowthOfRows.{joined}
 use Rattle.growth_laws.specs.Chains.{IsChain}
 use Rattle.growth_laws.specs.Growth.{Made, whole_made}
 use Rattle.growth_laws.proofs.ChainRows.{chain_joined, chain_takes_in}
-use Rattle.result_ops.specs.Bounds.{limit}
 use Rattle.gathering.specs.declared.stop.Stop.{Stop}
 use Rattle.gathering.specs.declared.stop.Stop.TheVariants as stop
 use Rattle.gathering.specs.Gathered.{IsOneStream}
-use Rattle.gathering.specs.Holding.{chain_of, kept_of_chain, made_of_chain, Follows}
+use Rattle.gathering.specs.Holding.{chain_of, made_of_chain, Follows}
 use Rattle.gathering.specs.Steps.{counted}
 
 pub chain_is : (plan : PlainPlan) → IsOneStream plan → IsChain (chain_of plan)

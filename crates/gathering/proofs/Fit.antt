@@ -1,12 +1,11 @@
 -- What is made of typed rows is fit.
-use Rattle.std.proofs.Common.{◌≡◌, refl, sym, ap, ◌∙◌, subst, ℕ, ◌+◌, ◌<◌, ◌≤◌, List, [], ◌∷◌, ◌++◌, length, map, All, IsSome, IfSome, IfOk, Option, None, Some, Result, Ok, Err, arith}
+use Rattle.std.proofs.Common.{◌≡◌, refl, sym, ap, ◌∙◌, subst, ℕ, ◌+◌, ◌<◌, ◌≤◌, List, [], ◌∷◌, ◌++◌, length, map, IsSome, IfSome, IfOk, Option, None, Some, Result, Ok, Err, arith}
 use Rattle.std.specs.Prelude.{slice_get}
 use Rattle.std.proofs.lemmas.List.Elements.{All-append, All-from_recursion}
 use Rattle.rows_core.specs.declared.overflow.Overflow.{Overflow}
 use Rattle.rows_core.specs.Value.{kind_of}
-use Rattle.row_blob.specs.declared.kept.Kept.{Kept}
 use Rattle.row_blob.specs.declared.kept.Kept.TheVariants as kept
-use Rattle.plan_core.specs.Columns.{Row, Rows}
+use Rattle.plan_core.specs.Columns.{Rows}
 use Rattle.plan_core.specs.Distinct.{distinct_rows}
 use Rattle.plan_core.specs.ExpressionValue.{◌>>=◌}
 use Rattle.plan_core.specs.Filter.{filter_rows}
@@ -16,9 +15,7 @@ use Rattle.plan_core.specs.PlanMeaning.{plan_meaning}
 use Rattle.plan_core.specs.PlanTyping.{Kinds, plan_kinds, group_kinds}
 use Rattle.plan_core.specs.Project.{project_rows}
 use Rattle.plan_core.specs.TypedRows.{HaveKinds, AreOfStreams}
-use Rattle.plan_laws.specs.GroupBounds.{AreGroups, HaveAverages}
 use Rattle.plan_laws.specs.GrowthOfGroups.{groups_of}
-use Rattle.plan_laws.specs.PlanShape.{kinds_given}
 use Rattle.plan_laws.proofs.Answers.{both_ok}
 use Rattle.plan_laws.proofs.GroupBounds.{are_groups, have_averages}
 use Rattle.plan_laws.proofs.TypedParts.{GivesTypedRows}
@@ -31,12 +28,11 @@ use Rattle.result_ops.specs.Fitting.{IsFit}
 use Rattle.result_ops.proofs.FitInputs.{there, some_of, given_kinds}
 use Rattle.result_ops.proofs.FitLaws.{one_fit}
 use Rattle.gathering.specs.declared.held.Held.{Held}
-use Rattle.gathering.specs.declared.held.Held.TheVariants as held
 use Rattle.gathering.specs.declared.progress.Going.{Going}
 use Rattle.gathering.specs.declared.stop.Stop.{Stop}
 use Rattle.gathering.specs.declared.stop.Stop.TheVariants as stop
 use Rattle.gathering.specs.Gathered.{IsOneStream, ComesTo}
-use Rattle.gathering.specs.Holding.{chain_of, kept_of_chain, kept_in, made_of_chain, came_of, AreMergeable, AreSummed, IsHeld, IsFormFor, IsSound, Follows}
+use Rattle.gathering.specs.Holding.{chain_of, kept_of_chain, kept_in, made_of_chain, came_of, IsHeld, IsSound, Follows}
 use Rattle.gathering.proofs.Extents.{given, made_from, whole_of, chain_is}
 
 -- ---- the bounds

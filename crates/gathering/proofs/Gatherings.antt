@@ -1,5 +1,5 @@
 -- What has come of no rows, and of further ones.
-use Rattle.std.proofs.Common.{◌≡◌, sym, ap, ◌∙◌, ℕ, ◌<◌, List, [], ◌∷◌, ◌++◌, IsSome, Result, Ok, arith}
+use Rattle.std.proofs.Common.{◌≡◌, sym, ap, ◌∙◌, List, [], ◌∷◌, ◌++◌, IsSome, Result, Ok, arith}
 use Rattle.plan_core.specs.Columns.{Rows}
 use Rattle.plan_core.specs.PlainPlan.{PlainPlan, leaves}
 use Rattle.plan_core.specs.PlanTyping.{Kinds, plan_kinds}
@@ -10,7 +10,7 @@ use Rattle.gathering.specs.declared.held.Held.{Held}
 use Rattle.gathering.specs.declared.progress.Going.{Going}
 use Rattle.gathering.specs.declared.stop.Stop.{Stop}
 use Rattle.gathering.specs.Gathered.{IsOneStream, Gathers}
-use Rattle.gathering.specs.Holding.{kept_of_chain, kept_in, came_of, IsFormFor, IsSound, Follows, made_of_chain}
+use Rattle.gathering.specs.Holding.{kept_of_chain, kept_in, came_of, IsFormFor, IsSound, Follows}
 use Rattle.gathering.proofs.Fit.{comes_to, comes_follow, further_of_stream, none_of_stream, whole_of_none}
 use Rattle.gathering.proofs.Sums.{summed_none}
 

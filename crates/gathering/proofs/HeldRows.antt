@@ -1,13 +1,11 @@
 -- How many rows or groups are held.
-use Rattle.std.proofs.Common.{◌≡◌, refl, sym, ap, ◌∙◌, ℕ, List, [], ◌∷◌, map, length, Result, Ok, Err}
+use Rattle.std.proofs.Common.{◌≡◌, refl, sym, ap, ◌∙◌, ℕ, List, [], ◌∷◌, length, Result, Ok, Err}
 use Rattle.std.proofs.lemmas.List.{length-map}
 use Rattle.rows_core.specs.declared.overflow.Overflow.{Overflow}
-use Rattle.row_blob.specs.declared.kept.Kept.{Kept}
 use Rattle.row_blob.specs.declared.kept.Kept.TheVariants as kept
 use Rattle.plan_core.specs.declared.agg.Agg.{Agg}
 use Rattle.plan_core.specs.Columns.{Rows}
 use Rattle.plan_core.specs.Distinct.{distinct_rows}
-use Rattle.plan_core.specs.ExpressionValue.{◌>>=◌}
 use Rattle.plan_core.specs.Group.{keys_of}
 use Rattle.plan_core.specs.MachineTime.{row_count, rows_given, rows_taken_in}
 use Rattle.plan_core.specs.PlainPlan.{PlainPlan, Scan, Filter, Project, Distinct, Group, Join, Concat, Order}
@@ -16,7 +14,7 @@ use Rattle.plan_laws.specs.KeptForm.{kept_group}
 use Rattle.growth_laws.specs.Chains.{IsChain}
 use Rattle.growth_laws.specs.Growth.{Made, whole_made}
 use Rattle.gathering.specs.Gathered.{IsOneStream, kept_length}
-use Rattle.gathering.specs.Holding.{chain_of, kept_of_chain, made_of_chain}
+use Rattle.gathering.specs.Holding.{kept_of_chain, made_of_chain}
 use Rattle.gathering.proofs.Extents.{given, made_from, whole_of}
 
 -- what is kept of the rows that the chain gives is what was made

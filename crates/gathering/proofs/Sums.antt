@@ -1,6 +1,5 @@
 -- Groups that are held can be merged.
-use Rattle.std.proofs.Common.{◌≡◌, sym, subst, ℕ, ◌<◌, ◌≤◌, List, [], length, arith}
-use Rattle.row_blob.specs.declared.kept.Kept.TheVariants as kept
+use Rattle.std.proofs.Common.{◌≡◌, sym, subst, ℕ, ◌<◌, ◌≤◌, [], length, arith}
 use Rattle.plan_core.specs.PlainPlan.{PlainPlan, Scan, Filter, Project, Distinct, Group, Join, Concat, Order}
 use Rattle.plan_laws.specs.GroupBounds.{AreGroups}
 use Rattle.plan_laws.specs.GrowthOfGroups.{groups_of}

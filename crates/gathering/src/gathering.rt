@@ -88,6 +88,20 @@ impl Gathering {
         }
     }
 
+    /// A copy of what was made so far: what is kept of the plan's result, and how many rows were taken in; or
+    /// why nothing is made.
+    pub fn made(&self, alloc: Global) -> Result<Result<Made, Stop>, Memory>
+        ensures { IfOk result (λ made. came_as made ≡ self.now.came) }
+    {
+        match &self.going {
+            Ok(going) => Ok(Ok(Made {
+                kept: going.held.kept(alloc)?,
+                taken_in: going.taken_in,
+            })),
+            Err(stop) => Ok(Err(*stop)),
+        }
+    }
+
     /// What was made, by value and without a copy: what is kept of the plan's result, and how many rows were
     /// taken in; or why nothing is made.
     pub fn into_made(self, alloc: Global) -> Result<Result<Made, Stop>, Memory>

@@ -10,7 +10,7 @@ ghost use Rattle.gathering.specs.declared.held.Held.TheVariants as held;
 use group_fold::Groups;
 use plan_core::Plan;
 use row_blob::Kept;
-use row_ops::Seen;
+use row_ops::{Seen, copy_rows};
 use rows_core::{Memory, Row, Seq};
 use std::alloc::Global;
 
@@ -62,6 +62,17 @@ impl Held {
             Held::Rows(before) => join_rows(before, rows),
             Held::Distinct(seen) => seen.feed(rows),
             Held::Groups(groups) => feed_groups(groups, plan, &rows),
+        }
+    }
+
+    /// A copy of what is kept of it.
+    pub fn kept(&self, alloc: Global) -> Result<Kept, Memory>
+        ensures { IfOk result (λ kept. kept ≡ kept_in self.now) }
+    {
+        match self {
+            Held::Rows(rows) => Ok(Kept::Rows(Seq::new(copy_rows(alloc, rows)?))),
+            Held::Distinct(seen) => Ok(Kept::Rows(Seq::new(seen.rows(alloc)?))),
+            Held::Groups(groups) => Ok(Kept::Groups(Seq::new(groups.groups(alloc)?))),
         }
     }
 

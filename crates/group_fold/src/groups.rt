@@ -8,7 +8,7 @@ ghost use Rattle.group_fold.specs.Numbers.{HaveNumbers};
 
 use crate::folding::fold;
 use crate::merging::take_groups;
-use crate::table::{Table, groups_of};
+use crate::table::{Table, copy_of_groups, groups_of};
 use indexmap::IndexMap;
 use plan_core::Agg;
 use plan_laws::groups_of_joined_lists;
@@ -79,6 +79,13 @@ impl Groups {
         groups_of_joined_lists();
         let further = fold(self.alloc, rows, keys, aggs)?;
         take_groups(&mut self.table, further, aggs)
+    }
+
+    /// A second list of the groups.
+    pub fn groups(&self, alloc: Global) -> Result<Vec<GroupRow>, Memory>
+        ensures { IfOk result (λ groups. groups.items ≡ self.now) }
+    {
+        copy_of_groups(alloc, &self.table)
     }
 
     /// The groups, moved into a list.

@@ -4,7 +4,7 @@ ghost use Rattle.row_blob.specs.Kept.{keys_of};
 ghost use Rattle.group_fold.specs.Table.{groups_in};
 
 use indexmap::IndexMap;
-use row_blob::{Acc, GroupRow};
+use row_blob::{Acc, GroupRow, copy_accs};
 use rows_core::{Memory, Row, Seq};
 use std::alloc::Global;
 
@@ -36,4 +36,27 @@ pub fn groups_of(alloc: Global, table: Table) -> Result<Vec<GroupRow>, Memory>
         })
         .collect(alloc)?;
     Ok(groups)
+}
+
+/// A second list of the groups of a table.
+pub fn copy_of_groups(alloc: Global, table: &Table) -> Result<Vec<GroupRow>, Memory>
+    ensures { IfOk result (λ groups. groups.items ≡ groups_in (λ accs. accs.items) table.now.entries) }
+{
+    let mut groups = Vec::with_capacity(alloc, table.len())?;
+    for (key, accs) in table.iter() {
+        let group = copy_of_group(alloc, key, accs)?;
+        groups.push(group)?;
+    }
+    Ok(groups)
+}
+
+fn copy_of_group(alloc: Global, key: &Row, accs: &[Acc]) -> Result<GroupRow, Memory>
+    ensures { IfOk result (λ group. (group.key ≡ key.now) × (group.accs ≡ accs.now)) }
+{
+    let key = key.try_copy(alloc)?;
+    let accs = copy_accs(alloc, accs)?;
+    Ok(GroupRow {
+        key,
+        accs: Seq::new(accs),
+    })
 }

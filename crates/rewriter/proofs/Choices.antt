@@ -1,7 +1,7 @@
 -- The cheapest of the three forms is a least rewriting's, and a least tree of the chosen form is a least one.
-use Rattle.std.proofs.Common.{◌≡◌, ℕ, ◌≤◌, ◌⊎◌, inl, inr, Option, None, Some, arith, refl, ap, sym, subst, ◌∙◌}
+use Rattle.std.proofs.Common.{◌≡◌, ℕ, ◌≤◌, ◌⊎◌, inl, inr, Option, None, Some, arith, ap, sym, subst, ◌∙◌}
 use Rattle.plan_core.specs.PlainPlan.{PlainPlan}
-use Rattle.estimator.specs.Bytes.{Lengths, whole_bytes, capped}
+use Rattle.estimator.specs.Bytes.{Lengths}
 use Rattle.estimator.specs.Cuts.{Cuts}
 use Rattle.rewrite_core.specs.Entries.{Entries}
 use Rattle.rewrite_core.specs.Estimate.{estimate_of, IsLeast}
@@ -16,8 +16,8 @@ use Rattle.rewriter.specs.declared.priced.Want.TheVariants as want
 use Rattle.rewriter.specs.declared.priced.Weighed.{Weighed}
 use Rattle.rewriter.specs.Choosing.{IsCheaper}
 use Rattle.rewriter.specs.Forms.{way_in, IsComputed, IsRead, IsGrown, IsLeastOf, HasNone}
-use Rattle.rewriter.specs.Search.{Prices, Least, LeastOf, LeastWeighed, ComputedWeighed, LeastIfAny, ways_of, IsChoice}
-use Rattle.rewriter.proofs.LeastParts.{forms, least_of_forms}
+use Rattle.rewriter.specs.Search.{Least, LeastOf, LeastWeighed, ComputedWeighed, LeastIfAny, ways_of, IsChoice}
+use Rattle.rewriter.proofs.LeastParts.{forms}
 
 module _ (entries : Entries) (lengths : Lengths) (q : PlainPlan) (c : Cuts) where
   -- a least rewriting of the chosen form has the estimate

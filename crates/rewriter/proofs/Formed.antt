@@ -1,5 +1,5 @@
 -- The cuts of a well-formed rewriting's parts, where the rewriting's own cut is in the streams.
-use Rattle.std.proofs.Common.{◌≡◌, ◌≢◌, ℕ, zero, suc, ◌≤◌, List, [], ◌∷◌, refl, arith, subst, sym, take, drop}
+use Rattle.std.proofs.Common.{◌≡◌, ◌≢◌, ℕ, zero, suc, [], ◌∷◌, refl, arith, subst, sym, take, drop}
 use Rattle.plan_core.specs.PlainPlan.{PlainPlan, leaves, leaf_count}
 use Rattle.plan_core.specs.PlainPlan as plan
 use Rattle.rewrite_core.specs.declared.rewriting.Hit.{Hit}

@@ -1,5 +1,5 @@
 -- The parts of a plan make its results.
-use Rattle.std.proofs.Common.{◌≡◌, ◌≢◌, ◌≤◌, ◌+◌, ◌∙◌, sym, subst, ap, arith}
+use Rattle.std.proofs.Common.{◌≡◌, ◌≢◌, ◌+◌, ◌∙◌, sym, subst, ap, arith}
 use Rattle.plan_core.specs.OperatorCount.{operator_count}
 use Rattle.plan_core.specs.PlainPlan.{PlainPlan, plan_of}
 use Rattle.estimator.specs.Bytes.{Lengths, IsCutOf, whole_bytes, new_bytes}
@@ -9,11 +9,10 @@ use Rattle.rewrite_core.specs.Entries.{Entries, AreSound, IsEarlier}
 use Rattle.rewrite_core.specs.Estimate.{IsLeast, IsLeastDelta}
 use Rattle.rewrite_core.specs.IsRewriting.{lefts, rights}
 use Rattle.rewrite_core.specs.PlainRewriting.{PlainRewriting, LeftGrew, RightGrew, PlainDelta, OfDistinct, OfJoin}
-use Rattle.rewriter.specs.declared.parts.BothGrown.{BothGrown}
 use Rattle.rewriter.specs.declared.parts.Part.{Part}
 use Rattle.rewriter.specs.declared.parts.Stretch.{Stretch}
 use Rattle.rewriter.specs.Forms.{IsGrown, HasNone, HasNoDelta}
-use Rattle.rewriter.specs.Growing.{IsLeastOfStretch, HasNoneOver, IsInputStretch, IsInputPart, IsPart, ComputesOne, ComputesTwo, AreJoinInputs, GrowsByTail, GrowsByPair, GrowsByBoth, IncreasesByChild, IncreasesByPair}
+use Rattle.rewriter.specs.Growing.{IsLeastOfStretch, HasNoneOver, IsInputStretch, IsInputPart, ComputesOne, ComputesTwo, AreJoinInputs, GrowsByTail, GrowsByPair, GrowsByBoth, IncreasesByChild, IncreasesByPair}
 use Rattle.rewriter.specs.InStreams.{AreCutsOf}
 use Rattle.rewriter.specs.Inputs.{HasChild, HasTwo, IsByRow, IsDistinct, IsJoin, IsConcat, IsLower}
 use Rattle.rewriter.specs.Stretches.{before, after}

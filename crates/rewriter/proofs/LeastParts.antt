@@ -1,15 +1,14 @@
 -- The least tree of each form is made of least parts.
-use Rattle.std.proofs.Common.{◌≡◌, ◌≢◌, ℕ, ◌+◌, ◌-◌, ◌^◌, ◌≤◌, ◌<◌, ◌⊎◌, inl, inr, min, List, [], ◌∷◌, refl, arith, ap, ◌∙◌, ◌++◌, sym, subst, take, drop, take-append-drop}
-use Rattle.std.specs.List.{Contains}
+use Rattle.std.proofs.Common.{◌≡◌, ◌≢◌, ℕ, ◌+◌, ◌≤◌, ◌⊎◌, inl, inr, [], ◌∷◌, refl, arith, ap, ◌∙◌, ◌++◌, sym, subst, take, drop, take-append-drop}
 use Rattle.plan_core.specs.PlainPlan.{PlainPlan, leaf_count}
 use Rattle.plan_core.specs.PlainPlan as plan
 use Rattle.rewrite_core.specs.declared.rewriting.Hit.{Hit}
 use Rattle.estimator.specs.Cuts.{Cuts, reach}
 use Rattle.estimator.specs.Bytes.{Lengths, whole_bytes, new_bytes, capped}
-use Rattle.rewrite_core.specs.Entries.{Entries, Entry, entry_of, AreSound, IsWhole, IsBefore, IsEarlier, IsChosenOver}
+use Rattle.rewrite_core.specs.Entries.{Entries, entry_of, AreSound, IsWhole, IsEarlier, IsChosenOver}
 use Rattle.rewrite_core.specs.PlainRewriting.{PlainRewriting, Node, PlainWay, Scan, One, Two, Read, Tail, LeftGrew, RightGrew, BothGrew, PlainDelta, Change, PlainDeltaWay, Unchanged, NewRows, OfChild, OfDistinct, OfJoin}
 use Rattle.rewrite_core.specs.IsRewriting.{IsRewriting, IsWay, IsDelta, IsDeltaWay, among, IsScan, IsLonger, OfOne, OfTwo, OfSides, OfTail, OfDeltaTail, OfDistinctChild, lefts, rights}
-use Rattle.rewrite_core.specs.Estimate.{cost, way_cost, delta_cost, delta_way_cost, estimate_of, delta_estimate, IsLeast, IsLeastDelta}
+use Rattle.rewrite_core.specs.Estimate.{way_cost, delta_way_cost, estimate_of, delta_estimate, IsLeast, IsLeastDelta}
 use Rattle.rewriter.specs.Inputs.{HasChild, IsByRow, IsDistinct, IsWholeOnly, IsJoin, IsConcat, HasTwo}
 use Rattle.rewriter.specs.Forms.{way_in, IsComputed, IsRead, IsGrown, IsLeastOf, HasNone, HasNoDelta}
 

@@ -4,7 +4,7 @@ use Rattle.plan_core.specs.PlainPlan.{PlainPlan, leaves, leaf_count}
 use Rattle.plan_core.specs.PlainPlan as plan
 use Rattle.rewrite_core.specs.declared.rewriting.Hit.{Hit}
 use Rattle.estimator.specs.Cuts.{Cuts, AreIntervals, AreAtOrBefore, EndAtOrBefore}
-use Rattle.estimator.specs.Bytes.{Lengths, AreInStreams, IsCutOf, lengths_at}
+use Rattle.estimator.specs.Bytes.{Lengths, AreInStreams, IsCutOf}
 use Rattle.rewrite_core.specs.Entries.{Entries, AreSound, IsEarlier}
 use Rattle.rewrite_core.specs.IsRewriting.{lefts, rights}
 use Rattle.rewriter.specs.Inputs.{HasChild, IsJoin, IsConcat, HasTwo}

@@ -1,7 +1,7 @@
 -- What a plan's operator takes in.
 use Rattle.std.specs.Prelude.{◌≡◌, ◌<◌}
 use Rattle.plan_core.specs.OperatorCount.{operator_count}
-use Rattle.plan_core.specs.PlainPlan.{PlainPlan, Scan, Filter, Project, Distinct, Group, Join, Concat, Order}
+use Rattle.plan_core.specs.PlainPlan.{PlainPlan, Filter, Project, Distinct, Group, Join, Concat, Order}
 
 -- the plan has this only child
 abbrev pub HasChild : PlainPlan → PlainPlan → Type 0

@@ -1,5 +1,5 @@
 -- What the search answers: the estimate of a least tree, and the tree itself where it is wanted.
-use Rattle.std.specs.Prelude.{◌≡◌, ℕ, ◌≤◌, List, [], ◌∷◌, Option, Some, None, IsSome}
+use Rattle.std.specs.Prelude.{◌≡◌, ◌≤◌, Option, Some, None, IsSome}
 use Rattle.plan_core.specs.PlainPlan.{PlainPlan, plan_of}
 use Rattle.estimator.specs.Bytes.{Lengths, whole_bytes, new_bytes, capped}
 use Rattle.estimator.specs.Cuts.{Cuts}

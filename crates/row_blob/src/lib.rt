@@ -15,7 +15,7 @@ mod tagged;
 
 pub use decoding::{decode, one_place, one_spelling, told_by_all};
 pub use encoding::encode;
-pub use kept::{Acc, GroupRow, Kept, TaggedRow};
+pub use kept::{Acc, GroupRow, Kept, TaggedRow, copy_accs};
 pub use length::encoded_len;
 pub use refusal::BlobRefusal;
 pub use shape::{AccKind, Shape};

@@ -4,6 +4,7 @@ ghost use Rattle.plan_core.specs.Columns.{Rows};
 ghost use Rattle.plan_core.specs.Distinct.{distinct_rows};
 ghost use Rattle.plan_laws.specs.GrowthOfRows.{new_rows};
 
+use crate::copies::copy_rows;
 use crate::distinct::{first_rows, rows_of_set};
 use indexmap::IndexSet;
 use plan_laws::first_of_equal_rows_of_joined_lists;
@@ -56,6 +57,13 @@ impl Seen {
         let mut further = first_rows(self.alloc, rows)?;
         self.rows.append(&mut further)?;
         Ok(())
+    }
+
+    /// A second list of the rows.
+    pub fn rows(&self, alloc: Global) -> Result<Vec<Row>, Memory>
+        ensures { IfOk result (λ rows. rows.items ≡ self.now) }
+    {
+        copy_rows(alloc, self.rows.as_slice())
     }
 
     /// The rows, moved into a list.

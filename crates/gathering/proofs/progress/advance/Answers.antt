@@ -1,4 +1,4 @@
-use Rattle.std.proofs.Common.{◌≡◌, sym, subst, true, [], ◌∷◌, ◌++◌, Ok, Err, OnOk, ℕ, ◌+◌}
+use Rattle.std.proofs.Common.{◌≡◌, sym, subst, true, [], ◌∷◌, ◌++◌, Ok, Err, ℕ, ◌+◌}
 use Rattle.plan_core.specs.Columns.{Rows}
 use Rattle.plan_core.specs.MachineTime.{rows_taken_in}
 use Rattle.plan_core.specs.PlainPlan.{plan_of}

@@ -1,10 +1,9 @@
-use Rattle.std.proofs.Common.{◌<◌, ◌+◌, ◌*◌, max, rules, arith, sym, subst, IfOk}
-use Rattle.plan_core.specs.OperatorCount.{operator_count}
+use Rattle.std.proofs.Common.{rules, sym, subst, IfOk}
 use Rattle.plan_core.specs.PlainPlan.{plan_of}
 use Rattle.rewriter.specs.declared.priced.Form.TheVariants as form
 use Rattle.rewriter.specs.declared.priced.Want.TheVariants as want
 use Rattle.rewriter.specs.Search.{LeastWeighed, LeastDeltaIfAny}
-use Rattle.rewriter.proofs.Choices.{least_by_form, weighed_by_form, form_there}
+use Rattle.rewriter.proofs.Choices.{least_by_form}
 use Rattle.rewriter.proofs.LeastParts as law
 use Rattle.rewriter.proofs.search.+search.Goals as goal
 

@@ -1,5 +1,5 @@
 -- The recursion goes down the plan. At one plan a delta comes before its rewritings, and those come before the forms.
-use Rattle.std.proofs.Common.{ℕ, ◌+◌, ◌*◌, max}
+use Rattle.std.proofs.Common.{◌+◌, ◌*◌, max}
 use Rattle.plan_core.specs.OperatorCount.{operator_count}
 use Rattle.plan_core.specs.PlainPlan.{plan_of}
 use Rattle.rewriter.proofs.search.+search.Given as goal

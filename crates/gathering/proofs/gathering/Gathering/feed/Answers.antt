@@ -1,4 +1,4 @@
-use Rattle.std.proofs.Common.{sym, subst, List, [], ◌∷◌, ◌++◌, OnOk}
+use Rattle.std.proofs.Common.{sym, subst, List, [], ◌∷◌, ◌++◌}
 use Rattle.plan_core.specs.Columns.{Rows}
 use Rattle.plan_core.specs.PlainPlan.{plan_of, leaves}
 use Rattle.plan_core.specs.PlanTyping.{Kinds}

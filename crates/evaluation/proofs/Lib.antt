@@ -1,0 +1,13 @@
+pub mod PlanParts
+pub mod TreeParts
+pub mod Steps
+pub mod Loads
+pub mod Bounded
+pub mod Needs
+pub mod Above
+pub mod Nodes
+pub mod Fits
+pub mod TakenPieces
+pub mod Chains
+pub mod Arms
+pub mod Sizes

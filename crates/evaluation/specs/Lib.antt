@@ -1,0 +1,6 @@
+pub mod Loading
+pub mod Parts
+pub mod Passing
+pub mod Evaluating
+pub mod Laws
+pub mod Gathering

@@ -1,0 +1,13 @@
+//! The result of a rewriting, made of its loaded pieces: the kept results that it reads, and what was made of
+//! the extents of one stream.
+#![tactic(auto)]
+
+mod deltas;
+mod gathered;
+mod laws;
+pub mod loaded;
+mod results;
+mod rewritings;
+
+pub use loaded::{Loaded, Stop};
+pub use results::evaluate;

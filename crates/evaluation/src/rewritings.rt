@@ -1,0 +1,146 @@
+//! What rewritings make of loaded pieces.
+ghost use Rattle.std.specs.Prelude.{◌≡◌, false, List, ◌++◌, reverse, IsSome, OnOk};
+ghost use Rattle.plan_core.specs.PlainPlan.{plan_of};
+ghost use Rattle.growth_laws.specs.KeptResults.{KeptResults};
+ghost use Rattle.growth_laws.specs.Lists.{Extents};
+ghost use Rattle.growth_laws.specs.Making.{made_before};
+ghost use Rattle.growth_laws.specs.Pieces.{Piece, is_gathered, pieces_of, pieces_in};
+ghost use Rattle.growth_laws.specs.Trees.{made_by, made_in};
+ghost use Rattle.rewrite_core.specs.PlainRewriting.{Node, rewriting_of, way_of, grown_way};
+ghost use Rattle.result_ops.specs.Steps.{made_of, Makes};
+ghost use Rattle.evaluation.specs.Evaluating.{IsReady, IsReadyWith, MakesFit, MakesFitWith, Evaluates};
+ghost use Rattle.evaluation.specs.Loading.{HoldAll};
+ghost use Rattle.evaluation.specs.Parts.{IsFormed, pieces_behind};
+ghost use Rattle.evaluation.specs.Passing.{Passes};
+
+use crate::deltas::added;
+use crate::gathered::is_gathered;
+use crate::laws::results_are_made;
+use crate::loaded::{Loaded, taken};
+use plan_core::Plan;
+use result_ops::{
+    Made, MakeRefusal, computed_results_are_fit, grown_results_are_fit, made_of_both,
+    made_of_grown, made_of_left, made_of_one, made_of_right, made_of_two,
+};
+use rewrite_core::{Hit, Parts, Rewriting, Way};
+use rows_core::Cut;
+use std::alloc::Global;
+
+/// What a rewriting makes.
+#[cycle(evaluation)]
+#[tactic(none)]
+pub fn made(alloc: Global, r: &Rewriting, pieces: &mut Vec<Loaded>) -> Result<Made, MakeRefusal>
+    requires formed { IsFormed (rewriting_of r.now) }
+    requires ready { IsReady (plan_of r.now.plan) (pieces_of (rewriting_of r.now)) pieces.old.items }
+    ensures fit { MakesFit (plan_of r.now.plan) (pieces_of (rewriting_of r.now)) pieces.old.items
+        pieces.new.items result }
+    ensures made { Evaluates (λ extents results. Passes extents results (rewriting_of r.now))
+        (plan_of r.now.plan) (λ extents results. made_by extents results (rewriting_of r.now))
+        (pieces_of (rewriting_of r.now)) pieces.old.items pieces.new.items result }
+{
+    results_are_made();
+    if is_gathered(r) {
+        taken(pieces)
+    } else {
+        made_in(alloc, &r.way, &r.plan, r.cuts.items(), pieces)
+    }
+}
+
+// What it makes of its parts, or of a kept result.
+#[cycle(evaluation)]
+#[tactic(none)]
+fn made_in(
+    alloc: Global,
+    way: &Way,
+    plan: &Plan,
+    cuts: &[Cut],
+    pieces: &mut Vec<Loaded>,
+) -> Result<Made, MakeRefusal>
+    requires formed { IsFormed (Node (plan_of plan.now) cuts.now (way_of way.now)) }
+    requires parts { is_gathered (Node (plan_of plan.now) cuts.now (way_of way.now)) ≡ false }
+    requires ready { IsReady (plan_of plan.now) (pieces_in (plan_of plan.now) (way_of way.now))
+        pieces.old.items }
+    ensures fit { MakesFit (plan_of plan.now) (pieces_in (plan_of plan.now) (way_of way.now))
+        pieces.old.items pieces.new.items result }
+    ensures made { Evaluates
+        (λ extents results. Passes extents results (Node (plan_of plan.now) cuts.now (way_of way.now)))
+        (plan_of plan.now)
+        (λ extents results. made_in extents results (plan_of plan.now) cuts.now (way_of way.now))
+        (pieces_in (plan_of plan.now) (way_of way.now)) pieces.old.items pieces.new.items result }
+{
+    results_are_made();
+    match way {
+        Way::Scan => unreachable!(),
+        Way::One(input) => {
+            let input = made(alloc, input, pieces)?;
+            made_of_one(alloc, plan, input)
+        }
+        Way::Two(left, right) => {
+            let left = made(alloc, left, pieces)?;
+            let right = made(alloc, right, pieces)?;
+            made_of_two(alloc, plan, left, right)
+        }
+        Way::Read(_) => taken(pieces),
+        Way::Grown { hit, parts } => {
+            let old = taken(pieces)?;
+            grown(alloc, parts, plan, cuts, hit, old, pieces)
+        }
+    }
+}
+
+// What is made of the earlier result and of what came since.
+#[cycle(evaluation)]
+#[tactic(none)]
+fn grown(
+    alloc: Global,
+    parts: &Parts,
+    plan: &Plan,
+    _cuts: &[Cut],
+    _hit: &Hit,
+    old: Made,
+    pieces: &mut Vec<Loaded>,
+) -> Result<Made, MakeRefusal>
+    requires formed { IsFormed (Node (plan_of plan.now) _cuts.now (grown_way _hit.now parts.now)) }
+    requires ready { IsReadyWith (plan_of plan.now) old (pieces_behind (grown_way _hit.now parts.now))
+        pieces.old.items }
+    ensures fit { MakesFitWith (plan_of plan.now) old (pieces_behind (grown_way _hit.now parts.now))
+        pieces.old.items pieces.new.items result }
+    ensures made { (extents : Extents) (results : KeptResults) (rest : List Piece)
+        → made_before (results _hit.now.id) ≡ made_of old
+        → HoldAll extents results (pieces_behind (grown_way _hit.now parts.now) ++ rest)
+        (reverse pieces.old.items)
+        → Makes (Passes extents results
+        (Node (plan_of plan.now) _cuts.now (grown_way _hit.now parts.now))) (plan_of plan.now)
+        (made_in extents results (plan_of plan.now) _cuts.now (grown_way _hit.now parts.now)) result
+        × OnOk result (HoldAll extents results rest (reverse pieces.new.items)) }
+{
+    results_are_made();
+    match parts {
+        Parts::Tail(delta) => {
+            let added = added(alloc, delta, pieces)?;
+            made_of_grown(alloc, plan, old, added)
+        }
+        Parts::LeftGrew { left, right } => {
+            let added = added(alloc, left, pieces)?;
+            let right = made(alloc, right, pieces)?;
+            made_of_left(alloc, plan, old, added, right)
+        }
+        Parts::RightGrew { left, right } => {
+            let left = made(alloc, left, pieces)?;
+            let added = added(alloc, right, pieces)?;
+            made_of_right(alloc, plan, old, left, added)
+        }
+        Parts::BothGrew {
+            old_left,
+            right_delta,
+            left_delta,
+            right,
+        } => {
+            let old_left = made(alloc, old_left, pieces)?;
+            let right_added = added(alloc, right_delta, pieces)?;
+            let left_added = added(alloc, left_delta, pieces)?;
+            let right = made(alloc, right, pieces)?;
+            made_of_both(alloc, plan, old, old_left, right_added, left_added, right)
+        }
+    }
+}

@@ -1,0 +1,4 @@
+pub mod FileBounds
+pub mod FileForms
+pub mod StreamTypes
+pub mod Updates

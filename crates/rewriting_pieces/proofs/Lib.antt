@@ -1,0 +1,2 @@
+pub mod PieceTrees
+pub mod Typings
