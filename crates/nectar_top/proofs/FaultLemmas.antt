@@ -3,7 +3,6 @@ use Rattle.std.proofs.Common.{◌≡◌, ◌∙◌, ◌+◌, ◌≤◌, ℕ, Lis
 use Rattle.std.specs.List.{AllByRecursion}
 use Rattle.std.proofs.lemmas.List.Sums.{sum_by_push}
 use Rattle.outside_traits.specs.Counts.{Rose}
-use Rattle.outside_traits.specs.View.{Counts}
 use Rattle.outside_traits.specs.declared.failed.Failed.{Failed}
 use Rattle.script_text.specs.Script.{items, all_items, Given, IsForBytes, IsRefusedForBytes}
 use Rattle.script_text.specs.declared.answer.Answer.{Answer}
