@@ -1,2 +1,4 @@
+mod GatheredTrees
+mod Joined
 pub mod PieceTrees
 pub mod Typings
