@@ -1,2 +1,5 @@
+mod GatheredTrees
+mod Joined
+mod PieceFiles
 pub mod PieceTrees
 pub mod Typings

@@ -1,5 +1,5 @@
 -- The pieces of a typed rewriting: their plans are typed, and those that are gathered are of one stream.
-use Rattle.std.proofs.Common.{◌≡◌, refl, sym, ap, ◌∙◌, subst, ℕ, Bool, true, false, cond, List, [], ◌∷◌, ◌++◌}
+use Rattle.std.proofs.Common.{◌≡◌, refl, sym, subst, Bool, true, false, cond, List, [], ◌∷◌, ◌++◌}
 use Rattle.std.specs.List.{AllByRecursion}
 use Rattle.std.proofs.lemmas.Bool.{false≢true}
 use Rattle.plan_core.specs.PlainPlan.{PlainPlan}
@@ -9,7 +9,7 @@ use Rattle.estimator.specs.Cuts.{Cuts, added_cuts}
 use Rattle.rewrite_core.specs.IsRewriting.{IsRewriting, IsWay, IsDelta, IsDeltaWay, OfOne, OfTwo, OfSides, OfTail, OfDeltaTail, OfDistinctChild, IsScan, lefts, rights, whichever}
 use Rattle.rewrite_core.specs.PlainRewriting.{PlainRewriting, Node, PlainWay, Scan, One, Two, Read, Tail, LeftGrew, RightGrew, BothGrew, PlainDelta, Change, PlainDeltaWay, Unchanged, NewRows, OfChild, OfDistinct, OfJoin}
 use Rattle.growth_laws.specs.Chains.{IsChain}
-use Rattle.growth_laws.specs.Pieces.{Piece, Entry, Gathered, is_chain_of, is_gathered, is_chain_delta, pieces_of, pieces_in, pieces_of_delta, pieces_in_delta}
+use Rattle.growth_laws.specs.Pieces.{Piece, Gathered, is_chain_of, is_gathered, is_chain_delta, pieces_of, pieces_in, pieces_of_delta, pieces_in_delta}
 use Rattle.growth_laws.proofs.PieceResults.{subst_both}
 use Rattle.rewriting_pieces.specs.Pieces.{HasTyping, IsOneStream, IsPiece}
 use Rattle.rewriting_pieces.proofs.Typings.{of_filter, of_project, of_distinct, of_group, of_order, of_join, of_concat}

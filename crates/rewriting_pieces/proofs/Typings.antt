@@ -1,5 +1,5 @@
 -- The inputs of a typed plan are typed.
-use Rattle.std.proofs.Common.{◌≡◌, refl, sym, ap, ◌∙◌, subst, ℕ, ◌+◌, Bool, true, false, ◌||◌, cond, List, Option, None, Some, Result, Ok, Err, IsOk, IsSome, nat_le, length, ◌++◌}
+use Rattle.std.proofs.Common.{◌≡◌, refl, sym, ◌∙◌, ℕ, ◌+◌, Bool, true, false, ◌||◌, cond, List, Option, None, Some, Result, Ok, Err, IsOk, IsSome, nat_le, length, ◌++◌}
 use Rattle.std.specs.List.{find}
 use Rattle.std.specs.Option.{option_and_then, option_or}
 use Rattle.std.proofs.lemmas.List.Folds.{find-append}
@@ -9,9 +9,9 @@ use Rattle.plan_core.specs.declared.refusal.PlanRefusal.{PlanRefusal}
 use Rattle.plan_core.specs.declared.refusal.PlanRefusal.TheVariants.{TooMany}
 use Rattle.plan_core.specs.ExpressionKind.{of_both}
 use Rattle.plan_core.specs.PlainExpr.{PlainExpr}
-use Rattle.plan_core.specs.PlainPlan.{PlainPlan, Scan, Filter, Project, Distinct, Group, Join, Concat, Order, leaves}
+use Rattle.plan_core.specs.PlainPlan.{PlainPlan, Filter, Project, Distinct, Group, Join, Concat, Order, leaves}
 use Rattle.rewriting_pieces.specs.Pieces.{HasTyping}
-use Rattle.plan_core.specs.PlanTyping.{Kinds, plan_kinds, plan_typing, has_too_many, absent_stream, present_or, typed_or, is_above_limit, column_count, filter_kinds, project_kinds, group_kinds, join_kinds, concat_kinds, order_kinds}
+use Rattle.plan_core.specs.PlanTyping.{Kinds, plan_kinds, has_too_many, absent_stream, present_or, typed_or, is_above_limit, column_count, filter_kinds, project_kinds, group_kinds, join_kinds, concat_kinds, order_kinds}
 
 abbrev answer : Bool → Kinds → Result Kinds PlanRefusal
 answer many kinds = cond many (Err TooMany) (Ok kinds)
