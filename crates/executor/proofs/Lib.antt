@@ -1,4 +1,5 @@
 pub mod FileBounds
 pub mod FileForms
+pub mod Lengths
 pub mod StreamTypes
 pub mod Updates

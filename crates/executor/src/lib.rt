@@ -3,8 +3,12 @@
 
 mod entry;
 mod extent;
+mod job;
 pub mod laws;
+mod part;
 
 pub use entry::read_entry;
 pub use extent::read_extent;
+pub use job::Job;
 pub use laws::spelled_forms_are_read;
+pub use part::{Loaded, Part};
