@@ -11,3 +11,5 @@ pub mod TakenPieces
 pub mod Chains
 pub mod Arms
 pub mod Sizes
+pub mod Records
+pub mod RecordedParts
