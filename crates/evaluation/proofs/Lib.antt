@@ -13,3 +13,4 @@ pub mod Arms
 pub mod Sizes
 pub mod Records
 pub mod RecordedParts
+pub mod StandingTrees

@@ -1,10 +1,12 @@
 -- The results that are recorded on the way: those of the computed and grown trees that count below a root, in the order in
 -- which they are made.
 use Rattle.std.specs.Prelude.{◌≡◌, Bool, true, false, ◌&&◌, List, [], ◌∷◌, ◌++◌, reverse, Result, Ok, Err, if◌then◌else◌}
+use Rattle.std.specs.List.{Contains}
 use Rattle.rewrite_core.specs.PlainRewriting.{PlainRewriting, Node, PlainWay, Scan, One, Two, Read, Tail, LeftGrew, RightGrew, BothGrew, PlainDelta, Change, PlainDeltaWay, Unchanged, NewRows, OfChild, OfDistinct, OfJoin}
 use Rattle.growth_laws.specs.KeptResults.{KeptResults}
 use Rattle.growth_laws.specs.Lists.{Extents}
-use Rattle.growth_laws.specs.MadePlaces.{counts_below}
+use Rattle.growth_laws.specs.MadePlaces.{Place, counts_below}
+use Rattle.growth_laws.specs.Parts.{plan_at, cuts_at}
 use Rattle.growth_laws.specs.Pieces.{Piece, is_gathered, is_chain_delta}
 use Rattle.growth_laws.specs.Trees.{made_by}
 use Rattle.result_ops.specs.declared.made.Made.{Made}
@@ -83,3 +85,13 @@ Records pieces trees before after old new =
 abbrev pub RecordsOwn : PlainRewriting → Made → List Made → List Made → Result Made MakeRefusal → Type 0
 RecordsOwn r made before after (Ok same) = (same ≡ made) × (after ≡ before ++ if_recorded (is_recorded r) made)
 RecordsOwn r made before after (Err e) = e ≡ refusal.Memory
+
+-- ---- the places
+
+-- one of the trees is of the place's plan, at its part of the cut
+abbrev pub IsAmong : List PlainRewriting → Place → Type 0
+IsAmong trees at = (tree : PlainRewriting) × Contains trees tree × (plan_at tree ≡ at.plan) × (cuts_at tree ≡ at.cuts)
+
+-- it is, if the place counts below a root
+abbrev pub IsFoundBelow : List PlainRewriting → Place → Type 0
+IsFoundBelow trees at = counts_below at.plan ≡ true → IsAmong trees at
