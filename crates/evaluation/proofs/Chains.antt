@@ -1,5 +1,5 @@
 -- Which trees are gathered, by the way and then by the plan.
-use Rattle.std.proofs.Common.{◌≡◌, refl, ◌∙◌, true, false, ◌&&◌}
+use Rattle.std.proofs.Common.{◌≡◌, refl, true, false, ◌&&◌}
 use Rattle.plan_core.specs.PlainPlan.{PlainPlan}
 use Rattle.plan_core.specs.PlainPlan as plan
 use Rattle.estimator.specs.Cuts.{Cuts}

@@ -1,18 +1,17 @@
 -- Of the results that are recorded: those of one part after another.
-use Rattle.std.proofs.Common.{◌≡◌, refl, sym, ap, subst, ◌∙◌, Bool, true, false, cond, ◌&&◌, List, [], ◌∷◌, ◌++◌, append_assoc, reverse, OnOk, IfOk, Result, Ok, Err}
+use Rattle.std.proofs.Common.{◌≡◌, refl, sym, ap, subst, ◌∙◌, Bool, true, false, cond, List, [], ◌∷◌, ◌++◌, append_assoc, reverse, OnOk, Result, Ok, Err}
 use Rattle.std.proofs.lemmas.List.{append-nil}
 use Rattle.plan_core.specs.PlainPlan.{PlainPlan}
 use Rattle.estimator.specs.Cuts.{Cuts, added_cuts}
 use Rattle.rewrite_core.specs.declared.rewriting.Hit.{Hit}
 use Rattle.rewrite_core.specs.declared.rewriting.Parts as parts
-use Rattle.rewrite_core.specs.PlainRewriting.{PlainRewriting, Node, PlainWay, Read, PlainDelta, Change, PlainDeltaWay, Unchanged, grown_way}
+use Rattle.rewrite_core.specs.PlainRewriting.{PlainRewriting, Node, PlainWay, Change, PlainDeltaWay, grown_way}
 use Rattle.growth_laws.specs.KeptResults.{KeptResults}
 use Rattle.growth_laws.specs.Lists.{Extents}
 use Rattle.growth_laws.specs.Pieces.{Piece, Entry, Gathered, is_gathered, is_chain_delta, pieces_of, pieces_in, pieces_of_delta, pieces_in_delta}
 use Rattle.growth_laws.specs.Trees.{made_by}
 use Rattle.result_ops.specs.declared.made.Made.{Made}
 use Rattle.result_ops.specs.declared.refusal.MakeRefusal.{MakeRefusal}
-use Rattle.result_ops.specs.declared.refusal.MakeRefusal.TheVariants as refusal
 use Rattle.result_ops.specs.Steps.{made_of}
 use Rattle.evaluation.specs.Evaluating.{MakesFit}
 use Rattle.evaluation.specs.Loading.{Loads, HoldAll}

@@ -227,7 +227,7 @@ module _ (names : Naming) (In : PlainRewriting → Type 0) where
     way_counted (Two l r) p c root own is all =
         let parts = of_both (recorded_of l) (recorded_of r) all in
         let found = of_two (AllCounted (standing_of l) × AllCounted (standing_of r)) (λ left right. IsRewriting names left (lefts left c) l × IsRewriting names right (rights left c) r)
-            (λ left right of. (tree_counted l left (lefts left c) of.0 parts.0, tree_counted r right (rights left c) of.1 parts.1)) p is in
+        (λ left right of. (tree_counted l left (lefts left c) of.0 parts.0, tree_counted r right (rights left c) of.1 parts.1)) p is in
         behind (standing_of l) (with_root (root ∷ []) (standing_of r)) found.0 (rooted (root ∷ []) (standing_of r) (own refl, tt) found.1)
     way_counted (Read hit) p c root own is all = none p
     way_counted (Tail hit d) p c root own is all =
@@ -237,22 +237,22 @@ module _ (names : Naming) (In : PlainRewriting → Type 0) where
     way_counted (LeftGrew hit d r) p c root own is all =
         let parts = of_both (recorded_of_delta d) (recorded_of r) all in
         let found = of_sides (AllCounted (standing_of_delta d) × AllCounted (standing_of r)) _
-            (λ left right of. (delta_counted d left (lefts left hit.cuts) (lefts left c) of.1 parts.0, tree_counted r right (rights left c) of.2 parts.1)) p is.1 in
+        (λ left right of. (delta_counted d left (lefts left hit.cuts) (lefts left c) of.1 parts.0, tree_counted r right (rights left c) of.2 parts.1)) p is.1 in
         behind (standing_of_delta d) (with_root (root ∷ []) (standing_of r)) found.0 (rooted (root ∷ []) (standing_of r) (own refl, tt) found.1)
     way_counted (RightGrew hit l d) p c root own is all =
         let parts = of_both (recorded_of l) (recorded_of_delta d) all in
         let found = of_sides (AllCounted (standing_of l) × AllCounted (standing_of_delta d)) _
-            (λ left right of. (tree_counted l left (lefts left c) of.1 parts.0, delta_counted d right (rights left hit.cuts) (rights left c) of.2 parts.1)) p is.1 in
+        (λ left right of. (tree_counted l left (lefts left c) of.1 parts.0, delta_counted d right (rights left hit.cuts) (rights left c) of.2 parts.1)) p is.1 in
         behind (standing_of l) (with_root (root ∷ []) (standing_of_delta d)) found.0 (rooted (root ∷ []) (standing_of_delta d) (own refl, tt) found.1)
     way_counted (BothGrew hit l rd ld r) p c root own is all =
         let last = of_both (recorded_of l ++ recorded_of_delta rd ++ recorded_of_delta ld) (recorded_of r) all in
         let more = of_both (recorded_of l ++ recorded_of_delta rd) (recorded_of_delta ld) last.0 in
         let first = of_both (recorded_of l) (recorded_of_delta rd) more.0 in
         let found = of_sides ((AllCounted (standing_of l) × AllCounted (standing_of_delta rd)) × (AllCounted (standing_of_delta ld) × AllCounted (standing_of r))) _
-            (λ left right of. (
-              (tree_counted l left (lefts left hit.cuts) of.2 first.0, delta_counted rd right (rights left hit.cuts) (rights left c) of.3 first.1),
-              (delta_counted ld left (lefts left hit.cuts) (lefts left c) of.4 more.1, tree_counted r right (rights left c) of.5 last.1),
-            )) p is.1 in
+        (λ left right of. (
+          (tree_counted l left (lefts left hit.cuts) of.2 first.0, delta_counted rd right (rights left hit.cuts) (rights left c) of.3 first.1),
+          (delta_counted ld left (lefts left hit.cuts) (lefts left c) of.4 more.1, tree_counted r right (rights left c) of.5 last.1),
+        )) p is.1 in
         behind (both_standing (standing_of l) (standing_of_delta ld)) (with_root (root ∷ []) (both_standing (standing_of_delta rd) (standing_of r)))
         (both (standing_of l) (standing_of_delta ld) found.0.0 found.1.0)
         (rooted (root ∷ []) (both_standing (standing_of_delta rd) (standing_of r)) (own refl, tt) (both (standing_of_delta rd) (standing_of r) found.0.1 found.1.1))
@@ -275,7 +275,7 @@ module _ (names : Naming) (In : PlainRewriting → Type 0) where
     delta_way_counted (OfJoin d r) p old new is all =
         let parts = of_both (recorded_of_delta d) (recorded_of r) all in
         let found = of_sides (AllCounted (standing_of_delta d) × AllCounted (standing_of r)) _
-            (λ left right of. (delta_counted d left (lefts left old) (lefts left new) of.1 parts.0, tree_counted r right (rights left new) of.2 parts.1)) p is.1 in
+        (λ left right of. (delta_counted d left (lefts left old) (lefts left new) of.1 parts.0, tree_counted r right (rights left new) of.2 parts.1)) p is.1 in
         behind (standing_of_delta d) (with_root [] (standing_of r)) found.0 (rooted [] (standing_of r) tt found.1)
 
 -- ---- the made places

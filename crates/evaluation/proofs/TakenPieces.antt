@@ -1,8 +1,6 @@
 -- What is made of a piece that was taken.
-use Rattle.std.proofs.Common.{◌≡◌, refl, sym, ap, subst, ◌∙◌, ◌<◌, true, false, List, [], ◌∷◌, ◌++◌, reverse, All, IsSome, IfOk, OnOk, Result, Ok, Err}
+use Rattle.std.proofs.Common.{◌≡◌, sym, ap, subst, ◌∙◌, ◌<◌, true, List, [], ◌∷◌, ◌++◌, reverse, IsSome, IfOk, OnOk, Result, Ok, Err}
 use Rattle.std.proofs.lemmas.List.Elements.{All-nil}
-use Rattle.rows_core.specs.declared.overflow.Overflow.{Overflow}
-use Rattle.scalar_ops.specs.Meaning.{overflow}
 use Rattle.row_blob.specs.declared.kept.Kept.{Kept}
 use Rattle.row_blob.specs.declared.kept.Kept.TheVariants as kept
 use Rattle.plan_core.specs.PlainPlan.{PlainPlan}
@@ -12,8 +10,7 @@ use Rattle.estimator.specs.Cuts.{Cuts, added_cuts}
 use Rattle.rewrite_core.specs.declared.rewriting.Hit.{Hit}
 use Rattle.rewrite_core.specs.declared.rewriting.Parts as parts
 use Rattle.rewrite_core.specs.IsRewriting.{IsRewriting}
-use Rattle.rewrite_core.specs.PlainRewriting.{PlainRewriting, Node, PlainWay, Read, PlainDelta, Change, PlainDeltaWay, grown_way}
-use Rattle.growth_laws.specs.Growth as laws
+use Rattle.rewrite_core.specs.PlainRewriting.{Node, PlainWay, Read, Change, PlainDeltaWay, grown_way}
 use Rattle.growth_laws.specs.KeptResults.{KeptResults, kept_among}
 use Rattle.growth_laws.specs.Lists.{Extents}
 use Rattle.growth_laws.specs.Making.{kept_rows, made_before}
@@ -30,11 +27,11 @@ use Rattle.evaluation.specs.Evaluating.{IsReady, IsReadyWith, MakesFit, MakesFit
 use Rattle.evaluation.specs.Laws.{GivesValid, MakesResults, AddsResults}
 use Rattle.evaluation.specs.Loading.{Loads, HoldAll, AreFit, Took, IsAbove, piece_plan}
 use Rattle.evaluation.specs.Parts.{IsFormed, IsFormedDelta, pieces_behind}
-use Rattle.evaluation.specs.Passing.{Passes, DeltaPasses}
+use Rattle.evaluation.specs.Passing.{Passes}
 use Rattle.evaluation.proofs.Above as law
 use Rattle.evaluation.proofs.Loads.{gathered_pieces, gathered_delta_pieces, grown_pieces}
 use Rattle.evaluation.proofs.Nodes.{Tree, Computed, Grown, DeltaTree}
-use Rattle.evaluation.proofs.Steps.{took_makes, took_stops, took_stops_added, on_ok, from_ok}
+use Rattle.evaluation.proofs.Steps.{took_makes, took_stops, took_stops_added, from_ok}
 
 -- what taking a piece needs and says
 abbrev pub HasPiece : Loads → Type 0

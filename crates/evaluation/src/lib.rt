@@ -10,6 +10,6 @@ mod recorded;
 mod results;
 mod rewritings;
 
-pub use loaded::{Loaded, Stop};
 pub use laws::{made_places_are_recorded, recorded_results_are_results};
+pub use loaded::{Loaded, Stop};
 pub use results::{evaluate, evaluate_recording};

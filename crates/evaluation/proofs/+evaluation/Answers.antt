@@ -1,12 +1,12 @@
 -- What each part of a node answers goes into the node's answer.
-use Rattle.std.proofs.Common.{arith, ◌≡◌, sym, ap, subst, ◌∙◌, true, false, [], ◌∷◌, ◌++◌, reverse, OnOk, Ok, Err}
+use Rattle.std.proofs.Common.{arith, ◌≡◌, sym, ap, subst, ◌∙◌, false, [], ◌∷◌, ◌++◌, reverse, OnOk, Ok, Err}
 use Rattle.std.proofs.lemmas.Bool.{false≢true}
 use Rattle.std.proofs.lemmas.Result.{err_from_is_err_and}
 use Rattle.plan_core.specs.PlainPlan.{plan_of}
 use Rattle.rewrite_core.specs.declared.rewriting.Delta.{Delta}
 use Rattle.rewrite_core.specs.declared.rewriting.Rewriting.{Rewriting}
 use Rattle.rewrite_core.specs.PlainRewriting.{Node, One, Two, Read, Tail, LeftGrew, RightGrew, BothGrew, Change, Unchanged, OfChild, OfDistinct, OfJoin, rewriting_of, way_of, grown_way, delta_of, delta_way_of}
-use Rattle.growth_laws.specs.Pieces.{Entry, Gathered, is_gathered, is_chain_delta, pieces_of, pieces_in, pieces_of_delta, pieces_in_delta}
+use Rattle.growth_laws.specs.Pieces.{Entry, is_gathered, is_chain_delta, pieces_of, pieces_in, pieces_of_delta, pieces_in_delta}
 use Rattle.evaluation.specs.Evaluating.{IsReady, IsReadyWith, MakesFit, MakesFitWith, AddsFit}
 use Rattle.evaluation.specs.Loading.{HoldAll}
 use Rattle.evaluation.specs.Parts.{IsFormed, IsFormedDelta, pieces_behind}
@@ -1662,7 +1662,7 @@ deltas::added_in-returns-in_ok-input-in-Tail-clause-places t c =
     let before = c.args.pieces.now.items in
     let d = delta_of c.deref.result.now in
     let w : delta_way_of c.args.way.now ≡ OfChild d = ap delta_way_of c.in-Tail.is ∙ ap (λ (v : Delta). OfChild (delta_of v)) (sym c.deref.ensures) in
-    subst (λ way. OnOk c.added_of_child.result (Records (pieces_in_delta way) (recorded_in_delta way) before c.added.new.pieces.items c.args.found.now.items c.added.new.found.items)) (sym w) (on_ok _ c.added_of_child.result (c.in_ok-input-in-Tail.ensures.places))
+    subst (λ way. OnOk c.added_of_child.result (Records (pieces_in_delta way) (recorded_in_delta way) before c.added.new.pieces.items c.args.found.now.items c.added.new.found.items)) (sym w) (on_ok (Records (pieces_of_delta d) (recorded_of_delta d) before c.added.new.pieces.items c.args.found.now.items c.added.new.found.items) c.added_of_child.result c.in_ok-input-in-Tail.ensures.places)
 
 -- src/deltas.rt:47:1
 pub deltas::added_in-returns-in_ok-input-in-Distinct-clause-places :

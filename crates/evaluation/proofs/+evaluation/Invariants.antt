@@ -1,5 +1,5 @@
 -- The recursion goes down the tree. At one way the parts of a grown result come after the way.
-use Rattle.std.proofs.Common.{ℕ, ◌+◌, ◌*◌}
+use Rattle.std.proofs.Common.{◌+◌, ◌*◌}
 use Rattle.rewrite_core.specs.PlainRewriting.{rewriting_of, way_of, grown_way, delta_of, delta_way_of}
 use Rattle.evaluation.proofs.Sizes.{size_of, way_size, delta_size, delta_way_size}
 use Rattle.evaluation.proofs.+evaluation.Given as goal

@@ -1,5 +1,5 @@
 -- The stack is the loaded pieces, the first one last.
-use Rattle.std.proofs.Common.{◌≡◌, sym, ap, subst, ◌∙◌, [], ◌++◌, reverse}
+use Rattle.std.proofs.Common.{◌≡◌, sym, ap, subst, ◌∙◌, [], reverse}
 use Rattle.std.proofs.lemmas.List.{append-nil, reverse-reverse}
 use Rattle.growth_laws.specs.Pieces.{pieces_of}
 use Rattle.rewrite_core.specs.PlainRewriting.{rewriting_of}
