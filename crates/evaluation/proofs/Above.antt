@@ -5,25 +5,24 @@ use Rattle.std.proofs.lemmas.Bool.{false≢true}
 use Rattle.rows_core.specs.declared.overflow.Overflow.{Overflow}
 use Rattle.row_blob.specs.declared.kept.Kept.{Kept}
 use Rattle.plan_core.specs.Columns.{Rows}
-use Rattle.plan_core.specs.MachineTime.{rows_taken_in, machine_time}
+use Rattle.plan_core.specs.MachineTime.{rows_taken_in}
 use Rattle.plan_core.specs.PlainPlan.{PlainPlan, leaves, leaf_count}
 use Rattle.plan_core.specs.PlainPlan as plan
 use Rattle.plan_core.specs.PlanMeaning.{plan_meaning}
-use Rattle.plan_laws.specs.GrowthOfRows.{Grows}
 use Rattle.plan_laws.specs.KeptForm.{kept_form, rows_of_kept}
 use Rattle.plan_laws.proofs.GrowingTwo.{stays}
 use Rattle.plan_laws.proofs.Answers.{both_ok}
 use Rattle.plan_laws.proofs.KeptRows.{kept_rows as rows_are}
 use Rattle.estimator.specs.Cuts.{Cuts, AreIntervals}
 use Rattle.rewrite_core.specs.declared.rewriting.Hit.{Hit}
-use Rattle.rewrite_core.specs.IsRewriting.{Naming, IsRewriting, IsDelta, IsDeltaWay, OfOne, OfTwo, OfSides, OfDistinctChild, lefts, rights}
-use Rattle.rewrite_core.specs.PlainRewriting.{PlainRewriting, Node, PlainWay, One, Two, Read, Tail, LeftGrew, RightGrew, BothGrew, PlainDelta, Change, PlainDeltaWay, NewRows, OfChild, OfDistinct, OfJoin}
+use Rattle.rewrite_core.specs.IsRewriting.{Naming, IsRewriting, IsDelta, IsDeltaWay, OfTwo, OfSides, lefts, rights}
+use Rattle.rewrite_core.specs.PlainRewriting.{PlainRewriting, Node, PlainWay, One, Two, Tail, LeftGrew, RightGrew, BothGrew, PlainDelta, Change, PlainDeltaWay, NewRows, OfChild, OfDistinct, OfJoin}
 use Rattle.growth_laws.specs.Growth.{Added, Made, Extends, IsMade}
 use Rattle.growth_laws.specs.KeptResults.{KeptResults, IsResultOf, kept_among}
 use Rattle.growth_laws.specs.Lists.{Extents, plan_lists}
 use Rattle.growth_laws.specs.Making.{kept_rows, made_before, nothing_added, taken_in_of}
 use Rattle.growth_laws.specs.Pieces.{is_chain_delta, as_added}
-use Rattle.growth_laws.specs.Trees.{made_by, made_in, added_by, added_in}
+use Rattle.growth_laws.specs.Trees.{made_by, made_in, added_by}
 use Rattle.growth_laws.proofs.PieceResults.{subst_both}
 use Rattle.growth_laws.proofs.TreeOwners.{from_one, from_two}
 use Rattle.growth_laws.proofs.TreeParts.{first_intervals, other_intervals}

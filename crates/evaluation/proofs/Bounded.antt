@@ -1,22 +1,22 @@
 -- A result with a machine time within the limit lies within the bounds.
-use Rattle.std.proofs.Common.{◌≡◌, sym, ap, subst, ℕ, zero, suc, ◌+◌, ◌-◌, ◌≤◌, ◌<◌, ◌^◌, List, [], ◌∷◌, ◌++◌, length, map, take, drop, slice_get, slice_range, unwrap_or, IsSome, Some, IfOk, Result, Ok, arith}
+use Rattle.std.proofs.Common.{◌≡◌, ap, subst, ℕ, zero, suc, ◌-◌, ◌≤◌, ◌<◌, ◌^◌, List, [], ◌∷◌, length, take, drop, slice_range, IfOk, Ok, arith}
 use Rattle.std.specs.List.{AllByRecursion, flat_map}
 use Rattle.row_blob.specs.declared.kept.Kept.{Kept}
 use Rattle.row_blob.specs.declared.kept.Kept.TheVariants as kept
 use Rattle.plan_core.specs.Columns.{Rows}
 use Rattle.plan_core.specs.ExpressionValue.{◌>>=◌}
 use Rattle.plan_core.specs.Literals.{HasValidLiterals}
-use Rattle.plan_core.specs.MachineTime.{row_count, rows_given, rows_taken_in, machine_time}
+use Rattle.plan_core.specs.MachineTime.{row_count, rows_given, machine_time}
 use Rattle.plan_core.specs.PlainPlan.{PlainPlan, Scan, Filter, Project, Distinct, Group, Join, Concat, Order, leaf_count}
 use Rattle.plan_core.specs.PlanMeaning.{plan_meaning}
-use Rattle.plan_core.specs.PlanTyping.{Kinds, plan_kinds, group_kinds}
+use Rattle.plan_core.specs.PlanTyping.{plan_kinds, group_kinds}
 use Rattle.plan_laws.specs.GrowthOfGroups.{groups_of}
 use Rattle.plan_laws.specs.KeptForm.{kept_form, tagged_from}
 use Rattle.plan_laws.specs.ValidRows.{IsValidRow, AreValidRows, AreValidLists}
 use Rattle.plan_laws.proofs.GroupBounds.{groups_of_valid_rows, averages_of_valid_rows}
 use Rattle.plan_laws.proofs.ValidPlans.{all-append, all-take, all-drop}
 use Rattle.estimator.specs.Cuts.{Cuts}
-use Rattle.growth_laws.specs.Lists.{Extents, extents_of, interval_rows, lists_at}
+use Rattle.growth_laws.specs.Lists.{Extents, extents_of, lists_at}
 use Rattle.growth_laws.proofs.AddedRows.{gave_first}
 use Rattle.result_ops.specs.Bounds.{limit, IsBounded}
 use Rattle.result_ops.proofs.FitInputs.{there}

@@ -1,20 +1,20 @@
 -- What each part of a node needs, and that what the node makes is fit.
-use Rattle.std.proofs.Common.{◌≡◌, refl, sym, ap, subst, List, [], ◌∷◌, ◌++◌, reverse, All, IsSome, IfOk, Result, Ok, Err}
+use Rattle.std.proofs.Common.{◌≡◌, List, ◌++◌, reverse, IsSome, IfOk, Result, Ok, Err}
 use Rattle.rows_core.specs.declared.overflow.Overflow.{Overflow}
 use Rattle.plan_core.specs.PlainPlan.{PlainPlan}
 use Rattle.plan_core.specs.PlanTyping.{Kinds, plan_kinds}
 use Rattle.estimator.specs.Cuts.{Cuts}
 use Rattle.rewrite_core.specs.declared.rewriting.Hit.{Hit}
-use Rattle.rewrite_core.specs.PlainRewriting.{PlainRewriting, Node, PlainWay, One, Two, Tail, LeftGrew, RightGrew, BothGrew, PlainDelta, Change, OfChild, OfDistinct, OfJoin}
+use Rattle.rewrite_core.specs.PlainRewriting.{PlainRewriting, Node, One, Two, Tail, LeftGrew, RightGrew, BothGrew, PlainDelta, Change, OfChild, OfDistinct, OfJoin}
 use Rattle.growth_laws.specs.Growth as laws
-use Rattle.growth_laws.specs.Making.{kept_rows, made_of_one, made_of_two, made_of_grown, made_of_left, made_of_right, made_of_both, added_of_child, added_of_distinct, added_of_join}
+use Rattle.growth_laws.specs.Making.{made_of_one, made_of_two, made_of_grown, made_of_left, made_of_right, made_of_both, added_of_child, added_of_distinct, added_of_join}
 use Rattle.growth_laws.specs.Parts.{plan_at}
-use Rattle.growth_laws.specs.Pieces.{Piece, pieces_of, pieces_in, pieces_of_delta, pieces_in_delta}
+use Rattle.growth_laws.specs.Pieces.{Piece, pieces_of, pieces_of_delta}
 use Rattle.result_ops.specs.declared.made.Made.{Made}
 use Rattle.result_ops.specs.declared.made.Added.{Added}
 use Rattle.result_ops.specs.declared.refusal.MakeRefusal.{MakeRefusal}
 use Rattle.result_ops.specs.Bounds.{IsBounded}
-use Rattle.result_ops.specs.Fitting.{IsFit, IsOfKinds, FitRows, HasFitInput, HasFitInputs, OfPassed, OfGrown, IsReadable, StandsInOrder}
+use Rattle.result_ops.specs.Fitting.{IsFit, FitRows, HasFitInput, HasFitInputs, OfPassed, OfGrown, IsReadable}
 use Rattle.result_ops.specs.Steps.{made_of, added_of, Makes, Adds}
 use Rattle.result_ops.proofs.FitLaws as fits
 use Rattle.rewrite_core.specs.IsRewriting.{OfTwo, OfSides}

@@ -11,3 +11,6 @@ pub mod TakenPieces
 pub mod Chains
 pub mod Arms
 pub mod Sizes
+pub mod Records
+pub mod RecordedParts
+pub mod StandingTrees

@@ -1,15 +1,17 @@
 -- Loaded pieces of one part after another.
-use Rattle.std.proofs.Common.{◌≡◌, refl, sym, ap, subst, ◌∙◌, ℕ, Bool, true, false, List, [], ◌∷◌, ◌++◌, reverse, append_assoc, cond}
+use Rattle.std.proofs.Common.{◌≡◌, refl, ap, subst, ◌∙◌, true, false, List, [], ◌∷◌, ◌++◌, append_assoc, cond}
 use Rattle.plan_core.specs.PlainPlan.{PlainPlan}
 use Rattle.plan_core.specs.PlainPlan as plan
 use Rattle.plan_core.specs.PlanTyping.{Kinds}
 use Rattle.estimator.specs.Cuts.{Cuts, added_cuts}
 use Rattle.rewrite_core.specs.declared.rewriting.Hit.{Hit}
-use Rattle.rewrite_core.specs.PlainRewriting.{PlainRewriting, Node, PlainWay, Scan, One, Two, Read, Tail, LeftGrew, RightGrew, BothGrew, PlainDelta, Change, PlainDeltaWay, NewRows}
+use Rattle.rewrite_core.specs.declared.rewriting.Parts as parts
+use Rattle.rewrite_core.specs.PlainRewriting.{Node, PlainWay, Scan, Change, PlainDeltaWay, grown_way}
 use Rattle.growth_laws.specs.KeptResults.{KeptResults}
 use Rattle.growth_laws.specs.Lists.{Extents}
-use Rattle.growth_laws.specs.Pieces.{Piece, Entry, Gathered, is_chain_of, is_gathered, is_chain_delta, pieces_of, pieces_in, pieces_of_delta, pieces_in_delta}
+use Rattle.growth_laws.specs.Pieces.{Piece, Entry, Gathered, is_gathered, is_chain_delta, pieces_of, pieces_in, pieces_of_delta, pieces_in_delta}
 use Rattle.evaluation.specs.Loading.{Loads, HoldAll, AreFit}
+use Rattle.evaluation.specs.Parts.{pieces_behind}
 
 -- ---- of two, three and four parts
 
@@ -58,3 +60,11 @@ module _ (p : PlainPlan) (old new : Cuts) (way : PlainDeltaWay) where
 
   pub other_delta_pieces : is_chain_delta (Change p old new way) ≡ false → pieces_of_delta (Change p old new way) ≡ pieces_in_delta way
   other_delta_pieces is = ap (λ b. cond b (Gathered p (added_cuts old new) ∷ []) (pieces_in_delta way)) is
+
+-- ---- of a grown result, behind its earlier one
+
+pub grown_pieces : (hit : Hit) (p : PlainPlan) (of : parts.Parts) → pieces_in p (grown_way hit of) ≡ Entry p hit.id ∷ pieces_behind (grown_way hit of)
+grown_pieces hit p (parts.Tail' _ _ _ _) = refl
+grown_pieces hit p (parts.LeftGrew' _ _ _ _ _ _ _) = refl
+grown_pieces hit p (parts.RightGrew' _ _ _ _ _ _ _) = refl
+grown_pieces hit p (parts.BothGrew' _ _ _ _ _ _ _ _ _ _ _ _ _ _) = refl

@@ -1,6 +1,5 @@
 -- What a plan needs so that it passes no bound, its inputs need too; and what a plan takes in, where its inputs have grown.
-use Rattle.std.proofs.Common.{◌≡◌, refl, sym, ap, ℕ, ◌+◌, ◌≤◌, List, ◌++◌, length, take, drop, IsSome, Result, Ok, arith}
-use Rattle.rows_core.specs.declared.overflow.Overflow.{Overflow}
+use Rattle.std.proofs.Common.{◌≡◌, refl, ap, ◌+◌, ◌≤◌, List, ◌++◌, length, take, drop, Ok, arith}
 use Rattle.row_blob.specs.declared.kept.Kept.{Kept}
 use Rattle.row_blob.specs.declared.kept.Kept.TheVariants as kept
 use Rattle.plan_core.specs.Columns.{Rows}
@@ -8,7 +7,7 @@ use Rattle.plan_core.specs.Distinct.{distinct_rows}
 use Rattle.plan_core.specs.ExpressionValue.{◌>>=◌}
 use Rattle.plan_core.specs.Filter.{filter_rows}
 use Rattle.plan_core.specs.Literals.{HasValidLiterals}
-use Rattle.plan_core.specs.MachineTime.{row_count, rows_given, rows_taken_in, machine_time}
+use Rattle.plan_core.specs.MachineTime.{row_count, rows_given, rows_taken_in}
 use Rattle.plan_core.specs.PlainPlan.{PlainPlan, Scan, Filter, Project, Distinct, Group, Join, Concat, Order, leaf_count}
 use Rattle.plan_core.specs.PlanMeaning.{plan_meaning}
 use Rattle.plan_core.specs.Project.{project_rows}

@@ -1,11 +1,10 @@
 -- What a node answers, of what its parts and its step have answered.
-use Rattle.std.proofs.Common.{◌≡◌, refl, sym, ap, subst, ◌∙◌, ℕ, ◌+◌, ◌≤◌, ◌⊎◌, inl, inr, List, ◌++◌, reverse, OnOk, Result, Ok, Err, arith}
+use Rattle.std.proofs.Common.{◌≡◌, sym, ap, subst, ℕ, ◌+◌, ◌≤◌, ◌⊎◌, inl, inr, List, ◌++◌, reverse, OnOk, Result, Ok, Err, arith}
 use Rattle.rows_core.specs.declared.overflow.Overflow.{Overflow}
-use Rattle.scalar_ops.specs.Meaning.{overflow}
 use Rattle.plan_core.specs.PlainPlan.{PlainPlan}
 use Rattle.estimator.specs.Cuts.{Cuts}
 use Rattle.rewrite_core.specs.declared.rewriting.Hit.{Hit}
-use Rattle.rewrite_core.specs.PlainRewriting.{PlainRewriting, Node, PlainWay, One, Two, Read, Tail, LeftGrew, RightGrew, BothGrew, PlainDelta, Change, PlainDeltaWay, OfChild, OfDistinct, OfJoin}
+use Rattle.rewrite_core.specs.PlainRewriting.{PlainRewriting, Node, PlainWay, One, Two, Tail, LeftGrew, RightGrew, BothGrew, PlainDelta, Change, PlainDeltaWay, OfChild, OfDistinct, OfJoin}
 use Rattle.growth_laws.specs.Growth as laws
 use Rattle.growth_laws.specs.KeptResults.{KeptResults}
 use Rattle.growth_laws.specs.Lists.{Extents}

@@ -1,8 +1,6 @@
 -- What is made of a piece that was taken.
-use Rattle.std.proofs.Common.{◌≡◌, refl, sym, ap, subst, ◌∙◌, ◌<◌, true, false, List, [], ◌∷◌, ◌++◌, reverse, All, IsSome, IfOk, OnOk, Result, Ok, Err}
+use Rattle.std.proofs.Common.{◌≡◌, sym, ap, subst, ◌∙◌, ◌<◌, true, List, [], ◌∷◌, ◌++◌, reverse, IsSome, IfOk, OnOk, Result, Ok, Err}
 use Rattle.std.proofs.lemmas.List.Elements.{All-nil}
-use Rattle.rows_core.specs.declared.overflow.Overflow.{Overflow}
-use Rattle.scalar_ops.specs.Meaning.{overflow}
 use Rattle.row_blob.specs.declared.kept.Kept.{Kept}
 use Rattle.row_blob.specs.declared.kept.Kept.TheVariants as kept
 use Rattle.plan_core.specs.PlainPlan.{PlainPlan}
@@ -12,8 +10,7 @@ use Rattle.estimator.specs.Cuts.{Cuts, added_cuts}
 use Rattle.rewrite_core.specs.declared.rewriting.Hit.{Hit}
 use Rattle.rewrite_core.specs.declared.rewriting.Parts as parts
 use Rattle.rewrite_core.specs.IsRewriting.{IsRewriting}
-use Rattle.rewrite_core.specs.PlainRewriting.{PlainRewriting, Node, PlainWay, Read, PlainDelta, Change, PlainDeltaWay, grown_way}
-use Rattle.growth_laws.specs.Growth as laws
+use Rattle.rewrite_core.specs.PlainRewriting.{Node, PlainWay, Read, Change, PlainDeltaWay, grown_way}
 use Rattle.growth_laws.specs.KeptResults.{KeptResults, kept_among}
 use Rattle.growth_laws.specs.Lists.{Extents}
 use Rattle.growth_laws.specs.Making.{kept_rows, made_before}
@@ -30,11 +27,11 @@ use Rattle.evaluation.specs.Evaluating.{IsReady, IsReadyWith, MakesFit, MakesFit
 use Rattle.evaluation.specs.Laws.{GivesValid, MakesResults, AddsResults}
 use Rattle.evaluation.specs.Loading.{Loads, HoldAll, AreFit, Took, IsAbove, piece_plan}
 use Rattle.evaluation.specs.Parts.{IsFormed, IsFormedDelta, pieces_behind}
-use Rattle.evaluation.specs.Passing.{Passes, DeltaPasses}
+use Rattle.evaluation.specs.Passing.{Passes}
 use Rattle.evaluation.proofs.Above as law
-use Rattle.evaluation.proofs.Loads.{gathered_pieces, gathered_delta_pieces}
+use Rattle.evaluation.proofs.Loads.{gathered_pieces, gathered_delta_pieces, grown_pieces}
 use Rattle.evaluation.proofs.Nodes.{Tree, Computed, Grown, DeltaTree}
-use Rattle.evaluation.proofs.Steps.{took_makes, took_stops, took_stops_added, on_ok, from_ok}
+use Rattle.evaluation.proofs.Steps.{took_makes, took_stops, took_stops_added, from_ok}
 
 -- what taking a piece needs and says
 abbrev pub HasPiece : Loads → Type 0
@@ -96,12 +93,6 @@ module _ (makes : MakesResults) (adds : AddsResults) (valid : GivesValid) (p : P
   -- ---- the earlier result of a grown one
 
   module _ (c : Cuts) (hit : Hit) where
-    pub grown_pieces : (p : PlainPlan) (of : parts.Parts) → pieces_in p (grown_way hit of) ≡ Entry p hit.id ∷ pieces_behind (grown_way hit of)
-    grown_pieces p (parts.Tail' _ _ _ _) = refl
-    grown_pieces p (parts.LeftGrew' _ _ _ _ _ _ _) = refl
-    grown_pieces p (parts.RightGrew' _ _ _ _ _ _ _) = refl
-    grown_pieces p (parts.BothGrew' _ _ _ _ _ _ _ _ _ _ _ _ _ _) = refl
-
     old_passes : (extents : Extents) (results : KeptResults) (of : parts.Parts) → IsAbove p (Ok (made_before (results hit.id))) → Passes extents results (Node p c (grown_way hit of))
     old_passes extents results (parts.Tail' a b d e) above = law.old_lifts makes adds valid extents results p c hit (grown_way hit (parts.Tail' a b d e)) (λ (is : IsRewriting (kept_among extents results) p c (Node p c (grown_way hit (parts.Tail' a b d e)))). is.2.0) above
     old_passes extents results (parts.LeftGrew' a b d e f g h) above = law.old_lifts makes adds valid extents results p c hit (grown_way hit (parts.LeftGrew' a b d e f g h)) (λ (is : IsRewriting (kept_among extents results) p c (Node p c (grown_way hit (parts.LeftGrew' a b d e f g h)))). is.2.0) above
@@ -113,14 +104,14 @@ module _ (makes : MakesResults) (adds : AddsResults) (valid : GivesValid) (p : P
       Way = grown_way hit of
 
       ready_split : IsReady p (pieces_in p Way) before → (schemas : List Kinds) × (rest : List Piece) × IsSome (plan_kinds schemas p) × AreFit schemas (Entry p hit.id ∷ (pieces_behind Way ++ rest)) (reverse before)
-      ready_split ready = (ready.0, ready.1, ready.2, subst (λ ps. AreFit ready.0 (ps ++ ready.1) (reverse before)) (grown_pieces p of) ready.3)
+      ready_split ready = (ready.0, ready.1, ready.2, subst (λ ps. AreFit ready.0 (ps ++ ready.1) (reverse before)) (grown_pieces hit p of) ready.3)
 
       pub old_ready : IsReady p (pieces_in p Way) before → HasPiece before
       old_ready ready = let split = ready_split ready in (split.0, Entry p hit.id, pieces_behind Way ++ split.1, split.3)
 
       pub old_stops : (e : MakeRefusal) → TakesHeld before mid (Err e) → Computed p c Way before mid (Err e)
       old_stops e held = λ extents results rest all.
-          let part = held extents results (Entry p hit.id) (pieces_behind Way ++ rest) (subst (λ ps. HoldAll extents results (ps ++ rest) (reverse before)) (grown_pieces p of) all) in
+          let part = held extents results (Entry p hit.id) (pieces_behind Way ++ rest) (subst (λ ps. HoldAll extents results (ps ++ rest) (reverse before)) (grown_pieces hit p of) all) in
           (took_stops _ p p (Ok (made_before (results hit.id))) (made_in extents results p c Way) e (old_passes extents results of) (λ f. absurd (cc)) part.0, tt)
 
       module _ (old : Made) (takes : TakesFit before mid (Ok old)) where
@@ -131,12 +122,12 @@ module _ (makes : MakesResults) (adds : AddsResults) (valid : GivesValid) (p : P
 
         pub then_fits : (after : Loads) (result : Result Made MakeRefusal) → MakesFitWith p old (pieces_behind Way) mid after result → MakesFit p (pieces_in p Way) before after result
         then_fits after result rest_fit = λ schemas rest typed are.
-            let fit = takes schemas (Entry p hit.id) (pieces_behind Way ++ rest) (subst (λ ps. AreFit schemas (ps ++ rest) (reverse before)) (grown_pieces p of) are) in
+            let fit = takes schemas (Entry p hit.id) (pieces_behind Way ++ rest) (subst (λ ps. AreFit schemas (ps ++ rest) (reverse before)) (grown_pieces hit p of) are) in
             rest_fit schemas rest typed fit.0 fit.1 fit.2
 
         pub then_makes : (after : Loads) (result : Result Made MakeRefusal) → TakesHeld before mid (Ok old) → Grown p c hit Way old mid after result → Computed p c Way before after result
         then_makes after result held grown = λ extents results rest all.
-            let part = held extents results (Entry p hit.id) (pieces_behind Way ++ rest) (subst (λ ps. HoldAll extents results (ps ++ rest) (reverse before)) (grown_pieces p of) all) in
+            let part = held extents results (Entry p hit.id) (pieces_behind Way ++ rest) (subst (λ ps. HoldAll extents results (ps ++ rest) (reverse before)) (grown_pieces hit p of) all) in
             grown extents results rest (from_ok (made_before (results hit.id)) (made_of old) part.0.0) part.1
 
   -- ---- a gathered delta

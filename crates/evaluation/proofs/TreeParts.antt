@@ -1,17 +1,17 @@
 -- The inputs of a node are formed and have a typing, and what is fit for them is fit for the plan's inputs.
-use Rattle.std.proofs.Common.{◌≡◌, refl, sym, ap, subst, List, IsSome, true, false, Bool}
+use Rattle.std.proofs.Common.{◌≡◌, refl, sym, subst, List}
 use Rattle.row_blob.specs.declared.kept.Kept.{Kept}
 use Rattle.plan_core.specs.Columns.{Rows}
 use Rattle.plan_core.specs.PlainPlan.{PlainPlan}
-use Rattle.plan_core.specs.PlanTyping.{Kinds, plan_kinds}
+use Rattle.plan_core.specs.PlanTyping.{Kinds}
 use Rattle.estimator.specs.Cuts.{Cuts}
 use Rattle.rewrite_core.specs.declared.rewriting.Hit.{Hit}
 use Rattle.rewrite_core.specs.IsRewriting.{IsRewriting, IsWay, IsDelta, IsDeltaWay, OfOne, OfTwo, OfSides, OfDistinctChild, whichever}
 use Rattle.rewrite_core.specs.PlainRewriting.{PlainRewriting, Node, One, Two, Tail, LeftGrew, RightGrew, BothGrew, PlainDelta, Change, OfChild, OfDistinct, OfJoin}
-use Rattle.growth_laws.specs.Parts.{plan_at, cuts_at}
+use Rattle.growth_laws.specs.Parts.{plan_at}
 use Rattle.growth_laws.proofs.PieceResults.{subst_both}
-use Rattle.result_ops.specs.Fitting.{IsFit, FitRows, OfPassed, OfGrown, IsReadable, HasFitInput, HasFitInputs}
-use Rattle.evaluation.specs.Parts.{IsFormed, IsFormedDelta, delta_plan, old_cuts, new_cuts}
+use Rattle.result_ops.specs.Fitting.{IsFit, FitRows, OfPassed, OfGrown}
+use Rattle.evaluation.specs.Parts.{IsFormed, IsFormedDelta, delta_plan}
 use Rattle.evaluation.proofs.PlanParts.{IsTypedOver, in_one, in_two, in_sides, in_distinct, in_grown, in_passed, tail_as, passed_as, from_typed_one, from_typed_two, from_typed_sides, from_typed_distinct, from_typed_tail}
 
 pub formed : (r : PlainRewriting) (plan : PlainPlan) (cuts : Cuts) → IsRewriting whichever plan cuts r → IsFormed r

@@ -1,5 +1,5 @@
 -- What evaluating a part of a rewriting needs, and what it answers. The loaded pieces stand in a stack, the next one last.
-use Rattle.std.specs.Prelude.{◌≡◌, List, ◌++◌, reverse, IsSome, IfOk, OnOk, Result}
+use Rattle.std.specs.Prelude.{List, ◌++◌, reverse, IsSome, IfOk, OnOk, Result}
 use Rattle.plan_core.specs.PlainPlan.{PlainPlan}
 use Rattle.plan_core.specs.PlanTyping.{Kinds, plan_kinds}
 use Rattle.rows_core.specs.declared.overflow.Overflow.{Overflow}

@@ -4,3 +4,4 @@ pub mod Passing
 pub mod Evaluating
 pub mod Laws
 pub mod Gathering
+pub mod Recording

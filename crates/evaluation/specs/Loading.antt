@@ -1,5 +1,5 @@
 -- What loaded pieces hold, and what a reader has made sure of.
-use Rattle.std.specs.Prelude.{◌≡◌, ◌<◌, ◌≤◌, ◌⊎◌, List, [], ◌∷◌, reverse, Result, Ok, Err}
+use Rattle.std.specs.Prelude.{◌≡◌, ◌<◌, ◌≤◌, ◌⊎◌, List, [], ◌∷◌, Result, Ok, Err}
 use Rattle.rows_core.specs.declared.overflow.Overflow.{Overflow}
 use Rattle.scalar_ops.specs.Meaning.{overflow}
 use Rattle.plan_core.specs.PlainPlan.{PlainPlan}

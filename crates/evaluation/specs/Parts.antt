@@ -3,7 +3,7 @@ use Rattle.std.specs.Prelude.{List, [], ◌++◌}
 use Rattle.plan_core.specs.PlainPlan.{PlainPlan}
 use Rattle.estimator.specs.Cuts.{Cuts}
 use Rattle.rewrite_core.specs.IsRewriting.{IsRewriting, IsDelta, whichever}
-use Rattle.rewrite_core.specs.PlainRewriting.{PlainRewriting, PlainWay, Scan, One, Two, Read, Tail, LeftGrew, RightGrew, BothGrew, PlainDelta, Change}
+use Rattle.rewrite_core.specs.PlainRewriting.{PlainRewriting, PlainWay, Tail, LeftGrew, RightGrew, BothGrew, PlainDelta, Change}
 use Rattle.growth_laws.specs.Parts.{plan_at, cuts_at}
 use Rattle.growth_laws.specs.Pieces.{Piece, pieces_of, pieces_of_delta}
 

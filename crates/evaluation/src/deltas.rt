@@ -1,5 +1,5 @@
 //! What deltas add of loaded pieces.
-ghost use Rattle.std.specs.Prelude.{◌≡◌, false};
+ghost use Rattle.std.specs.Prelude.{◌≡◌, false, OnOk};
 ghost use Rattle.plan_core.specs.PlainPlan.{plan_of};
 ghost use Rattle.growth_laws.specs.Pieces.{is_chain_delta, pieces_of_delta, pieces_in_delta};
 ghost use Rattle.growth_laws.specs.Making.{kept_rows, nothing_added};
@@ -9,6 +9,7 @@ ghost use Rattle.rewrite_core.specs.PlainRewriting.{Change, delta_of, delta_way_
 ghost use Rattle.evaluation.specs.Evaluating.{IsReady, AddsFit, EvaluatesDelta};
 ghost use Rattle.evaluation.specs.Parts.{IsFormedDelta};
 ghost use Rattle.evaluation.specs.Passing.{DeltaPasses};
+ghost use Rattle.evaluation.specs.Recording.{Records, recorded_of_delta, recorded_in_delta};
 
 use crate::gathered::is_gathered_delta;
 use crate::laws::results_are_made;
@@ -24,7 +25,12 @@ use std::alloc::Global;
 /// What a delta adds.
 #[cycle(evaluation)]
 #[tactic(none)]
-pub fn added(alloc: Global, delta: &Delta, pieces: &mut Vec<Loaded>) -> Result<Added, MakeRefusal>
+pub fn added(
+    alloc: Global,
+    delta: &Delta,
+    pieces: &mut Vec<Loaded>,
+    found: &mut Vec<Made>,
+) -> Result<Added, MakeRefusal>
     requires formed { IsFormedDelta (delta_of delta.now) }
     requires ready { IsReady (plan_of delta.now.plan) (pieces_of_delta (delta_of delta.now))
         pieces.old.items }
@@ -33,13 +39,16 @@ pub fn added(alloc: Global, delta: &Delta, pieces: &mut Vec<Loaded>) -> Result<A
     ensures added { EvaluatesDelta (λ extents results. DeltaPasses extents results (delta_of delta.now))
         (λ extents results. added_by extents results (delta_of delta.now))
         (pieces_of_delta (delta_of delta.now)) pieces.old.items pieces.new.items result }
+    ensures places { OnOk result (Records (pieces_of_delta (delta_of delta.now))
+        (recorded_of_delta (delta_of delta.now)) pieces.old.items pieces.new.items found.old.items
+        found.new.items) }
 {
     results_are_made();
     if is_gathered_delta(delta) {
         Ok(rows_added(alloc, taken(pieces)?))
     } else {
         let (old, new) = (delta.old.items(), delta.new.items());
-        added_in(alloc, &delta.way, &delta.plan, old, new, pieces)
+        added_in(alloc, &delta.way, &delta.plan, old, new, pieces, found)
     }
 }
 
@@ -53,6 +62,7 @@ fn added_in(
     _old: &[Cut],
     _new: &[Cut],
     pieces: &mut Vec<Loaded>,
+    found: &mut Vec<Made>,
 ) -> Result<Added, MakeRefusal>
     requires formed { IsFormedDelta (Change (plan_of plan.now) _old.now _new.now (delta_way_of way.now)) }
     requires parts { is_chain_delta (Change (plan_of plan.now) _old.now _new.now (delta_way_of way.now))
@@ -66,23 +76,26 @@ fn added_in(
         (λ extents results. added_in extents results (plan_of plan.now) _old.now _new.now
         (delta_way_of way.now))
         (pieces_in_delta (delta_way_of way.now)) pieces.old.items pieces.new.items result }
+    ensures places { OnOk result (Records (pieces_in_delta (delta_way_of way.now))
+        (recorded_in_delta (delta_way_of way.now)) pieces.old.items pieces.new.items found.old.items
+        found.new.items) }
 {
     results_are_made();
     match way {
         DeltaWay::Unchanged => Ok(nothing(alloc)),
         DeltaWay::Scan => unreachable!(),
         DeltaWay::Tail(input) => {
-            let input = added(alloc, input, pieces)?;
+            let input = added(alloc, input, pieces, found)?;
             added_of_child(alloc, plan, input)
         }
         DeltaWay::Distinct { old, child } => {
-            let old = made(alloc, old, pieces)?;
-            let input = added(alloc, child, pieces)?;
+            let old = made(alloc, old, pieces, found)?;
+            let input = added(alloc, child, pieces, found)?;
             added_of_distinct(alloc, plan, old, input)
         }
         DeltaWay::Join { left, right } => {
-            let input = added(alloc, left, pieces)?;
-            let right = made(alloc, right, pieces)?;
+            let input = added(alloc, left, pieces, found)?;
+            let right = made(alloc, right, pieces, found)?;
             added_of_join(alloc, plan, input, right)
         }
     }

@@ -6,8 +6,10 @@ mod deltas;
 mod gathered;
 mod laws;
 pub mod loaded;
+mod recorded;
 mod results;
 mod rewritings;
 
+pub use laws::{made_places_are_recorded, recorded_results_are_results};
 pub use loaded::{Loaded, Stop};
-pub use results::evaluate;
+pub use results::{evaluate, evaluate_recording};

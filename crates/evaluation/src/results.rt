@@ -1,5 +1,5 @@
 //! What a rewriting makes of its loaded pieces.
-ghost use Rattle.std.specs.Prelude.{◌≡◌, List, IsSome};
+ghost use Rattle.std.specs.Prelude.{◌≡◌, List, IsSome, OnOk};
 ghost use Rattle.plan_core.specs.PlainPlan.{plan_of};
 ghost use Rattle.plan_core.specs.PlanTyping.{Kinds, plan_kinds};
 ghost use Rattle.growth_laws.specs.KeptResults.{KeptResults};
@@ -11,9 +11,10 @@ ghost use Rattle.result_ops.specs.Steps.{Makes};
 ghost use Rattle.evaluation.specs.Loading.{HoldAll, AreFit};
 ghost use Rattle.evaluation.specs.Parts.{IsFormed};
 ghost use Rattle.evaluation.specs.Passing.{Passes};
+ghost use Rattle.evaluation.specs.Recording.{AreRecorded, recorded_below};
 
 use crate::loaded::Loaded;
-use crate::rewritings::made;
+use crate::rewritings::made_unrecorded;
 use result_ops::{Made, MakeRefusal};
 use rewrite_core::Rewriting;
 use std::alloc::Global;
@@ -36,7 +37,32 @@ pub fn evaluate(
         → Makes (Passes extents results (rewriting_of rewriting.now)) (plan_of rewriting.now.plan)
         (made_by extents results (rewriting_of rewriting.now)) result }
 {
+    let mut found = Vec::new(alloc);
+    evaluate_recording(alloc, rewriting, pieces, &mut found)
+}
+
+/// The same. The results that were made below it, of the trees that count below a root, are recorded behind
+/// those that were recorded before, in the order in which they were made: each is what the definitions give
+/// of its tree. After a refusal it isn't said what was recorded.
+pub fn evaluate_recording(
+    alloc: Global,
+    rewriting: &Rewriting,
+    pieces: Vec<Loaded>,
+    found: &mut Vec<Made>,
+) -> Result<Made, MakeRefusal>
+    requires formed { IsFormed (rewriting_of rewriting.now) }
+    requires fit { (schemas : List Kinds) × IsSome (plan_kinds schemas (plan_of rewriting.now.plan))
+        × AreFit schemas (pieces_of (rewriting_of rewriting.now)) pieces.items }
+    ensures made { (extents : Extents) (results : KeptResults)
+        → HoldAll extents results (pieces_of (rewriting_of rewriting.now)) pieces.items
+        → Makes (Passes extents results (rewriting_of rewriting.now)) (plan_of rewriting.now.plan)
+        (made_by extents results (rewriting_of rewriting.now)) result }
+    ensures recorded { (extents : Extents) (results : KeptResults)
+        → HoldAll extents results (pieces_of (rewriting_of rewriting.now)) pieces.items
+        → OnOk result (AreRecorded extents results (recorded_below (rewriting_of rewriting.now))
+        found.old.items found.new.items) }
+{
     let mut left = pieces;
     left.reverse();
-    made(alloc, rewriting, &mut left)
+    made_unrecorded(alloc, rewriting, &mut left, found)
 }

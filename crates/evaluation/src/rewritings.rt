@@ -12,11 +12,13 @@ ghost use Rattle.evaluation.specs.Evaluating.{IsReady, IsReadyWith, MakesFit, Ma
 ghost use Rattle.evaluation.specs.Loading.{HoldAll};
 ghost use Rattle.evaluation.specs.Parts.{IsFormed, pieces_behind};
 ghost use Rattle.evaluation.specs.Passing.{Passes};
+ghost use Rattle.evaluation.specs.Recording.{Records, recorded_of, recorded_below, recorded_in};
 
 use crate::deltas::added;
 use crate::gathered::is_gathered;
 use crate::laws::results_are_made;
 use crate::loaded::{Loaded, taken};
+use crate::recorded::recorded;
 use plan_core::Plan;
 use result_ops::{
     Made, MakeRefusal, computed_results_are_fit, grown_results_are_fit, made_of_both,
@@ -26,10 +28,15 @@ use rewrite_core::{Hit, Parts, Rewriting, Way};
 use rows_core::Cut;
 use std::alloc::Global;
 
-/// What a rewriting makes.
+/// What a rewriting makes. It is recorded, if it counts below a root.
 #[cycle(evaluation)]
 #[tactic(none)]
-pub fn made(alloc: Global, r: &Rewriting, pieces: &mut Vec<Loaded>) -> Result<Made, MakeRefusal>
+pub fn made(
+    alloc: Global,
+    r: &Rewriting,
+    pieces: &mut Vec<Loaded>,
+    found: &mut Vec<Made>,
+) -> Result<Made, MakeRefusal>
     requires formed { IsFormed (rewriting_of r.now) }
     requires ready { IsReady (plan_of r.now.plan) (pieces_of (rewriting_of r.now)) pieces.old.items }
     ensures fit { MakesFit (plan_of r.now.plan) (pieces_of (rewriting_of r.now)) pieces.old.items
@@ -37,12 +44,39 @@ pub fn made(alloc: Global, r: &Rewriting, pieces: &mut Vec<Loaded>) -> Result<Ma
     ensures made { Evaluates (λ extents results. Passes extents results (rewriting_of r.now))
         (plan_of r.now.plan) (λ extents results. made_by extents results (rewriting_of r.now))
         (pieces_of (rewriting_of r.now)) pieces.old.items pieces.new.items result }
+    ensures places { OnOk result (Records (pieces_of (rewriting_of r.now))
+        (recorded_of (rewriting_of r.now)) pieces.old.items pieces.new.items found.old.items
+        found.new.items) }
+{
+    let made = made_unrecorded(alloc, r, pieces, found)?;
+    recorded(alloc, r, made, found)
+}
+
+/// The same, with the results below it recorded alone.
+#[cycle(evaluation)]
+#[tactic(none)]
+pub fn made_unrecorded(
+    alloc: Global,
+    r: &Rewriting,
+    pieces: &mut Vec<Loaded>,
+    found: &mut Vec<Made>,
+) -> Result<Made, MakeRefusal>
+    requires formed { IsFormed (rewriting_of r.now) }
+    requires ready { IsReady (plan_of r.now.plan) (pieces_of (rewriting_of r.now)) pieces.old.items }
+    ensures fit { MakesFit (plan_of r.now.plan) (pieces_of (rewriting_of r.now)) pieces.old.items
+        pieces.new.items result }
+    ensures made { Evaluates (λ extents results. Passes extents results (rewriting_of r.now))
+        (plan_of r.now.plan) (λ extents results. made_by extents results (rewriting_of r.now))
+        (pieces_of (rewriting_of r.now)) pieces.old.items pieces.new.items result }
+    ensures places { OnOk result (Records (pieces_of (rewriting_of r.now))
+        (recorded_below (rewriting_of r.now)) pieces.old.items pieces.new.items found.old.items
+        found.new.items) }
 {
     results_are_made();
     if is_gathered(r) {
         taken(pieces)
     } else {
-        made_in(alloc, &r.way, &r.plan, r.cuts.items(), pieces)
+        made_in(alloc, &r.way, &r.plan, r.cuts.items(), pieces, found)
     }
 }
 
@@ -55,6 +89,7 @@ fn made_in(
     plan: &Plan,
     cuts: &[Cut],
     pieces: &mut Vec<Loaded>,
+    found: &mut Vec<Made>,
 ) -> Result<Made, MakeRefusal>
     requires formed { IsFormed (Node (plan_of plan.now) cuts.now (way_of way.now)) }
     requires parts { is_gathered (Node (plan_of plan.now) cuts.now (way_of way.now)) ≡ false }
@@ -67,23 +102,26 @@ fn made_in(
         (plan_of plan.now)
         (λ extents results. made_in extents results (plan_of plan.now) cuts.now (way_of way.now))
         (pieces_in (plan_of plan.now) (way_of way.now)) pieces.old.items pieces.new.items result }
+    ensures places { OnOk result (Records (pieces_in (plan_of plan.now) (way_of way.now))
+        (recorded_in (way_of way.now)) pieces.old.items pieces.new.items found.old.items
+        found.new.items) }
 {
     results_are_made();
     match way {
         Way::Scan => unreachable!(),
         Way::One(input) => {
-            let input = made(alloc, input, pieces)?;
+            let input = made(alloc, input, pieces, found)?;
             made_of_one(alloc, plan, input)
         }
         Way::Two(left, right) => {
-            let left = made(alloc, left, pieces)?;
-            let right = made(alloc, right, pieces)?;
+            let left = made(alloc, left, pieces, found)?;
+            let right = made(alloc, right, pieces, found)?;
             made_of_two(alloc, plan, left, right)
         }
         Way::Read(_) => taken(pieces),
         Way::Grown { hit, parts } => {
             let old = taken(pieces)?;
-            grown(alloc, parts, plan, cuts, hit, old, pieces)
+            grown(alloc, parts, plan, cuts, hit, old, pieces, found)
         }
     }
 }
@@ -99,6 +137,7 @@ fn grown(
     _hit: &Hit,
     old: Made,
     pieces: &mut Vec<Loaded>,
+    found: &mut Vec<Made>,
 ) -> Result<Made, MakeRefusal>
     requires formed { IsFormed (Node (plan_of plan.now) _cuts.now (grown_way _hit.now parts.now)) }
     requires ready { IsReadyWith (plan_of plan.now) old (pieces_behind (grown_way _hit.now parts.now))
@@ -113,21 +152,24 @@ fn grown(
         (Node (plan_of plan.now) _cuts.now (grown_way _hit.now parts.now))) (plan_of plan.now)
         (made_in extents results (plan_of plan.now) _cuts.now (grown_way _hit.now parts.now)) result
         × OnOk result (HoldAll extents results rest (reverse pieces.new.items)) }
+    ensures places { OnOk result (Records (pieces_behind (grown_way _hit.now parts.now))
+        (recorded_in (grown_way _hit.now parts.now)) pieces.old.items pieces.new.items found.old.items
+        found.new.items) }
 {
     results_are_made();
     match parts {
         Parts::Tail(delta) => {
-            let added = added(alloc, delta, pieces)?;
+            let added = added(alloc, delta, pieces, found)?;
             made_of_grown(alloc, plan, old, added)
         }
         Parts::LeftGrew { left, right } => {
-            let added = added(alloc, left, pieces)?;
-            let right = made(alloc, right, pieces)?;
+            let added = added(alloc, left, pieces, found)?;
+            let right = made(alloc, right, pieces, found)?;
             made_of_left(alloc, plan, old, added, right)
         }
         Parts::RightGrew { left, right } => {
-            let left = made(alloc, left, pieces)?;
-            let added = added(alloc, right, pieces)?;
+            let left = made(alloc, left, pieces, found)?;
+            let added = added(alloc, right, pieces, found)?;
             made_of_right(alloc, plan, old, left, added)
         }
         Parts::BothGrew {
@@ -136,10 +178,10 @@ fn grown(
             left_delta,
             right,
         } => {
-            let old_left = made(alloc, old_left, pieces)?;
-            let right_added = added(alloc, right_delta, pieces)?;
-            let left_added = added(alloc, left_delta, pieces)?;
-            let right = made(alloc, right, pieces)?;
+            let old_left = made(alloc, old_left, pieces, found)?;
+            let right_added = added(alloc, right_delta, pieces, found)?;
+            let left_added = added(alloc, left_delta, pieces, found)?;
+            let right = made(alloc, right, pieces, found)?;
             made_of_both(alloc, plan, old, old_left, right_added, left_added, right)
         }
     }

@@ -1,22 +1,25 @@
 -- What each part of a node answers goes into the node's answer.
-use Rattle.std.proofs.Common.{arith, ◌≡◌, sym, ap, subst, ◌∙◌, true, false, [], ◌∷◌, ◌++◌, reverse, Ok, Err}
+use Rattle.std.proofs.Common.{arith, ◌≡◌, sym, ap, subst, ◌∙◌, false, [], ◌∷◌, ◌++◌, reverse, OnOk, Ok, Err}
 use Rattle.std.proofs.lemmas.Bool.{false≢true}
 use Rattle.std.proofs.lemmas.Result.{err_from_is_err_and}
 use Rattle.plan_core.specs.PlainPlan.{plan_of}
 use Rattle.rewrite_core.specs.declared.rewriting.Delta.{Delta}
 use Rattle.rewrite_core.specs.declared.rewriting.Rewriting.{Rewriting}
 use Rattle.rewrite_core.specs.PlainRewriting.{Node, One, Two, Read, Tail, LeftGrew, RightGrew, BothGrew, Change, Unchanged, OfChild, OfDistinct, OfJoin, rewriting_of, way_of, grown_way, delta_of, delta_way_of}
-use Rattle.growth_laws.specs.Pieces.{Entry, Gathered, is_gathered, is_chain_delta, pieces_of, pieces_in, pieces_of_delta, pieces_in_delta}
+use Rattle.growth_laws.specs.Pieces.{Entry, is_gathered, is_chain_delta, pieces_of, pieces_in, pieces_of_delta, pieces_in_delta}
 use Rattle.evaluation.specs.Evaluating.{IsReady, IsReadyWith, MakesFit, MakesFitWith, AddsFit}
 use Rattle.evaluation.specs.Loading.{HoldAll}
 use Rattle.evaluation.specs.Parts.{IsFormed, IsFormedDelta, pieces_behind}
+use Rattle.evaluation.specs.Recording.{Records, recorded_of, recorded_in, recorded_of_delta, recorded_in_delta}
 use Rattle.evaluation.proofs.Arms.{no_fit, no_fit_with, no_rows_fit, unchanged_fits, unchanged_adds}
 use Rattle.evaluation.proofs.Chains.{gathered_scan}
 use Rattle.evaluation.proofs.Fits as fits
 use Rattle.evaluation.proofs.Loads.{other_pieces, other_delta_pieces}
 use Rattle.evaluation.proofs.Nodes as nodes
 use Rattle.evaluation.proofs.Nodes.{Computed, Grown, DeltaTree, Passed}
+use Rattle.evaluation.proofs.Records.{no_record, then_records, none_recorded, piece_records, gathered_records, other_records, chain_records, other_delta_records, then_grown, own_fit, own_made, own_records}
 use Rattle.evaluation.proofs.Sizes.{way_size, delta_way_size}
+use Rattle.evaluation.proofs.Steps.{on_ok}
 use Rattle.evaluation.proofs.TakenPieces as taken
 use Rattle.evaluation.proofs.+evaluation.Goals as goal
 
@@ -1178,8 +1181,8 @@ rewritings::grown-returns-in_ok-right-in-BothGrew-clause-made t c =
     (nodes.both_done c.results_are_made.ensures.makes c.results_are_made.ensures.adds c.results_are_made.ensures.valid p cuts hit old before l rd ld r c.made-in-BothGrew.new.pieces.items c.added-in-BothGrew.new.pieces.items c.added-in-BothGrew-2.new.pieces.items c.made-in-BothGrew-2.new.pieces.items c.in_ok-old_left-in-BothGrew.old_left c.in_ok-right_added-in-BothGrew.right_added c.in_ok-left_added-in-BothGrew.left_added c.in_ok-right-in-BothGrew.right c.made_of_both.result c.in_ok-old_left-in-BothGrew.ensures.made c.in_ok-right_added-in-BothGrew.ensures.added c.in_ok-left_added-in-BothGrew.ensures.added c.in_ok-right-in-BothGrew.ensures.made c.made_of_both.ensures)
 
 -- src/rewritings.rt:43:9
-pub rewritings::made-taken-requires : goal.rewritings::made-taken-requires
-rewritings::made-taken-requires t c =
+pub rewritings::made_unrecorded-taken-requires : goal.rewritings::made_unrecorded-taken-requires
+rewritings::made_unrecorded-taken-requires t c =
     let r = rewriting_of c.args.r.now in
     let p = plan_of c.args.r.now.plan in
     let way = way_of c.args.r.now.way in
@@ -1187,8 +1190,8 @@ rewritings::made-taken-requires t c =
     taken.gathered_ready p c.args.r.now.cuts way (sym c.if-is_gathered.ensures) before c.requires.ready
 
 -- src/rewritings.rt:45:9
-pub rewritings::made-made_in-requires : goal.rewritings::made-made_in-requires
-rewritings::made-made_in-requires t c =
+pub rewritings::made_unrecorded-made_in-requires : goal.rewritings::made_unrecorded-made_in-requires
+rewritings::made_unrecorded-made_in-requires t c =
     let r = rewriting_of c.args.r.now in
     let p = plan_of c.args.r.now.plan in
     let way = way_of c.args.r.now.way in
@@ -1205,9 +1208,9 @@ rewritings::made-made_in-requires t c =
     )
 
 -- src/rewritings.rt:30:1
-pub rewritings::made-returns-then-is_gathered-clause-fit :
-    goal.rewritings::made-returns-then-is_gathered-clause-fit
-rewritings::made-returns-then-is_gathered-clause-fit t c =
+pub rewritings::made_unrecorded-returns-then-is_gathered-clause-fit :
+    goal.rewritings::made_unrecorded-returns-then-is_gathered-clause-fit
+rewritings::made_unrecorded-returns-then-is_gathered-clause-fit t c =
     let r = rewriting_of c.args.r.now in
     let p = plan_of c.args.r.now.plan in
     let way = way_of c.args.r.now.way in
@@ -1215,9 +1218,9 @@ rewritings::made-returns-then-is_gathered-clause-fit t c =
     taken.gathered_fits c.results_are_made.ensures.makes c.results_are_made.ensures.adds c.results_are_made.ensures.valid p c.args.r.now.cuts before c.taken.new.pieces.items c.taken.result c.taken.ensures.fit c.taken.ensures.held way (sym c.if-is_gathered.ensures)
 
 -- src/rewritings.rt:30:1
-pub rewritings::made-returns-then-is_gathered-clause-made :
-    goal.rewritings::made-returns-then-is_gathered-clause-made
-rewritings::made-returns-then-is_gathered-clause-made t c =
+pub rewritings::made_unrecorded-returns-then-is_gathered-clause-made :
+    goal.rewritings::made_unrecorded-returns-then-is_gathered-clause-made
+rewritings::made_unrecorded-returns-then-is_gathered-clause-made t c =
     let r = rewriting_of c.args.r.now in
     let p = plan_of c.args.r.now.plan in
     let way = way_of c.args.r.now.way in
@@ -1225,9 +1228,9 @@ rewritings::made-returns-then-is_gathered-clause-made t c =
     taken.gathered_makes c.results_are_made.ensures.makes c.results_are_made.ensures.adds c.results_are_made.ensures.valid p c.args.r.now.cuts before c.taken.new.pieces.items c.taken.result c.taken.ensures.fit c.taken.ensures.held way (sym c.if-is_gathered.ensures) c.requires.formed c.requires.ready
 
 -- src/rewritings.rt:30:1
-pub rewritings::made-returns-else-is_gathered-clause-fit :
-    goal.rewritings::made-returns-else-is_gathered-clause-fit
-rewritings::made-returns-else-is_gathered-clause-fit t c =
+pub rewritings::made_unrecorded-returns-else-is_gathered-clause-fit :
+    goal.rewritings::made_unrecorded-returns-else-is_gathered-clause-fit
+rewritings::made_unrecorded-returns-else-is_gathered-clause-fit t c =
     let r = rewriting_of c.args.r.now in
     let p = plan_of c.args.r.now.plan in
     let way = way_of c.args.r.now.way in
@@ -1235,9 +1238,9 @@ rewritings::made-returns-else-is_gathered-clause-fit t c =
     subst (λ ps. MakesFit p ps before c.made_in.new.pieces.items c.made_in.result) (sym (other_pieces p c.args.r.now.cuts way (sym c.if-is_gathered.ensures))) c.made_in.ensures.fit
 
 -- src/rewritings.rt:30:1
-pub rewritings::made-returns-else-is_gathered-clause-made :
-    goal.rewritings::made-returns-else-is_gathered-clause-made
-rewritings::made-returns-else-is_gathered-clause-made t c =
+pub rewritings::made_unrecorded-returns-else-is_gathered-clause-made :
+    goal.rewritings::made_unrecorded-returns-else-is_gathered-clause-made
+rewritings::made_unrecorded-returns-else-is_gathered-clause-made t c =
     let r = rewriting_of c.args.r.now in
     let p = plan_of c.args.r.now.plan in
     let way = way_of c.args.r.now.way in
@@ -1572,3 +1575,376 @@ rewritings::made_in-returns-in_ok-old-in-Grown-clause-made t c =
     let ready : IsReady p (pieces_in p (grown_way hit of)) before = subst (λ way. IsReady p (pieces_in p way) before) w c.requires.ready in
     subst (λ way. Computed p cuts way before c.grown.new.pieces.items c.grown.result) (sym w)
     (taken.then_makes c.results_are_made.ensures.makes c.results_are_made.ensures.adds c.results_are_made.ensures.valid p cuts hit of before c.taken-in-Grown.new.pieces.items c.in_ok-old-in-Grown.old c.in_ok-old-in-Grown.ensures.fit c.grown.new.pieces.items c.grown.result c.in_ok-old-in-Grown.ensures.held c.grown.ensures.made)
+
+-- src/deltas.rt:39:30
+pub deltas::added-returns-in_err-taken-clause-places :
+    goal.deltas::added-returns-in_err-taken-clause-places
+deltas::added-returns-in_err-taken-clause-places t c =
+    let is = err_from_is_err_and c.from_residual.result c.from_residual.ensures.1 in
+    let e : c.from_residual.result ≡ Err c.in_err-taken.field-0.0 = is.1 ∙ ap Err is.2 in
+    no_record _ c.from_residual.result c.in_err-taken.field-0.0 e
+
+-- src/deltas.rt:25:1
+pub deltas::added-returns-in_ok-taken-clause-places :
+    goal.deltas::added-returns-in_ok-taken-clause-places
+deltas::added-returns-in_ok-taken-clause-places t c =
+    let p = plan_of c.args.delta.now.plan in
+    let old = c.args.delta.now.old in
+    let new = c.args.delta.now.new in
+    let way = delta_way_of c.args.delta.now.way in
+    let before = c.args.pieces.now.items in
+    let chain = sym c.if-is_gathered_delta.ensures in
+    chain_records p old new way before c.taken.new.pieces.items c.args.found.now.items c.in_ok-taken.field-0 chain c.in_ok-taken.ensures.held
+
+-- src/deltas.rt:25:1
+pub deltas::added-returns-else-is_gathered_delta-clause-places :
+    goal.deltas::added-returns-else-is_gathered_delta-clause-places
+deltas::added-returns-else-is_gathered_delta-clause-places t c =
+    let p = plan_of c.args.delta.now.plan in
+    let old = c.args.delta.now.old in
+    let new = c.args.delta.now.new in
+    let way = delta_way_of c.args.delta.now.way in
+    let before = c.args.pieces.now.items in
+    let chain = sym c.if-is_gathered_delta.ensures in
+    other_delta_records p old new way before c.added_in.new.pieces.items c.args.found.now.items c.added_in.new.found.items c.added_in.result chain c.added_in.ensures.places
+
+-- src/deltas.rt:75:25
+pub deltas::added_in-returns-in_err-input-in-Tail-clause-places :
+    goal.deltas::added_in-returns-in_err-input-in-Tail-clause-places
+deltas::added_in-returns-in_err-input-in-Tail-clause-places t c =
+    let is = err_from_is_err_and c.from_residual.result c.from_residual.ensures.1 in
+    let e : c.from_residual.result ≡ Err c.in_err-input-in-Tail.field-0.0 = is.1 ∙ ap Err is.2 in
+    no_record _ c.from_residual.result c.in_err-input-in-Tail.field-0.0 e
+
+-- src/deltas.rt:79:23
+pub deltas::added_in-returns-in_err-old-in-Distinct-clause-places :
+    goal.deltas::added_in-returns-in_err-old-in-Distinct-clause-places
+deltas::added_in-returns-in_err-old-in-Distinct-clause-places t c =
+    let is = err_from_is_err_and c.from_residual-in_err-old-in-Distinct.result c.from_residual-in_err-old-in-Distinct.ensures.1 in
+    let e : c.from_residual-in_err-old-in-Distinct.result ≡ Err c.in_err-old-in-Distinct.field-0.0 = is.1 ∙ ap Err is.2 in
+    no_record _ c.from_residual-in_err-old-in-Distinct.result c.in_err-old-in-Distinct.field-0.0 e
+
+-- src/deltas.rt:80:25
+pub deltas::added_in-returns-in_err-input-in-Distinct-clause-places :
+    goal.deltas::added_in-returns-in_err-input-in-Distinct-clause-places
+deltas::added_in-returns-in_err-input-in-Distinct-clause-places t c =
+    let is = err_from_is_err_and c.from_residual-in_err-input-in-Distinct.result c.from_residual-in_err-input-in-Distinct.ensures.1 in
+    let e : c.from_residual-in_err-input-in-Distinct.result ≡ Err c.in_err-input-in-Distinct.field-0.0 = is.1 ∙ ap Err is.2 in
+    no_record _ c.from_residual-in_err-input-in-Distinct.result c.in_err-input-in-Distinct.field-0.0 e
+
+-- src/deltas.rt:84:25
+pub deltas::added_in-returns-in_err-input-in-Join-clause-places :
+    goal.deltas::added_in-returns-in_err-input-in-Join-clause-places
+deltas::added_in-returns-in_err-input-in-Join-clause-places t c =
+    let is = err_from_is_err_and c.from_residual-in_err-input-in-Join.result c.from_residual-in_err-input-in-Join.ensures.1 in
+    let e : c.from_residual-in_err-input-in-Join.result ≡ Err c.in_err-input-in-Join.field-0.0 = is.1 ∙ ap Err is.2 in
+    no_record _ c.from_residual-in_err-input-in-Join.result c.in_err-input-in-Join.field-0.0 e
+
+-- src/deltas.rt:85:25
+pub deltas::added_in-returns-in_err-right-in-Join-clause-places :
+    goal.deltas::added_in-returns-in_err-right-in-Join-clause-places
+deltas::added_in-returns-in_err-right-in-Join-clause-places t c =
+    let is = err_from_is_err_and c.from_residual-in_err-right-in-Join.result c.from_residual-in_err-right-in-Join.ensures.1 in
+    let e : c.from_residual-in_err-right-in-Join.result ≡ Err c.in_err-right-in-Join.field-0.0 = is.1 ∙ ap Err is.2 in
+    no_record _ c.from_residual-in_err-right-in-Join.result c.in_err-right-in-Join.field-0.0 e
+
+-- src/deltas.rt:47:1
+pub deltas::added_in-returns-in-Unchanged-clause-places :
+    goal.deltas::added_in-returns-in-Unchanged-clause-places
+deltas::added_in-returns-in-Unchanged-clause-places t c =
+    let w : delta_way_of c.args.way.now ≡ Unchanged = ap delta_way_of c.in-Unchanged.is in
+    subst (λ way. Records (pieces_in_delta way) (recorded_in_delta way) c.args.pieces.now.items c.args.pieces.now.items c.args.found.now.items c.args.found.now.items) (sym w) (none_recorded c.args.pieces.now.items c.args.found.now.items)
+
+-- src/deltas.rt:47:1
+pub deltas::added_in-returns-in_ok-input-in-Tail-clause-places :
+    goal.deltas::added_in-returns-in_ok-input-in-Tail-clause-places
+deltas::added_in-returns-in_ok-input-in-Tail-clause-places t c =
+    let before = c.args.pieces.now.items in
+    let d = delta_of c.deref.result.now in
+    let w : delta_way_of c.args.way.now ≡ OfChild d = ap delta_way_of c.in-Tail.is ∙ ap (λ (v : Delta). OfChild (delta_of v)) (sym c.deref.ensures) in
+    subst (λ way. OnOk c.added_of_child.result (Records (pieces_in_delta way) (recorded_in_delta way) before c.added.new.pieces.items c.args.found.now.items c.added.new.found.items)) (sym w) (on_ok (Records (pieces_of_delta d) (recorded_of_delta d) before c.added.new.pieces.items c.args.found.now.items c.added.new.found.items) c.added_of_child.result c.in_ok-input-in-Tail.ensures.places)
+
+-- src/deltas.rt:47:1
+pub deltas::added_in-returns-in_ok-input-in-Distinct-clause-places :
+    goal.deltas::added_in-returns-in_ok-input-in-Distinct-clause-places
+deltas::added_in-returns-in_ok-input-in-Distinct-clause-places t c =
+    let old = c.args._old.now in
+    let before = c.args.pieces.now.items in
+    let r = rewriting_of c.deref-in-Distinct.result.now in
+    let d = delta_of c.deref-in-Distinct-2.result.now in
+    let first = sym c.deref-in-Distinct.ensures in
+    let second = sym c.deref-in-Distinct-2.ensures in
+    let w : delta_way_of c.args.way.now ≡ OfDistinct r d = ap delta_way_of c.in-Distinct.is ∙ (λ i. OfDistinct (rewriting_of (first i)) (delta_of (second i))) in
+    subst (λ way. OnOk c.added_of_distinct.result (Records (pieces_in_delta way) (recorded_in_delta way) before c.added-in-Distinct.new.pieces.items c.args.found.now.items c.added-in-Distinct.new.found.items)) (sym w) (on_ok _ c.added_of_distinct.result (then_records (pieces_of r) (pieces_of_delta d) (recorded_of r) (recorded_of_delta d) before c.made.new.pieces.items c.added-in-Distinct.new.pieces.items c.args.found.now.items c.made.new.found.items c.added-in-Distinct.new.found.items c.in_ok-old-in-Distinct.ensures.places c.in_ok-input-in-Distinct.ensures.places))
+
+-- src/deltas.rt:47:1
+pub deltas::added_in-returns-in_ok-right-in-Join-clause-places :
+    goal.deltas::added_in-returns-in_ok-right-in-Join-clause-places
+deltas::added_in-returns-in_ok-right-in-Join-clause-places t c =
+    let before = c.args.pieces.now.items in
+    let d = delta_of c.deref-in-Join.result.now in
+    let r = rewriting_of c.deref-in-Join-2.result.now in
+    let first = sym c.deref-in-Join.ensures in
+    let second = sym c.deref-in-Join-2.ensures in
+    let w : delta_way_of c.args.way.now ≡ OfJoin d r = ap delta_way_of c.in-Join.is ∙ (λ i. OfJoin (delta_of (first i)) (rewriting_of (second i))) in
+    subst (λ way. OnOk c.added_of_join.result (Records (pieces_in_delta way) (recorded_in_delta way) before c.made-in-Join.new.pieces.items c.args.found.now.items c.made-in-Join.new.found.items)) (sym w) (on_ok _ c.added_of_join.result (then_records (pieces_of_delta d) (pieces_of r) (recorded_of_delta d) (recorded_of r) before c.added-in-Join.new.pieces.items c.made-in-Join.new.pieces.items c.args.found.now.items c.added-in-Join.new.found.items c.made-in-Join.new.found.items c.in_ok-input-in-Join.ensures.places c.in_ok-right-in-Join.ensures.places))
+
+-- src/rewritings.rt:120:25
+pub rewritings::grown-returns-in_err-added-in-Tail-clause-places :
+    goal.rewritings::grown-returns-in_err-added-in-Tail-clause-places
+rewritings::grown-returns-in_err-added-in-Tail-clause-places t c =
+    let is = err_from_is_err_and c.from_residual.result c.from_residual.ensures.1 in
+    let e : c.from_residual.result ≡ Err c.in_err-added-in-Tail.field-0.0 = is.1 ∙ ap Err is.2 in
+    no_record _ c.from_residual.result c.in_err-added-in-Tail.field-0.0 e
+
+-- src/rewritings.rt:124:25
+pub rewritings::grown-returns-in_err-added-in-LeftGrew-clause-places :
+    goal.rewritings::grown-returns-in_err-added-in-LeftGrew-clause-places
+rewritings::grown-returns-in_err-added-in-LeftGrew-clause-places t c =
+    let is = err_from_is_err_and c.from_residual-in_err-added-in-LeftGrew.result c.from_residual-in_err-added-in-LeftGrew.ensures.1 in
+    let e : c.from_residual-in_err-added-in-LeftGrew.result ≡ Err c.in_err-added-in-LeftGrew.field-0.0 = is.1 ∙ ap Err is.2 in
+    no_record _ c.from_residual-in_err-added-in-LeftGrew.result c.in_err-added-in-LeftGrew.field-0.0 e
+
+-- src/rewritings.rt:125:25
+pub rewritings::grown-returns-in_err-right-in-LeftGrew-clause-places :
+    goal.rewritings::grown-returns-in_err-right-in-LeftGrew-clause-places
+rewritings::grown-returns-in_err-right-in-LeftGrew-clause-places t c =
+    let is = err_from_is_err_and c.from_residual-in_err-right-in-LeftGrew.result c.from_residual-in_err-right-in-LeftGrew.ensures.1 in
+    let e : c.from_residual-in_err-right-in-LeftGrew.result ≡ Err c.in_err-right-in-LeftGrew.field-0.0 = is.1 ∙ ap Err is.2 in
+    no_record _ c.from_residual-in_err-right-in-LeftGrew.result c.in_err-right-in-LeftGrew.field-0.0 e
+
+-- src/rewritings.rt:129:24
+pub rewritings::grown-returns-in_err-left-in-RightGrew-clause-places :
+    goal.rewritings::grown-returns-in_err-left-in-RightGrew-clause-places
+rewritings::grown-returns-in_err-left-in-RightGrew-clause-places t c =
+    let is = err_from_is_err_and c.from_residual-in_err-left-in-RightGrew.result c.from_residual-in_err-left-in-RightGrew.ensures.1 in
+    let e : c.from_residual-in_err-left-in-RightGrew.result ≡ Err c.in_err-left-in-RightGrew.field-0.0 = is.1 ∙ ap Err is.2 in
+    no_record _ c.from_residual-in_err-left-in-RightGrew.result c.in_err-left-in-RightGrew.field-0.0 e
+
+-- src/rewritings.rt:130:25
+pub rewritings::grown-returns-in_err-added-in-RightGrew-clause-places :
+    goal.rewritings::grown-returns-in_err-added-in-RightGrew-clause-places
+rewritings::grown-returns-in_err-added-in-RightGrew-clause-places t c =
+    let is = err_from_is_err_and c.from_residual-in_err-added-in-RightGrew.result c.from_residual-in_err-added-in-RightGrew.ensures.1 in
+    let e : c.from_residual-in_err-added-in-RightGrew.result ≡ Err c.in_err-added-in-RightGrew.field-0.0 = is.1 ∙ ap Err is.2 in
+    no_record _ c.from_residual-in_err-added-in-RightGrew.result c.in_err-added-in-RightGrew.field-0.0 e
+
+-- src/rewritings.rt:139:28
+pub rewritings::grown-returns-in_err-old_left-in-BothGrew-clause-places :
+    goal.rewritings::grown-returns-in_err-old_left-in-BothGrew-clause-places
+rewritings::grown-returns-in_err-old_left-in-BothGrew-clause-places t c =
+    let is = err_from_is_err_and c.from_residual-in_err-old_left-in-BothGrew.result c.from_residual-in_err-old_left-in-BothGrew.ensures.1 in
+    let e : c.from_residual-in_err-old_left-in-BothGrew.result ≡ Err c.in_err-old_left-in-BothGrew.field-0.0 = is.1 ∙ ap Err is.2 in
+    no_record _ c.from_residual-in_err-old_left-in-BothGrew.result c.in_err-old_left-in-BothGrew.field-0.0 e
+
+-- src/rewritings.rt:140:31
+pub rewritings::grown-returns-in_err-right_added-in-BothGrew-clause-places :
+    goal.rewritings::grown-returns-in_err-right_added-in-BothGrew-clause-places
+rewritings::grown-returns-in_err-right_added-in-BothGrew-clause-places t c =
+    let is = err_from_is_err_and c.from_residual-in_err-right_added-in-BothGrew.result c.from_residual-in_err-right_added-in-BothGrew.ensures.1 in
+    let e : c.from_residual-in_err-right_added-in-BothGrew.result ≡ Err c.in_err-right_added-in-BothGrew.field-0.0 = is.1 ∙ ap Err is.2 in
+    no_record _ c.from_residual-in_err-right_added-in-BothGrew.result c.in_err-right_added-in-BothGrew.field-0.0 e
+
+-- src/rewritings.rt:141:30
+pub rewritings::grown-returns-in_err-left_added-in-BothGrew-clause-places :
+    goal.rewritings::grown-returns-in_err-left_added-in-BothGrew-clause-places
+rewritings::grown-returns-in_err-left_added-in-BothGrew-clause-places t c =
+    let is = err_from_is_err_and c.from_residual-in_err-left_added-in-BothGrew.result c.from_residual-in_err-left_added-in-BothGrew.ensures.1 in
+    let e : c.from_residual-in_err-left_added-in-BothGrew.result ≡ Err c.in_err-left_added-in-BothGrew.field-0.0 = is.1 ∙ ap Err is.2 in
+    no_record _ c.from_residual-in_err-left_added-in-BothGrew.result c.in_err-left_added-in-BothGrew.field-0.0 e
+
+-- src/rewritings.rt:142:25
+pub rewritings::grown-returns-in_err-right-in-BothGrew-clause-places :
+    goal.rewritings::grown-returns-in_err-right-in-BothGrew-clause-places
+rewritings::grown-returns-in_err-right-in-BothGrew-clause-places t c =
+    let is = err_from_is_err_and c.from_residual-in_err-right-in-BothGrew.result c.from_residual-in_err-right-in-BothGrew.ensures.1 in
+    let e : c.from_residual-in_err-right-in-BothGrew.result ≡ Err c.in_err-right-in-BothGrew.field-0.0 = is.1 ∙ ap Err is.2 in
+    no_record _ c.from_residual-in_err-right-in-BothGrew.result c.in_err-right-in-BothGrew.field-0.0 e
+
+-- src/rewritings.rt:92:1
+pub rewritings::grown-returns-in_ok-added-in-Tail-clause-places :
+    goal.rewritings::grown-returns-in_ok-added-in-Tail-clause-places
+rewritings::grown-returns-in_ok-added-in-Tail-clause-places t c =
+    let hit = c.args._hit.now in
+    let before = c.args.pieces.now.items in
+    let d = delta_of c.in-Tail.delta in
+    let w : grown_way hit c.args.parts.now ≡ Tail hit d = ap (grown_way hit) c.in-Tail.is in
+    subst (λ way. OnOk c.made_of_grown.result (Records (pieces_behind way) (recorded_in way) before c.added.new.pieces.items c.args.found.now.items c.added.new.found.items)) (sym w) (on_ok _ c.made_of_grown.result (c.in_ok-added-in-Tail.ensures.places))
+
+-- src/rewritings.rt:92:1
+pub rewritings::grown-returns-in_ok-right-in-LeftGrew-clause-places :
+    goal.rewritings::grown-returns-in_ok-right-in-LeftGrew-clause-places
+rewritings::grown-returns-in_ok-right-in-LeftGrew-clause-places t c =
+    let hit = c.args._hit.now in
+    let before = c.args.pieces.now.items in
+    let d = delta_of c.in-LeftGrew.left in
+    let r = rewriting_of c.in-LeftGrew.right in
+    let w : grown_way hit c.args.parts.now ≡ LeftGrew hit d r = ap (grown_way hit) c.in-LeftGrew.is in
+    subst (λ way. OnOk c.made_of_left.result (Records (pieces_behind way) (recorded_in way) before c.made.new.pieces.items c.args.found.now.items c.made.new.found.items)) (sym w) (on_ok _ c.made_of_left.result (then_records (pieces_of_delta d) (pieces_of r) (recorded_of_delta d) (recorded_of r) before c.added-in-LeftGrew.new.pieces.items c.made.new.pieces.items c.args.found.now.items c.added-in-LeftGrew.new.found.items c.made.new.found.items c.in_ok-added-in-LeftGrew.ensures.places c.in_ok-right-in-LeftGrew.ensures.places))
+
+-- src/rewritings.rt:92:1
+pub rewritings::grown-returns-in_ok-added-in-RightGrew-clause-places :
+    goal.rewritings::grown-returns-in_ok-added-in-RightGrew-clause-places
+rewritings::grown-returns-in_ok-added-in-RightGrew-clause-places t c =
+    let hit = c.args._hit.now in
+    let before = c.args.pieces.now.items in
+    let l = rewriting_of c.in-RightGrew.left in
+    let d = delta_of c.in-RightGrew.right in
+    let w : grown_way hit c.args.parts.now ≡ RightGrew hit l d = ap (grown_way hit) c.in-RightGrew.is in
+    subst (λ way. OnOk c.made_of_right.result (Records (pieces_behind way) (recorded_in way) before c.added-in-RightGrew.new.pieces.items c.args.found.now.items c.added-in-RightGrew.new.found.items)) (sym w) (on_ok _ c.made_of_right.result (then_records (pieces_of l) (pieces_of_delta d) (recorded_of l) (recorded_of_delta d) before c.made-in-RightGrew.new.pieces.items c.added-in-RightGrew.new.pieces.items c.args.found.now.items c.made-in-RightGrew.new.found.items c.added-in-RightGrew.new.found.items c.in_ok-left-in-RightGrew.ensures.places c.in_ok-added-in-RightGrew.ensures.places))
+
+-- src/rewritings.rt:92:1
+pub rewritings::grown-returns-in_ok-right-in-BothGrew-clause-places :
+    goal.rewritings::grown-returns-in_ok-right-in-BothGrew-clause-places
+rewritings::grown-returns-in_ok-right-in-BothGrew-clause-places t c =
+    let hit = c.args._hit.now in
+    let before = c.args.pieces.now.items in
+    let l = rewriting_of c.in-BothGrew.old_left in
+    let rd = delta_of c.in-BothGrew.right_delta in
+    let ld = delta_of c.in-BothGrew.left_delta in
+    let r = rewriting_of c.in-BothGrew.right in
+    let w : grown_way hit c.args.parts.now ≡ BothGrew hit l rd ld r = ap (grown_way hit) c.in-BothGrew.is in
+    let one = then_records (pieces_of l) (pieces_of_delta rd) (recorded_of l) (recorded_of_delta rd) before c.made-in-BothGrew.new.pieces.items c.added-in-BothGrew.new.pieces.items c.args.found.now.items c.made-in-BothGrew.new.found.items c.added-in-BothGrew.new.found.items c.in_ok-old_left-in-BothGrew.ensures.places c.in_ok-right_added-in-BothGrew.ensures.places in
+    let two = then_records (pieces_of l ++ pieces_of_delta rd) (pieces_of_delta ld) (recorded_of l ++ recorded_of_delta rd) (recorded_of_delta ld) before c.added-in-BothGrew.new.pieces.items c.added-in-BothGrew-2.new.pieces.items c.args.found.now.items c.added-in-BothGrew.new.found.items c.added-in-BothGrew-2.new.found.items one c.in_ok-left_added-in-BothGrew.ensures.places in
+    subst (λ way. OnOk c.made_of_both.result (Records (pieces_behind way) (recorded_in way) before c.made-in-BothGrew-2.new.pieces.items c.args.found.now.items c.made-in-BothGrew-2.new.found.items)) (sym w) (on_ok _ c.made_of_both.result (then_records (pieces_of l ++ pieces_of_delta rd ++ pieces_of_delta ld) (pieces_of r) (recorded_of l ++ recorded_of_delta rd ++ recorded_of_delta ld) (recorded_of r) before c.added-in-BothGrew-2.new.pieces.items c.made-in-BothGrew-2.new.pieces.items c.args.found.now.items c.added-in-BothGrew-2.new.found.items c.made-in-BothGrew-2.new.found.items two c.in_ok-right-in-BothGrew.ensures.places))
+
+-- src/rewritings.rt:30:1
+pub rewritings::made_unrecorded-returns-then-is_gathered-clause-places :
+    goal.rewritings::made_unrecorded-returns-then-is_gathered-clause-places
+rewritings::made_unrecorded-returns-then-is_gathered-clause-places t c =
+    let p = plan_of c.args.r.now.plan in
+    let way = way_of c.args.r.now.way in
+    let before = c.args.pieces.now.items in
+    gathered_records p c.args.r.now.cuts way before c.taken.new.pieces.items c.args.found.now.items c.taken.result (sym c.if-is_gathered.ensures) c.taken.ensures.held
+
+-- src/rewritings.rt:30:1
+pub rewritings::made_unrecorded-returns-else-is_gathered-clause-places :
+    goal.rewritings::made_unrecorded-returns-else-is_gathered-clause-places
+rewritings::made_unrecorded-returns-else-is_gathered-clause-places t c =
+    let p = plan_of c.args.r.now.plan in
+    let way = way_of c.args.r.now.way in
+    let before = c.args.pieces.now.items in
+    other_records p c.args.r.now.cuts way before c.made_in.new.pieces.items c.args.found.now.items c.made_in.new.found.items c.made_in.result (sym c.if-is_gathered.ensures) c.made_in.ensures.places
+
+-- src/rewritings.rt:75:25
+pub rewritings::made_in-returns-in_err-input-in-One-clause-places :
+    goal.rewritings::made_in-returns-in_err-input-in-One-clause-places
+rewritings::made_in-returns-in_err-input-in-One-clause-places t c =
+    let is = err_from_is_err_and c.from_residual.result c.from_residual.ensures.1 in
+    let e : c.from_residual.result ≡ Err c.in_err-input-in-One.field-0.0 = is.1 ∙ ap Err is.2 in
+    no_record _ c.from_residual.result c.in_err-input-in-One.field-0.0 e
+
+-- src/rewritings.rt:79:24
+pub rewritings::made_in-returns-in_err-left-in-Two-clause-places :
+    goal.rewritings::made_in-returns-in_err-left-in-Two-clause-places
+rewritings::made_in-returns-in_err-left-in-Two-clause-places t c =
+    let is = err_from_is_err_and c.from_residual-in_err-left-in-Two.result c.from_residual-in_err-left-in-Two.ensures.1 in
+    let e : c.from_residual-in_err-left-in-Two.result ≡ Err c.in_err-left-in-Two.field-0.0 = is.1 ∙ ap Err is.2 in
+    no_record _ c.from_residual-in_err-left-in-Two.result c.in_err-left-in-Two.field-0.0 e
+
+-- src/rewritings.rt:80:25
+pub rewritings::made_in-returns-in_err-right-in-Two-clause-places :
+    goal.rewritings::made_in-returns-in_err-right-in-Two-clause-places
+rewritings::made_in-returns-in_err-right-in-Two-clause-places t c =
+    let is = err_from_is_err_and c.from_residual-in_err-right-in-Two.result c.from_residual-in_err-right-in-Two.ensures.1 in
+    let e : c.from_residual-in_err-right-in-Two.result ≡ Err c.in_err-right-in-Two.field-0.0 = is.1 ∙ ap Err is.2 in
+    no_record _ c.from_residual-in_err-right-in-Two.result c.in_err-right-in-Two.field-0.0 e
+
+-- src/rewritings.rt:85:23
+pub rewritings::made_in-returns-in_err-old-in-Grown-clause-places :
+    goal.rewritings::made_in-returns-in_err-old-in-Grown-clause-places
+rewritings::made_in-returns-in_err-old-in-Grown-clause-places t c =
+    let is = err_from_is_err_and c.from_residual-in_err-old-in-Grown.result c.from_residual-in_err-old-in-Grown.ensures.1 in
+    let e : c.from_residual-in_err-old-in-Grown.result ≡ Err c.in_err-old-in-Grown.field-0.0 = is.1 ∙ ap Err is.2 in
+    no_record _ c.from_residual-in_err-old-in-Grown.result c.in_err-old-in-Grown.field-0.0 e
+
+-- src/rewritings.rt:50:1
+pub rewritings::made_in-returns-in_ok-input-in-One-clause-places :
+    goal.rewritings::made_in-returns-in_ok-input-in-One-clause-places
+rewritings::made_in-returns-in_ok-input-in-One-clause-places t c =
+    let r = rewriting_of c.deref.result.now in
+    let p = plan_of c.args.plan.now in
+    let before = c.args.pieces.now.items in
+    let w : way_of c.args.way.now ≡ One r = ap way_of c.in-One.is ∙ ap (λ (v : Rewriting). One (rewriting_of v)) (sym c.deref.ensures) in
+    subst (λ way. OnOk c.made_of_one.result (Records (pieces_in p way) (recorded_in way) before c.made.new.pieces.items c.args.found.now.items c.made.new.found.items)) (sym w) (on_ok _ c.made_of_one.result (c.in_ok-input-in-One.ensures.places))
+
+-- src/rewritings.rt:50:1
+pub rewritings::made_in-returns-in_ok-right-in-Two-clause-places :
+    goal.rewritings::made_in-returns-in_ok-right-in-Two-clause-places
+rewritings::made_in-returns-in_ok-right-in-Two-clause-places t c =
+    let p = plan_of c.args.plan.now in
+    let before = c.args.pieces.now.items in
+    let l = rewriting_of c.deref-in-Two.result.now in
+    let r = rewriting_of c.deref-in-Two-2.result.now in
+    let first = sym c.deref-in-Two.ensures in
+    let second = sym c.deref-in-Two-2.ensures in
+    let w : way_of c.args.way.now ≡ Two l r = ap way_of c.in-Two.is ∙ (λ i. Two (rewriting_of (first i)) (rewriting_of (second i))) in
+    subst (λ way. OnOk c.made_of_two.result (Records (pieces_in p way) (recorded_in way) before c.made-in-Two-2.new.pieces.items c.args.found.now.items c.made-in-Two-2.new.found.items)) (sym w) (on_ok _ c.made_of_two.result (then_records (pieces_of l) (pieces_of r) (recorded_of l) (recorded_of r) before c.made-in-Two.new.pieces.items c.made-in-Two-2.new.pieces.items c.args.found.now.items c.made-in-Two.new.found.items c.made-in-Two-2.new.found.items c.in_ok-left-in-Two.ensures.places c.in_ok-right-in-Two.ensures.places))
+
+-- src/rewritings.rt:50:1
+pub rewritings::made_in-returns-in-Read-clause-places :
+    goal.rewritings::made_in-returns-in-Read-clause-places
+rewritings::made_in-returns-in-Read-clause-places t c =
+    let p = plan_of c.args.plan.now in
+    let before = c.args.pieces.now.items in
+    let hit = c.in-Read.field-0 in
+    let w : way_of c.args.way.now ≡ Read hit = ap way_of c.in-Read.is in
+    subst (λ way. OnOk c.taken.result (Records (pieces_in p way) (recorded_in way) before c.taken.new.pieces.items c.args.found.now.items c.args.found.now.items)) (sym w) (piece_records (Entry p hit.id) before c.taken.new.pieces.items c.args.found.now.items c.taken.result c.taken.ensures.held)
+
+-- src/rewritings.rt:50:1
+pub rewritings::made_in-returns-in_ok-old-in-Grown-clause-places :
+    goal.rewritings::made_in-returns-in_ok-old-in-Grown-clause-places
+rewritings::made_in-returns-in_ok-old-in-Grown-clause-places t c =
+    let p = plan_of c.args.plan.now in
+    let before = c.args.pieces.now.items in
+    let hit = c.in-Grown.hit in
+    let of = c.deref-in-Grown.result.now in
+    let w : way_of c.args.way.now ≡ grown_way hit of = ap way_of c.in-Grown.is ∙ ap (grown_way hit) (sym c.deref-in-Grown.ensures) in
+    subst (λ way. OnOk c.grown.result (Records (pieces_in p way) (recorded_in way) before c.grown.new.pieces.items c.args.found.now.items c.grown.new.found.items)) (sym w)
+    (then_grown p hit of (recorded_in (grown_way hit of)) before c.taken-in-Grown.new.pieces.items c.grown.new.pieces.items c.args.found.now.items c.grown.new.found.items c.in_ok-old-in-Grown.old c.grown.result c.in_ok-old-in-Grown.ensures.held c.grown.ensures.places)
+
+-- src/rewritings.rt:56:16
+pub rewritings::made-made_unrecorded-requires : goal.rewritings::made-made_unrecorded-requires
+rewritings::made-made_unrecorded-requires t c = (omega (arith, c.decreases), (c.requires.formed, c.requires.ready))
+
+-- src/rewritings.rt:56:16
+pub rewritings::made-returns-in_err-made-clause-fit :
+    goal.rewritings::made-returns-in_err-made-clause-fit
+rewritings::made-returns-in_err-made-clause-fit t c =
+    let is = err_from_is_err_and c.from_residual.result c.from_residual.ensures.1 in
+    let e : c.from_residual.result ≡ Err c.in_err-made.field-0.0 = is.1 ∙ ap Err is.2 in
+    no_fit (plan_of c.args.r.now.plan) (pieces_of (rewriting_of c.args.r.now)) c.args.pieces.now.items c.made_unrecorded.new.pieces.items c.from_residual.result c.in_err-made.field-0.0 e
+
+-- src/rewritings.rt:56:16
+pub rewritings::made-returns-in_err-made-clause-made :
+    goal.rewritings::made-returns-in_err-made-clause-made
+rewritings::made-returns-in_err-made-clause-made t c =
+    let is = err_from_is_err_and c.from_residual.result c.from_residual.ensures.1 in
+    let e : c.from_residual.result ≡ Err c.in_err-made.field-0.0 = is.1 ∙ ap Err is.2 in
+    subst (nodes.Tree (rewriting_of c.args.r.now) c.args.pieces.now.items c.made_unrecorded.new.pieces.items) (sym e) c.in_err-made.ensures.made
+
+-- src/rewritings.rt:56:16
+pub rewritings::made-returns-in_err-made-clause-places :
+    goal.rewritings::made-returns-in_err-made-clause-places
+rewritings::made-returns-in_err-made-clause-places t c =
+    let is = err_from_is_err_and c.from_residual.result c.from_residual.ensures.1 in
+    let e : c.from_residual.result ≡ Err c.in_err-made.field-0.0 = is.1 ∙ ap Err is.2 in
+    no_record _ c.from_residual.result c.in_err-made.field-0.0 e
+
+-- src/rewritings.rt:56:16
+pub rewritings::made-returns-clause-fit :
+    goal.rewritings::made-returns-clause-fit
+rewritings::made-returns-clause-fit t c =
+    own_fit (rewriting_of c.args.r.now) c.args.pieces.now.items c.made_unrecorded.new.pieces.items c.in_ok-made.made c.made_unrecorded.new.found.items c.recorded.new.found.items (plan_of c.args.r.now.plan) (pieces_of (rewriting_of c.args.r.now)) c.recorded.result c.recorded.ensures c.in_ok-made.ensures.fit
+
+-- src/rewritings.rt:56:16
+pub rewritings::made-returns-clause-made :
+    goal.rewritings::made-returns-clause-made
+rewritings::made-returns-clause-made t c =
+    own_made (rewriting_of c.args.r.now) c.args.pieces.now.items c.made_unrecorded.new.pieces.items c.in_ok-made.made c.made_unrecorded.new.found.items c.recorded.new.found.items c.recorded.result c.recorded.ensures c.in_ok-made.ensures.made
+
+-- src/rewritings.rt:56:16
+pub rewritings::made-returns-clause-places :
+    goal.rewritings::made-returns-clause-places
+rewritings::made-returns-clause-places t c =
+    own_records (plan_of c.args.r.now.plan) c.args.r.now.cuts (way_of c.args.r.now.way) c.args.pieces.now.items c.made_unrecorded.new.pieces.items c.in_ok-made.made c.args.found.now.items c.made_unrecorded.new.found.items c.recorded.new.found.items c.recorded.result c.recorded.ensures c.in_ok-made.ensures.made c.in_ok-made.ensures.places
