@@ -1,7 +1,7 @@
 -- The rows of the extents of an interval up to one of them, and those of the next one.
-use Rattle.std.proofs.Common.{◌≡◌, refl, sym, ap, ◌∙◌, ℕ, ◌+◌, ◌≤◌, List, [], ◌++◌, arith}
+use Rattle.std.proofs.Common.{◌≡◌, refl, ap, ◌∙◌, ℕ, ◌+◌, ◌≤◌, [], ◌++◌, arith}
 use Rattle.rows_core.specs.declared.cut.Cut.{Cut}
-use Rattle.growth_laws.specs.Lists.{Extents, extents_of, interval_rows, no_extent}
+use Rattle.growth_laws.specs.Lists.{Extents, extents_of, interval_rows}
 use Rattle.growth_laws.proofs.LeafLists.{longer_interval, no_rows, one_extent_rows}
 use Rattle.executor.specs.Progress.{up_to}
 use Rattle.executor.specs.Sources.{extent_rows}

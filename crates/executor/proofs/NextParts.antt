@@ -1,5 +1,5 @@
 -- Lists of parts of which the first one of which a file is left is read further.
-use Rattle.std.proofs.Common.{◌≡◌, ◌≢◌, refl, sym, ap, ◌∙◌, subst, ℕ, zero, suc, ◌<◌, ◌⊎◌, inl, inr, List, [], ◌∷◌, get_or}
+use Rattle.std.proofs.Common.{◌≡◌, ◌≢◌, refl, sym, ap, ◌∙◌, subst, ℕ, zero, suc, inl, inr, List, [], ◌∷◌, get_or}
 use Rattle.std.proofs.Math.ListN.{set}
 use Rattle.std.specs.List.{AllByRecursion}
 use Rattle.row_blob.specs.Kept.{AreEach}
@@ -91,9 +91,9 @@ module _ (parts : List Part) (at : ℕ) (x : Part) (first : IsFirst files_left p
         let each : AreEach R pieces parts = both_each P Q pieces parts are have in
         let same : b ≡ name = first_left files_left parts at x b name (files_left after) others first (ap files_left (sym here) ∙ less) left in
         let gives : (k : Piece) → H k → R k x → R k after × HasTaken extents results b old new =
-            λ (k : Piece) (held : H k) (both : R k x). (let step = reads k b (files_left after) less held both.0 both.1 in ((keeps k both.0, step.0), step.1)) in
+        λ (k : Piece) (held : H k) (both : R k x). (let step = reads k b (files_left after) less held both.0 both.1 in ((keeps k both.0, step.0), step.1)) in
         let one : (k : Piece) × H k × R k (get_or parts at x) = each_with H R pieces parts at x (is_within files_left parts at first) hold each in (
           second_each P Q pieces (set parts at after)
-          (each_set H R pieces parts at x after hold (λ (k : Piece) (held : H k) (both : R k (get_or parts at x)). (gives k held (subst (λ (p : Part). R k p) (sym here) both)).0) each),
+              (each_set H R pieces parts at x after hold (λ (k : Piece) (held : H k) (both : R k (get_or parts at x)). (gives k held (subst (λ (p : Part). R k p) (sym here) both)).0) each),
           subst (λ (n : FileName). HasTaken extents results n old new) same (gives one.0 one.1 (subst (λ (p : Part). R one.0 p) (sym here) one.2)).1,
         )

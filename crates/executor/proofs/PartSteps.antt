@@ -1,8 +1,7 @@
 -- A part of which the next file is read.
-use Rattle.std.proofs.Common.{◌≡◌, ◌≢◌, refl, sym, ap, ◌∙◌, subst, ℕ, zero, suc, ◌+◌, ◌-◌, ◌<◌, ◌≤◌, Bool, List, [], ◌∷◌, ◌++◌, length, Box, max, Option, None, Some, Ok, Err, arith}
+use Rattle.std.proofs.Common.{◌≡◌, ◌≢◌, refl, sym, ap, ◌∙◌, subst, ℕ, zero, suc, ◌+◌, ◌-◌, ◌<◌, ◌≤◌, Bool, List, [], ◌∷◌, ◌++◌, length, Box, Option, None, Some, arith}
 use Rattle.std.specs.Option.{IfSome}
 use Rattle.std.specs.declared.alloc.Global.{Global}
-use Rattle.std.specs.List.{AllByRecursion}
 use Rattle.rows_core.specs.declared.cut.Cut.{Cut}
 use Rattle.rows_core.specs.declared.file_ref.FileRef.{FileRef}
 use Rattle.row_blob.specs.Kept.{IsKept}
@@ -30,7 +29,7 @@ use Rattle.result_ops.specs.Bounds.{IsBounded}
 use Rattle.result_ops.specs.Fitting.{IsFit, StandsInOrder}
 use Rattle.rewriting_pieces.specs.Pieces.{HasTyping}
 use Rattle.executor.specs.Reads.{IsOfForm}
-use Rattle.executor.specs.Progress.{Loaded, loaded_as, files_left, next_shape, IsFitLoad, IsEntryPart, IsStreamPart, IsPartOf, IsLoadOf, up_to, HasFedTo, HasRead, LoadsNow, FeedsNow}
+use Rattle.executor.specs.Progress.{Loaded, loaded_as, files_left, next_shape, IsFitLoad, IsStreamPart, IsPartOf, IsLoadOf, up_to, HasRead, LoadsNow, FeedsNow}
 use Rattle.executor.specs.Sources.{sources, HoldsPiece, extent_rows, HasTaken}
 use Rattle.executor.specs.declared.part.Part.{Part}
 use Rattle.executor.specs.declared.part.Part.TheVariants as part
@@ -166,17 +165,17 @@ module _ (tells : Bool) (files : ℕ → List ℕ) (places : FileName → FileRe
       let within : next < held.0.to = subst (λ n. next < n) here.ends before in
       let same : form.Rows now.rows ≡ form.Rows (extent_rows extents stream next) = held.2 next here.begun within (form.Rows now.rows) now.read in (
         (λ (cut : Cut) (one : cuts ≡ cut ∷ []).
-          let there = read cut one in
-          let up : next < cut.to = subst (λ n. next < n) there.ends before in
-          let begun : cut.from ≤ next = there.begun in
-          let rows : interval_rows (extents_of extents stream) (up_to cut (next + 1)) ≡ interval_rows (extents_of extents stream) (up_to cut next) ++ now.rows =
-              next_rows extents stream cut next begun ∙ ap (λ r. interval_rows (extents_of extents stream) (up_to cut next) ++ r) (sym (same_rows now.rows (extent_rows extents stream next) same)) in
-          record {
-            ends = there.ends;
-            begun = omega arith;
-            within = omega arith;
-            gathers = subst (λ (r : Rows). Gathers schemas r after) (sym rows) (now.gathers (interval_rows (extents_of extents stream) (up_to cut next)) there.gathers);
-          }),
+            let there = read cut one in
+            let up : next < cut.to = subst (λ n. next < n) there.ends before in
+            let begun : cut.from ≤ next = there.begun in
+            let rows : interval_rows (extents_of extents stream) (up_to cut (next + 1)) ≡ interval_rows (extents_of extents stream) (up_to cut next) ++ now.rows =
+            next_rows extents stream cut next begun ∙ ap (λ r. interval_rows (extents_of extents stream) (up_to cut next) ++ r) (sym (same_rows now.rows (extent_rows extents stream next) same)) in
+            record {
+              ends = there.ends;
+              begun = omega arith;
+              within = omega arith;
+              gathers = subst (λ (r : Rows). Gathers schemas r after) (sym rows) (now.gathers (interval_rows (extents_of extents stream) (up_to cut next)) there.gathers);
+            }),
         subst (λ (k : Kept). CountsTaken (length (kept_spelling k)) old new) same now.taken,
       )
 

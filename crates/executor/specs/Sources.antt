@@ -10,7 +10,7 @@ use Rattle.row_blob.specs.declared.shape.Shape.{Shape}
 use Rattle.outside_traits.specs.View.{Counts}
 use Rattle.outside_traits.specs.Calls.{CountsTaken}
 use Rattle.plan_core.specs.Columns.{Rows}
-use Rattle.plan_core.specs.PlainPlan.{PlainPlan, Scan, leaves}
+use Rattle.plan_core.specs.PlainPlan.{Scan, leaves}
 use Rattle.plan_core.specs.PlanTyping.{Kinds}
 use Rattle.plan_laws.specs.PlanShape.{plan_shape}
 use Rattle.rewrite_core.specs.Files.{FileName, Extent, Result}

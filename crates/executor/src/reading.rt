@@ -12,7 +12,7 @@ ghost use Rattle.kept_files.specs.Reads.{HasCause, FoundIn};
 ghost use Rattle.executor.specs.Firsts.{IsFirst};
 ghost use Rattle.executor.specs.Progress.{files_left, left_in, next_shape, IsNextPart, IsPartOf};
 ghost use Rattle.executor.specs.Progress.{ArePartsOf, HaveRead};
-ghost use Rattle.executor.specs.Sources.{Sources, sources, HoldFiles, HasTaken, HasReadNext};
+ghost use Rattle.executor.specs.Sources.{sources, HoldFiles, HasTaken, HasReadNext};
 
 use crate::job::Job;
 use crate::part::Part;

@@ -1,4 +1,4 @@
-use Rattle.std.proofs.Common.{◌≡◌, ◌≢◌, sym, ap, ◌∙◌, subst, rules, ℕ, ◌<◌, List, [], ◌∷◌, length, take, Err, IsTrue, IfErr, arith}
+use Rattle.std.proofs.Common.{◌≡◌, ◌≢◌, sym, subst, rules, ◌<◌, List, [], length, take, Err, IfErr, arith}
 use Rattle.row_blob.specs.declared.shape.Shape.{Shape}
 use Rattle.rewrite_core.specs.Files.{FileName}
 use Rattle.growth_laws.specs.KeptResults.{KeptResults}
@@ -39,8 +39,8 @@ pub returns-in_err-read_part-clause-found : goal.returns-in_err-read_part-clause
 returns-in_err-read_part-clause-found g c =
     let same : c.from_residual.result ≡ Err c.in_err-read_part.field-0.0 = search rules in
     λ (next : Part) (name : FileName) (others : List FileName) is left tells.
-      next_found c.args.job.now.parts.items c.next_of-next.result c.index_mut.result.now (subst (λ (xs : List Part). IsFirst files_left xs c.next_of-next.result) c.as_slice.ensures.value c.next_of-next.ensures) c.index_mut.ensures.value (λ (shape : Shape) (name : FileName). IfErr c.from_residual.result (FoundIn shape (g.P.Places.files c.args.places.now name) (take (g.P.Places.files c.args.places.now name).len ((g.D.Store.view c.args.store.now).files (g.P.Places.files c.args.places.now name).file)) (g.D.Store.counts c.args.store.now) (g.D.Store.counts c.read_part.new.store))) (g.P.Places.stream_kinds c.args.places.now)
-      (λ (name : FileName) (others : List FileName) left. rw same (c.in_err-read_part.ensures.found name others left tells)) next name others is left
+    next_found c.args.job.now.parts.items c.next_of-next.result c.index_mut.result.now (subst (λ (xs : List Part). IsFirst files_left xs c.next_of-next.result) c.as_slice.ensures.value c.next_of-next.ensures) c.index_mut.ensures.value (λ (shape : Shape) (name : FileName). IfErr c.from_residual.result (FoundIn shape (g.P.Places.files c.args.places.now name) (take (g.P.Places.files c.args.places.now name).len ((g.D.Store.view c.args.store.now).files (g.P.Places.files c.args.places.now name).file)) (g.D.Store.counts c.args.store.now) (g.D.Store.counts c.read_part.new.store))) (g.P.Places.stream_kinds c.args.places.now)
+    (λ (name : FileName) (others : List FileName) left. rw same (c.in_err-read_part.ensures.found name others left tells)) next name others is left
 
 pub returns-clause-next : goal.returns-clause-next
 returns-clause-next g c =
@@ -52,6 +52,6 @@ returns-clause-parts g c = job_parts c.args.job.now.parts.items c.next_of-next.r
 pub returns-clause-read : goal.returns-clause-read
 returns-clause-read g c =
     λ (extents : Extents) (results : KeptResults) (pieces : List Piece) (name : FileName) (others : List FileName) left holds are have.
-      let less = c.in_ok-read_part.ensures.next in
-      job_read c.args.job.now.parts.items c.next_of-next.result c.index_mut.result.now (subst (λ (xs : List Part). IsFirst files_left xs c.next_of-next.result) c.as_slice.ensures.value c.next_of-next.ensures) c.index_mut.ensures.value c.read_part.new.part (sources g.D.Store.tells (g.D.Store.view c.args.store.now).files (g.P.Places.files c.args.places.now) (g.P.Places.machines c.args.places.now) (g.P.Places.stream_kinds c.args.places.now)) extents results (g.D.Store.counts c.args.store.now) (g.D.Store.counts c.read_part.new.store)
-      c.in_ok-read_part.ensures.part (c.in_ok-read_part.ensures.read extents results) less.0 less.1 pieces name others left holds are have
+    let less = c.in_ok-read_part.ensures.next in
+    job_read c.args.job.now.parts.items c.next_of-next.result c.index_mut.result.now (subst (λ (xs : List Part). IsFirst files_left xs c.next_of-next.result) c.as_slice.ensures.value c.next_of-next.ensures) c.index_mut.ensures.value c.read_part.new.part (sources g.D.Store.tells (g.D.Store.view c.args.store.now).files (g.P.Places.files c.args.places.now) (g.P.Places.machines c.args.places.now) (g.P.Places.stream_kinds c.args.places.now)) extents results (g.D.Store.counts c.args.store.now) (g.D.Store.counts c.read_part.new.store)
+    c.in_ok-read_part.ensures.part (c.in_ok-read_part.ensures.read extents results) less.0 less.1 pieces name others left holds are have
