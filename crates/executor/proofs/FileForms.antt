@@ -1,5 +1,5 @@
 -- What a file of a typed plan's result holds is fit, where its groups have averages in i64.
-use Rattle.std.proofs.Common.{◌≡◌, refl, sym, ap, ◌∙◌, subst, ℕ, ◌+◌, ◌-◌, ◌≤◌, Bool, true, false, not, ◌||◌, cond, List, [], ◌∷◌, ◌++◌, map, length, All, IsSome, Option, None, Some, unwrap_or, slice_get, arith}
+use Rattle.std.proofs.Common.{◌≡◌, refl, sym, ap, ◌∙◌, subst, ℕ, ◌-◌, ◌≤◌, false, ◌||◌, List, [], ◌∷◌, ◌++◌, map, length, All, IsSome, Option, None, Some, unwrap_or, slice_get, arith}
 use Rattle.std.specs.List.{AllByRecursion}
 use Rattle.std.proofs.lemmas.Bool.{le-ltb}
 use Rattle.std.proofs.lemmas.List.{length-append}
@@ -27,16 +27,16 @@ use Rattle.plan_core.specs.Columns.{Row, Rows}
 use Rattle.plan_core.specs.PlainPlan.{PlainPlan, Scan, Filter, Project, Distinct, Group, Join, Concat, Order}
 use Rattle.plan_core.specs.PlanTyping.{Kinds, plan_kinds, all_there, agg_kind, number_kind, is_empty, group_kinds, join_kinds}
 use Rattle.plan_core.specs.TypedRows.{HaveKinds}
-use Rattle.plan_laws.specs.GrowthOfJoins.{AscendsByPosition, is_earlier}
+use Rattle.plan_laws.specs.GrowthOfJoins.{is_earlier}
 use Rattle.plan_laws.specs.PlanShape.{kinds_given, kind_at, acc_kind_of, plan_shape}
 use Rattle.plan_laws.proofs.Answers.{both_some, otherwise, there_front}
 use Rattle.plan_laws.proofs.KeptParts.{kinds_there}
-use Rattle.plan_laws.proofs.StableLists.{Ascends, NoneBelow, sorted_from_ascends}
+use Rattle.plan_laws.proofs.StableLists.{Ascends, sorted_from_ascends}
 use Rattle.plan_laws.proofs.TypedOperators.{HasKinds, join_kinds_are}
 use Rattle.plan_laws.proofs.TypedPlans.{and_then}
 use Rattle.growth_laws.specs.Making.{IsFormOf}
 use Rattle.result_ops.specs.Bounds.{IsBounded}
-use Rattle.result_ops.specs.Fitting.{kind_of_acc, kinds_of_group, IsOfKinds, IsFit, StandsInOrder}
+use Rattle.result_ops.specs.Fitting.{kind_of_acc, kinds_of_group, IsFit, StandsInOrder}
 use Rattle.result_ops.proofs.FitInputs.{there, given_kinds}
 
 -- ---- rows

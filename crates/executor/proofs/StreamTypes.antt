@@ -1,11 +1,11 @@
 -- The scan of a typed plan over one stream, and the rows of its extents.
-use Rattle.std.proofs.Common.{◌≡◌, refl, sym, ap, ◌∙◌, subst, ℕ, List, [], ◌∷◌, Option, None, Some, IsSome, unwrap_or, slice_get}
+use Rattle.std.proofs.Common.{◌≡◌, sym, subst, ℕ, List, [], ◌∷◌, Option, None, Some, unwrap_or, slice_get}
 use Rattle.std.specs.Option.{IfSome}
 use Rattle.row_blob.specs.Kept.{IsKept}
 use Rattle.row_blob.specs.declared.kept.Kept.TheVariants as kept
 use Rattle.plan_core.specs.Columns.{Rows}
 use Rattle.plan_core.specs.PlainPlan.{PlainPlan, Scan, Filter, Project, Distinct, Group, Join, Concat, Order, leaves}
-use Rattle.plan_core.specs.PlanTyping.{Kinds, plan_kinds}
+use Rattle.plan_core.specs.PlanTyping.{Kinds}
 use Rattle.plan_core.specs.TypedRows.{HaveKinds, AreOfStreams}
 use Rattle.plan_laws.specs.PlanShape.{kinds_given, plan_shape}
 use Rattle.plan_laws.specs.TypedOn.{IsTypedOn}

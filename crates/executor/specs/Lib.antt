@@ -1,3 +1,4 @@
 pub mod Reads
 pub mod Firsts
 pub mod Progress
+pub mod Sources

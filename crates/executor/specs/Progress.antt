@@ -10,12 +10,11 @@ use Rattle.row_blob.specs.Kept.{AreEach}
 use Rattle.row_blob.specs.Spelling.{kept_spelling}
 use Rattle.row_blob.specs.declared.kept.Kept.TheVariants as form
 use Rattle.row_blob.specs.declared.shape.Shape.{Shape}
-use Rattle.row_blob.specs.declared.shape.Shape.TheVariants.{Rows as OfRows}
 use Rattle.plan_core.specs.Columns.{Rows}
 use Rattle.plan_core.specs.PlainPlan.{PlainPlan, Scan, leaves, plan_of}
 use Rattle.plan_core.specs.PlanTyping.{Kinds}
 use Rattle.plan_laws.specs.PlanShape.{plan_shape}
-use Rattle.rewrite_core.specs.Files.{FileName, Extent, Result, extents_from}
+use Rattle.rewrite_core.specs.Files.{FileName, Result, extents_from}
 use Rattle.growth_laws.specs.KeptResults.{KeptResult, KeptResults}
 use Rattle.growth_laws.specs.Lists.{Extents, extents_of, interval_rows}
 use Rattle.growth_laws.specs.Pieces.{Piece, Entry, Gathered}
@@ -24,7 +23,6 @@ use Rattle.gathering.specs.Gathered as so_far
 use Rattle.gathering.specs.declared.stop.Stop.{Stop}
 use Rattle.gathering.specs.declared.stop.Stop.TheVariants as stop
 use Rattle.result_ops.specs.declared.made.Made.{Made}
-use Rattle.result_ops.specs.Bounds.{IsBounded}
 use Rattle.result_ops.specs.Fitting.{IsFit, StandsInOrder}
 use Rattle.rewriting_pieces.specs.Pieces.{HasTyping, IsOneStream}
 use Rattle.executor.specs.Reads.{IsOfForm, LoadsEntry, MayBeRead}

@@ -6,9 +6,12 @@ mod extent;
 mod job;
 pub mod laws;
 mod part;
+mod reading;
+mod step;
 
 pub use entry::read_entry;
 pub use extent::read_extent;
 pub use job::Job;
 pub use laws::spelled_forms_are_read;
 pub use part::{Loaded, Part};
+pub use reading::read_next;
