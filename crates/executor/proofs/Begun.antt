@@ -22,9 +22,9 @@ use Rattle.executor.specs.Progress.{Loaded, files_left, left_in, up_to, IsFitLoa
 use Rattle.executor.proofs.ExtentRows.{first_rows}
 
 extents_left : (stream : ℕ) (cuts : Cuts) (next end : ℕ) → IsOnlyInterval cuts next end → extents_from stream next (end - next) ≡ gathered_files (stream ∷ []) cuts
-extents_left stream [] next end is = let none : end - next ≡ 0 = omega arith in ap (extents_from stream next) none
+extents_left stream [] next end is = let last : end ≡ 0 = is.1 in let none : end - next ≡ 0 = omega (arith, last) in ap (extents_from stream next) none
 extents_left stream (cut ∷ []) next end is = ap (λ n. extents_from stream n (end - n)) is.0 ∙ ap (λ n. extents_from stream cut.from (n - cut.from)) is.1
-extents_left stream (cut ∷ c ∷ cs) next end is = let none : end - next ≡ 0 = omega arith in ap (extents_from stream next) none
+extents_left stream (cut ∷ c ∷ cs) next end is = let last : end ≡ 0 = is.1 in let none : end - next ≡ 0 = omega (arith, last) in ap (extents_from stream next) none
 
 begun_left : (piece : Piece) (p : Part) → IsBegun piece p → files_left p ≡ piece_files piece
 begun_left (Entry plan id) (part.Entry boxed id' loaded) is =
@@ -61,8 +61,8 @@ begun_read schemas extents results (Gathered plan cuts) (part.Gathered gathering
       let none : interval_rows (extents_of extents stream) (up_to cut next) ≡ [] = ap (λ n. interval_rows (extents_of extents stream) (up_to cut n)) starts ∙ first_rows extents stream cut in
       record {
         ends = ends.1;
-        begun = omega arith;
-        within = omega arith;
+        begun = omega (arith, starts);
+        within = omega (arith, starts);
         gathers = subst (λ (rows : Rows). Gathers schemas rows gathering) (sym none) (is.3 schemas (kinds_there schemas plan typed.0));
       }
 

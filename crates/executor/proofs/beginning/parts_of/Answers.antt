@@ -26,6 +26,6 @@ loop-piece-preserved c =
       whole = append_assoc at.yielded (c.in-Some.piece ∷ []) rest ∙ whole;
       left = (let was = at.invariant.left in let gone = c.in-Some.ensures.steps.1 in let short = ap length steps in omega arith);
       begun =
-          subst (λ (parts : List Part). AreEach IsBegun (pieces_said (at.yielded ++ c.in-Some.piece ∷ [])) parts) (sym c.in_ok-push.ensures.items)
+          subst (λ (parts : List Part). AreEach IsBegun (pieces_said (at.yielded ++ c.in-Some.piece ∷ [])) parts) (sym {A = List Part} c.in_ok-push.ensures.items)
           (each_more piece_of IsBegun at.yielded at.parts.items c.in-Some.piece c.part_of.result at.invariant.begun c.part_of.ensures);
     }
