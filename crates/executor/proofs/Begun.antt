@@ -1,12 +1,11 @@
 -- What follows of parts of which nothing is read yet.
-use Rattle.std.proofs.Common.{◌≡◌, refl, sym, ap, ◌∙◌, subst, ℕ, ◌-◌, ◌≤◌, max, ◌++◌, List, [], ◌∷◌, Option, IsSome, None, arith}
+use Rattle.std.proofs.Common.{◌≡◌, refl, sym, ap, ◌∙◌, subst, ℕ, ◌-◌, ◌++◌, List, [], ◌∷◌, Option, arith}
 use Rattle.std.specs.Option.{IfSome}
 use Rattle.std.specs.List.{AllByRecursion, flat_map}
 use Rattle.rows_core.specs.declared.cut.Cut.{Cut}
 use Rattle.row_blob.specs.Kept.{AreEach}
 use Rattle.plan_core.specs.Columns.{Rows}
-use Rattle.plan_core.specs.PlainPlan.{PlainPlan, leaves, plan_of}
-use Rattle.plan_core.specs.PlanTyping.{Kinds, plan_kinds}
+use Rattle.plan_core.specs.PlanTyping.{Kinds}
 use Rattle.estimator.specs.Cuts.{Cuts}
 use Rattle.rewrite_core.specs.Files.{FileName, Result, extents_from}
 use Rattle.growth_laws.specs.KeptResults.{KeptResults}
@@ -56,15 +55,15 @@ begun_read schemas extents results (Entry plan id) (part.Gathered gathering stre
 begun_read schemas extents results (Gathered plan cuts) (part.Entry boxed id' loaded) typed is = absurd is
 begun_read schemas extents results (Gathered plan cuts) (part.Gathered gathering stream next end) typed is =
     λ (cut : Cut) (one : cuts ≡ cut ∷ []).
-      let ends : (next ≡ cut.from) × (end ≡ cut.to) = subst (λ (cs : Cuts). IsOnlyInterval cs next end) one is.2 in
-      let starts : next ≡ cut.from = ends.0 in
-      let none : interval_rows (extents_of extents stream) (up_to cut next) ≡ [] = ap (λ n. interval_rows (extents_of extents stream) (up_to cut n)) starts ∙ first_rows extents stream cut in
-      record {
-        ends = ends.1;
-        begun = omega (arith, starts);
-        within = omega (arith, starts);
-        gathers = subst (λ (rows : Rows). Gathers schemas rows gathering) (sym none) (is.3 schemas (kinds_there schemas plan typed.0));
-      }
+    let ends : (next ≡ cut.from) × (end ≡ cut.to) = subst (λ (cs : Cuts). IsOnlyInterval cs next end) one is.2 in
+    let starts : next ≡ cut.from = ends.0 in
+    let none : interval_rows (extents_of extents stream) (up_to cut next) ≡ [] = ap (λ n. interval_rows (extents_of extents stream) (up_to cut n)) starts ∙ first_rows extents stream cut in
+    record {
+      ends = ends.1;
+      begun = omega (arith, starts);
+      within = omega (arith, starts);
+      gathers = subst (λ (rows : Rows). Gathers schemas rows gathering) (sym none) (is.3 schemas (kinds_there schemas plan typed.0));
+    }
 
 pub all_parts : (schemas : List Kinds) (pieces : List Piece) (parts : List Part) → AllByRecursion (IsPiece schemas) pieces → AreEach IsBegun pieces parts → ArePartsOf schemas pieces parts
 all_parts schemas [] [] typed are = tt

@@ -1,6 +1,6 @@
 -- Parts of which nothing is read yet.
 use Rattle.std.specs.Prelude.{◌≡◌, ℕ, List, [], ◌∷◌, IsSome, None}
-use Rattle.plan_core.specs.PlainPlan.{PlainPlan, leaves, plan_of}
+use Rattle.plan_core.specs.PlainPlan.{leaves, plan_of}
 use Rattle.plan_core.specs.PlanTyping.{Kinds, plan_kinds}
 use Rattle.estimator.specs.Cuts.{Cuts}
 use Rattle.growth_laws.specs.Pieces.{Piece, Entry, Gathered}
