@@ -1,6 +1,8 @@
+pub mod Begun
 pub mod ExtentRows
 pub mod FileBounds
 pub mod FileForms
+pub mod Joined
 pub mod Lengths
 pub mod NextParts
 pub mod PartSteps

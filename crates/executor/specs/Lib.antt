@@ -1,4 +1,5 @@
 pub mod Reads
 pub mod Firsts
 pub mod Progress
+pub mod Beginning
 pub mod Sources

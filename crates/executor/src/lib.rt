@@ -1,6 +1,7 @@
 //! Reads the files that a rewriting names, and makes its result.
 #![tactic(auto)]
 
+mod beginning;
 mod entry;
 mod extent;
 mod job;
@@ -11,7 +12,7 @@ mod step;
 
 pub use entry::read_entry;
 pub use extent::read_extent;
-pub use job::Job;
+pub use job::{Job, prepare};
 pub use laws::spelled_forms_are_read;
 pub use part::{Loaded, Part};
 pub use reading::read_next;
