@@ -4,5 +4,6 @@ pub mod FileForms
 pub mod Lengths
 pub mod NextParts
 pub mod PartSteps
+pub mod ReadParts
 pub mod StreamTypes
 pub mod Updates

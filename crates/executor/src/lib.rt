@@ -3,6 +3,7 @@
 
 mod entry;
 mod extent;
+mod finishing;
 mod job;
 pub mod laws;
 mod part;
@@ -11,6 +12,7 @@ mod step;
 
 pub use entry::read_entry;
 pub use extent::read_extent;
+pub use finishing::into_result;
 pub use job::Job;
 pub use laws::spelled_forms_are_read;
 pub use part::{Loaded, Part};
