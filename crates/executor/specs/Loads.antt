@@ -1,5 +1,5 @@
 -- What a part of which no file is left holds for what is made of the pieces.
-use Rattle.std.specs.Prelude.{◌≡◌, List, [], ◌∷◌, map, Some, None, Ok, Err, Result as Outcome}
+use Rattle.std.specs.Prelude.{◌≡◌, [], ◌∷◌, Some, None, Ok, Err, Result as Outcome}
 use Rattle.rows_core.specs.declared.cut.Cut.{Cut}
 use Rattle.growth_laws.specs.Growth as laws
 use Rattle.growth_laws.specs.Pieces.{Piece, Entry, Gathered}

@@ -1,4 +1,4 @@
-use Rattle.std.proofs.Common.{sym, subst, List, Result}
+use Rattle.std.proofs.Common.{sym, subst}
 use Rattle.growth_laws.specs.Pieces.{pieces_of}
 use Rattle.rewrite_core.specs.PlainRewriting.{rewriting_of}
 use Rattle.evaluation.specs.Loading.{Loads, HoldAll, AreFit}
