@@ -6,5 +6,6 @@ pub mod Joined
 pub mod Lengths
 pub mod NextParts
 pub mod PartSteps
+pub mod ReadParts
 pub mod StreamTypes
 pub mod Updates

@@ -3,3 +3,4 @@ pub mod Firsts
 pub mod Progress
 pub mod Beginning
 pub mod Sources
+pub mod Loads

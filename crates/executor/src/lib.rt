@@ -4,6 +4,7 @@
 mod beginning;
 mod entry;
 mod extent;
+mod finishing;
 mod job;
 pub mod laws;
 mod part;
@@ -12,6 +13,7 @@ mod step;
 
 pub use entry::read_entry;
 pub use extent::read_extent;
+pub use finishing::into_result;
 pub use job::{Job, prepare};
 pub use laws::spelled_forms_are_read;
 pub use part::{Loaded, Part};

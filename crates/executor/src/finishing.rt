@@ -1,0 +1,113 @@
+//! The result of a job of which no file is left.
+ghost use Rattle.std.specs.Prelude.{◌≡◌, List, [], map, IfOk, IsSome};
+ghost use Rattle.std.specs.List.{AllByRecursion};
+ghost use Rattle.plan_core.specs.PlainPlan.{plan_of};
+ghost use Rattle.plan_core.specs.PlanTyping.{Kinds, plan_kinds};
+ghost use Rattle.growth_laws.specs.KeptResults.{KeptResults};
+ghost use Rattle.growth_laws.specs.Lists.{Extents};
+ghost use Rattle.growth_laws.specs.Pieces.{pieces_of};
+ghost use Rattle.growth_laws.specs.Trees.{made_by};
+ghost use Rattle.gathering.specs.Gathered.{came_as};
+ghost use Rattle.rewrite_core.specs.PlainRewriting.{rewriting_of};
+ghost use Rattle.result_ops.specs.Steps.{Makes};
+ghost use Rattle.evaluation.specs.Parts.{IsFormed};
+ghost use Rattle.evaluation.specs.Passing.{Passes};
+ghost use Rattle.executor.specs.Loads.{stop_of, load_of, load_of_rows, load_of_part, HasOneCut};
+ghost use Rattle.executor.specs.Progress.{files_left, left_in, ArePartsOf, HaveRead};
+
+use crate::job::Job;
+use crate::part::{Loaded, Part};
+use evaluation::evaluate;
+use gathering::{Gathering, Stop};
+use result_ops::{Made, MakeRefusal};
+use rewrite_core::Rewriting;
+use rows_core::Memory;
+use std::alloc::Global;
+
+/// What the rewriting makes, of a job of which no file is left. Where what was read is what these extents and
+/// kept results are, it is what the definitions give of them, with a machine time within the limit and within
+/// the bounds. `Overflow` comes only where that is an overflow, and `Machine`, over sound results with machine
+/// times within the limit, only where the machine time of the plan is above it.
+pub fn into_result(alloc: Global, job: Job) -> Result<Made, MakeRefusal>
+    requires left { left_in job.parts.items ≡ [] }
+    requires formed { IsFormed (rewriting_of job.rewriting) }
+    requires parts { (schemas : List Kinds) × IsSome (plan_kinds schemas (plan_of job.rewriting.plan))
+        × ArePartsOf schemas (pieces_of (rewriting_of job.rewriting)) job.parts.items }
+    ensures { (schemas : List Kinds) (extents : Extents) (results : KeptResults)
+        → ArePartsOf schemas (pieces_of (rewriting_of job.rewriting)) job.parts.items
+        → AllByRecursion HasOneCut (pieces_of (rewriting_of job.rewriting))
+        → HaveRead schemas extents results (pieces_of (rewriting_of job.rewriting)) job.parts.items
+        → Makes (Passes extents results (rewriting_of job.rewriting)) (plan_of job.rewriting.plan)
+        (made_by extents results (rewriting_of job.rewriting)) result }
+{
+    let Job { rewriting, parts } = job;
+    evaluated(alloc, &rewriting, parts)
+}
+
+// What a rewriting makes of parts of which no file is left.
+fn evaluated(alloc: Global, rewriting: &Rewriting, parts: Vec<Part>) -> Result<Made, MakeRefusal>
+    requires left { left_in parts.items ≡ [] }
+    requires formed { IsFormed (rewriting_of rewriting.now) }
+    requires parts { (schemas : List Kinds) × IsSome (plan_kinds schemas (plan_of rewriting.now.plan))
+        × ArePartsOf schemas (pieces_of (rewriting_of rewriting.now)) parts.items }
+    ensures { (schemas : List Kinds) (extents : Extents) (results : KeptResults)
+        → ArePartsOf schemas (pieces_of (rewriting_of rewriting.now)) parts.items
+        → AllByRecursion HasOneCut (pieces_of (rewriting_of rewriting.now))
+        → HaveRead schemas extents results (pieces_of (rewriting_of rewriting.now)) parts.items
+        → Makes (Passes extents results (rewriting_of rewriting.now)) (plan_of rewriting.now.plan)
+        (made_by extents results (rewriting_of rewriting.now)) result }
+{
+    let pieces = loaded_pieces(alloc, parts)?;
+    evaluate(alloc, rewriting, pieces)
+}
+
+// What is loaded of each part, in order.
+fn loaded_pieces(alloc: Global, parts: Vec<Part>) -> Result<Vec<evaluation::Loaded>, Memory>
+    requires { left_in parts.items ≡ [] }
+    ensures { IfOk result (λ pieces. pieces.items ≡ map load_of_part parts.items) }
+{
+    let mut pieces = Vec::new(alloc);
+    for part in parts {
+        pieces.push(loaded_piece(alloc, part)?)?;
+    }
+    Ok(pieces)
+}
+
+fn loaded_piece(alloc: Global, part: Part) -> Result<evaluation::Loaded, Memory>
+    requires { files_left part ≡ [] }
+    ensures { IfOk result (λ piece. piece ≡ load_of_part part) }
+{
+    match part {
+        Part::Entry { loaded, .. } => match loaded {
+            Some(loaded) => Ok(piece_of(loaded)),
+            None => unreachable!(),
+        },
+        Part::Gathered { gathering, .. } => gathered_piece(alloc, gathering),
+    }
+}
+
+fn gathered_piece(alloc: Global, gathering: Gathering) -> Result<evaluation::Loaded, Memory>
+    ensures { IfOk result (λ piece. piece ≡ load_of_rows gathering.came) }
+{
+    let made = gathering.into_made(alloc)?;
+    Ok(piece_of(made))
+}
+
+fn piece_of(loaded: Loaded) -> evaluation::Loaded
+    ensures same { result ≡ load_of loaded }
+    ensures rows { result ≡ load_of_rows (came_as loaded) }
+{
+    match loaded {
+        Ok(made) => Ok(made),
+        Err(stop) => Err(stop_of(stop)),
+    }
+}
+
+fn stop_of(stop: Stop) -> evaluation::Stop
+    ensures { result ≡ stop_of stop }
+{
+    match stop {
+        Stop::Overflow => evaluation::Stop::Overflow,
+        Stop::Machine => evaluation::Stop::Machine,
+    }
+}
