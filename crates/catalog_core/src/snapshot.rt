@@ -3,9 +3,9 @@ ghost use Rattle.std.specs.Prelude.{◌≡◌, IfOk};
 ghost use Rattle.catalog_core.specs.Streams.{state_of, states_of};
 
 use crate::stream::CatalogStream;
-use catalog_types::{Entry, Program, StreamState};
+use catalog_types::StreamState;
 use plan_text::Stream;
-use rows_core::{Column, Memory, Seq};
+use rows_core::{Memory, Seq, copy_columns};
 use std::alloc::Global;
 
 pub(crate) fn copy_streams(
@@ -26,37 +26,7 @@ fn copy_stream(alloc: Global, stream: &CatalogStream) -> Result<StreamState, Mem
 {
     Ok(StreamState {
         name: stream.name().try_copy(alloc)?,
-        columns: copy_columns(alloc, stream.schema().columns())?,
+        columns: Seq::new(copy_columns(alloc, stream.schema().columns())?),
         extents: Seq::new(Vec::from_slice(alloc, stream.extents())?),
     })
-}
-
-fn copy_columns(alloc: Global, columns: &[Column]) -> Result<Seq<Column>, Memory>
-    ensures { IfOk result (λ copies. copies ≡ columns.now) }
-{
-    let mut copies = Vec::with_capacity(alloc, columns.len())?;
-    for column in columns {
-        copies.push(column.try_copy(alloc)?)?;
-    }
-    Ok(Seq::new(copies))
-}
-
-pub(crate) fn copy_programs(alloc: Global, programs: &[Program]) -> Result<Seq<Program>, Memory>
-    ensures { IfOk result (λ copies. copies ≡ programs.now) }
-{
-    let mut copies = Vec::with_capacity(alloc, programs.len())?;
-    for program in programs {
-        copies.push(program.try_copy(alloc)?)?;
-    }
-    Ok(Seq::new(copies))
-}
-
-pub(crate) fn copy_entries(alloc: Global, entries: &[Entry]) -> Result<Seq<Entry>, Memory>
-    ensures { IfOk result (λ copies. copies ≡ entries.now) }
-{
-    let mut copies = Vec::with_capacity(alloc, entries.len())?;
-    for entry in entries {
-        copies.push(entry.try_copy(alloc)?)?;
-    }
-    Ok(Seq::new(copies))
 }

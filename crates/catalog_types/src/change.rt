@@ -4,8 +4,8 @@ ghost use Rattle.std.specs.Prelude.{◌≡◌, IfOk};
 use crate::entry::NewEntry;
 use crate::extent::Extent;
 use crate::program::Program;
-use crate::snapshot::{Snapshot, copy_columns};
-use rows_core::{Column, Memory, Name, Seq};
+use crate::snapshot::Snapshot;
+use rows_core::{Column, Memory, Name, Seq, copy_columns};
 use std::alloc::Global;
 
 /// What one command changes.
@@ -47,7 +47,7 @@ impl Change {
         Ok(match self {
             Change::Stream { name, columns } => Change::Stream {
                 name: name.try_copy(alloc)?,
-                columns: copy_columns(alloc, columns)?,
+                columns: Seq::new(copy_columns(alloc, columns.items())?),
             },
             Change::Append { stream, extent } => Change::Append {
                 stream: *stream,

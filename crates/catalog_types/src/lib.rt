@@ -11,4 +11,4 @@ pub use change::Change;
 pub use entry::{Entry, NewEntry};
 pub use extent::Extent;
 pub use program::Program;
-pub use snapshot::{Snapshot, StreamState};
+pub use snapshot::{Snapshot, StreamState, copy_entries, copy_programs};

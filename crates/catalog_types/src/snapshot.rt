@@ -4,7 +4,7 @@ ghost use Rattle.std.specs.Prelude.{◌≡◌, IfOk};
 use crate::entry::Entry;
 use crate::extent::Extent;
 use crate::program::Program;
-use rows_core::{Column, Memory, Name, Seq};
+use rows_core::{Column, Memory, Name, Seq, copy_columns};
 use std::alloc::Global;
 
 /// A stream: its columns, and its extents in the order of their appending.
@@ -39,7 +39,7 @@ impl StreamState {
     {
         Ok(StreamState {
             name: self.name.try_copy(alloc)?,
-            columns: copy_columns(alloc, &self.columns)?,
+            columns: Seq::new(copy_columns(alloc, self.columns.items())?),
             extents: self.extents.try_copy(alloc)?,
         })
     }
@@ -54,49 +54,40 @@ impl Snapshot {
             tick: self.tick,
             next_file: self.next_file,
             next_id: self.next_id,
-            streams: copy_streams(alloc, &self.streams)?,
-            programs: copy_programs(alloc, &self.programs)?,
-            entries: copy_entries(alloc, &self.entries)?,
+            streams: copy_streams(alloc, self.streams.items())?,
+            programs: copy_programs(alloc, self.programs.items())?,
+            entries: copy_entries(alloc, self.entries.items())?,
         })
     }
 }
 
-/// Second columns that equal these.
-pub fn copy_columns(alloc: Global, columns: &Seq<Column>) -> Result<Seq<Column>, Memory>
-    ensures { IfOk result (λ copies. copies ≡ columns.now) }
-{
-    let mut copies = Vec::new(alloc);
-    for column in columns.items() {
-        copies.push(column.try_copy(alloc)?)?;
-    }
-    Ok(Seq::new(copies))
-}
-
-fn copy_streams(alloc: Global, streams: &Seq<StreamState>) -> Result<Seq<StreamState>, Memory>
+fn copy_streams(alloc: Global, streams: &[StreamState]) -> Result<Seq<StreamState>, Memory>
     ensures { IfOk result (λ copies. copies ≡ streams.now) }
 {
-    let mut copies = Vec::new(alloc);
-    for stream in streams.items() {
+    let mut copies = Vec::with_capacity(alloc, streams.len())?;
+    for stream in streams {
         copies.push(stream.try_copy(alloc)?)?;
     }
     Ok(Seq::new(copies))
 }
 
-fn copy_programs(alloc: Global, programs: &Seq<Program>) -> Result<Seq<Program>, Memory>
+/// A second list of the same programs.
+pub fn copy_programs(alloc: Global, programs: &[Program]) -> Result<Seq<Program>, Memory>
     ensures { IfOk result (λ copies. copies ≡ programs.now) }
 {
-    let mut copies = Vec::new(alloc);
-    for program in programs.items() {
+    let mut copies = Vec::with_capacity(alloc, programs.len())?;
+    for program in programs {
         copies.push(program.try_copy(alloc)?)?;
     }
     Ok(Seq::new(copies))
 }
 
-fn copy_entries(alloc: Global, entries: &Seq<Entry>) -> Result<Seq<Entry>, Memory>
+/// A second list of the same entries.
+pub fn copy_entries(alloc: Global, entries: &[Entry]) -> Result<Seq<Entry>, Memory>
     ensures { IfOk result (λ copies. copies ≡ entries.now) }
 {
-    let mut copies = Vec::new(alloc);
-    for entry in entries.items() {
+    let mut copies = Vec::with_capacity(alloc, entries.len())?;
+    for entry in entries {
         copies.push(entry.try_copy(alloc)?)?;
     }
     Ok(Seq::new(copies))

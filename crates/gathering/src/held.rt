@@ -10,8 +10,8 @@ ghost use Rattle.gathering.specs.declared.held.Held.TheVariants as held;
 use group_fold::Groups;
 use plan_core::Plan;
 use row_blob::Kept;
-use row_ops::{Seen, copy_rows};
-use rows_core::{Memory, Row, Seq};
+use row_ops::Seen;
+use rows_core::{Memory, Row, Seq, copy_rows};
 use std::alloc::Global;
 
 /// What the operator of a plan needs of the rows so far: all rows of filters and projections, the first of

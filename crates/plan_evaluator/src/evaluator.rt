@@ -6,12 +6,10 @@ ghost use Rattle.plan_core.specs.Answer.{Means};
 ghost use Rattle.plan_laws.specs.TypedOn.{IsTypedOn};
 
 use crate::aggregate::group_rows;
-use crate::operators::{
-    copy_rows, distinct_rows, filter_rows, join_rows, order_rows, project_rows,
-};
+use crate::operators::{distinct_rows, filter_rows, join_rows, order_rows, project_rows};
 use plan_core::{EvRefusal, Plan};
 use plan_laws::typed_plans_give_typed_rows;
-use rows_core::{Memory, Row, Seq};
+use rows_core::{Memory, Row, Seq, copy_rows};
 use std::alloc::Global;
 
 /// The meaning of a plan on one list of rows for each of its leaves, from the left: its rows, or `Overflow`

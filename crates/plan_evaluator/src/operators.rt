@@ -16,20 +16,9 @@ ghost use Rattle.plan_evaluator.specs.Evaluation.{test_value};
 
 use plan_core::{EvRefusal, Expr, ev};
 use plan_laws::one_stable_order;
-use rows_core::{Key, Memory, Row, Seq, Value, cmp_by, total_order};
+use rows_core::{Key, Memory, Row, Seq, Value, cmp_by, copy_rows, total_order};
 use scalar_ops::Cell;
 use std::alloc::Global;
-
-/// A second list of the same rows.
-pub fn copy_rows(alloc: Global, rows: &[Row]) -> Result<Vec<Row>, Memory>
-    ensures { IfOk result (λ copies. copies.items ≡ rows.now) }
-{
-    let mut copies = Vec::with_capacity(alloc, rows.len())?;
-    for row in rows {
-        copies.push(row.try_copy(alloc)?)?;
-    }
-    Ok(copies)
-}
 
 /// Puts a row behind the others.
 pub fn push_row(rows: &mut Vec<Row>, row: Row) -> Result<(), Memory>

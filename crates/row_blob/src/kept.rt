@@ -1,7 +1,7 @@
 //! What a file holds.
 ghost use Rattle.std.specs.Prelude.{◌≡◌, IfOk};
 
-use rows_core::{Memory, Row, Seq, Value};
+use rows_core::{Memory, Row, Seq, Value, copy_rows};
 use std::alloc::Global;
 
 /// What a group keeps for one of its aggregates.
@@ -106,16 +106,6 @@ pub fn copy_accs(alloc: Global, accs: &[Acc]) -> Result<Vec<Acc>, Memory>
     let mut copies = Vec::with_capacity(alloc, accs.len())?;
     for acc in accs {
         copies.push(acc.try_copy(alloc)?)?;
-    }
-    Ok(copies)
-}
-
-fn copy_rows(alloc: Global, rows: &[Row]) -> Result<Vec<Row>, Memory>
-    ensures { IfOk result (λ copies. copies.items ≡ rows.now) }
-{
-    let mut copies = Vec::with_capacity(alloc, rows.len())?;
-    for row in rows {
-        copies.push(row.try_copy(alloc)?)?;
     }
     Ok(copies)
 }

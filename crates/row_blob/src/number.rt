@@ -32,17 +32,30 @@ pub fn sum_at(bytes: &[u8]) -> Result<(i128, &[u8]), Unread>
     Ok((bits.cast_signed(), rest))
 }
 
-#[tactic(auto, unfolding(crate::specs::Reading::sum_bound, crate::specs::Reading::sum_low, crate::specs::Reading::sum_high))]
 fn sum_bits_at(bytes: &[u8]) -> Result<(u128, &[u8]), Unread>
     ensures { Gives (λ x. (x.0, x.1.now)) result
         (if nat_lt (slice_index bytes.now 0) 128 then bounded_at w128 0 sum_bound bytes.now
         else bounded_at w128 sum_low sum_high bytes.now) }
 {
     if is_negative(bytes) {
-        u128_between(MIN_SUM_BITS, u128::MAX, bytes)
+        negative_bits_at(bytes)
     } else {
-        u128_between(0, MAX_SUM, bytes)
+        positive_bits_at(bytes)
     }
+}
+
+#[tactic(auto, unfolding(crate::specs::Reading::sum_bound))]
+fn positive_bits_at(bytes: &[u8]) -> Result<(u128, &[u8]), Unread>
+    ensures { Gives (λ x. (x.0, x.1.now)) result (bounded_at w128 0 sum_bound bytes.now) }
+{
+    u128_between(0, MAX_SUM, bytes)
+}
+
+#[tactic(auto, unfolding(crate::specs::Reading::sum_low, crate::specs::Reading::sum_high))]
+fn negative_bits_at(bytes: &[u8]) -> Result<(u128, &[u8]), Unread>
+    ensures { Gives (λ x. (x.0, x.1.now)) result (bounded_at w128 sum_low sum_high bytes.now) }
+{
+    u128_between(MIN_SUM_BITS, u128::MAX, bytes)
 }
 
 /// Whether the number that begins here is below 0.

@@ -3,14 +3,12 @@
 //! rows are added. An operator takes rows over where it keeps them, so that none is copied.
 #![tactic(auto)]
 
-mod copies;
 mod distinct;
 mod filter;
 mod order;
 mod project;
 mod seen;
 
-pub use copies::copy_rows;
 pub use distinct::{distinct_after, distinct_rows};
 pub use filter::{where_lent, where_rows};
 pub use order::{merge_ordered, order_rows};

@@ -4,11 +4,10 @@ ghost use Rattle.plan_core.specs.Columns.{Rows};
 ghost use Rattle.plan_core.specs.Distinct.{distinct_rows};
 ghost use Rattle.plan_laws.specs.GrowthOfRows.{new_rows};
 
-use crate::copies::copy_rows;
 use crate::distinct::{first_rows, rows_of_set};
 use indexmap::IndexSet;
 use plan_laws::first_of_equal_rows_of_joined_lists;
-use rows_core::{Memory, Row};
+use rows_core::{Memory, Row, copy_rows};
 use std::alloc::Global;
 use std::marker::Model;
 

@@ -65,6 +65,17 @@ impl Row {
     }
 }
 
+/// A second list of the same rows.
+pub fn copy_rows(alloc: Global, rows: &[Row]) -> Result<Vec<Row>, Memory>
+    ensures { IfOk result (λ copies. copies.items ≡ rows.now) }
+{
+    let mut copies = Vec::with_capacity(alloc, rows.len())?;
+    for row in rows {
+        copies.push(row.try_copy(alloc)?)?;
+    }
+    Ok(copies)
+}
+
 fn copy_values(alloc: Global, values: &[Value]) -> Result<Vec<Value>, Memory>
     ensures { IfOk result (λ copies. copies.items ≡ values.now) }
 {

@@ -134,7 +134,8 @@ impl Schema {
     }
 }
 
-fn copy_columns(alloc: Global, columns: &[Column]) -> Result<Vec<Column>, Memory>
+/// A second list of the same columns.
+pub fn copy_columns(alloc: Global, columns: &[Column]) -> Result<Vec<Column>, Memory>
     ensures { IfOk result (λ copies. copies.items ≡ columns.now) }
 {
     let mut copies = Vec::with_capacity(alloc, columns.len())?;

@@ -1,6 +1,6 @@
 -- The copies so far are the rows so far.
 use Rattle.std.proofs.Common.{◌≡◌, take}
-use Rattle.plan_evaluator.proofs.operators.copy_rows.Given as goal
+use Rattle.rows_core.proofs.row.copy_rows.Given as goal
 
 abbrev pub invariant-loop-row : goal.invariant-loop-row
 invariant-loop-row l = l.copies.items ≡ take l.row-index l.rows

@@ -1,6 +1,0 @@
--- The items so far.
-use Rattle.std.proofs.Common.{◌≡◌, take}
-use Rattle.catalog_types.proofs.snapshot.copy_columns.Given as goal
-
-abbrev pub invariant-loop-column : goal.invariant-loop-column
-invariant-loop-column l = l.copies.items ≡ take l.column-index l.columns
