@@ -14,8 +14,8 @@ use Rattle.result_ops.specs.declared.refusal.MakeRefusal.TheVariants as refusal
 use Rattle.result_ops.specs.Bounds.{limit, IsBounded}
 use Rattle.result_ops.specs.Fitting.{IsFit, StandsInOrder}
 use Rattle.result_ops.specs.Steps.{made_of}
-use Rattle.evaluation.specs.declared.loaded.Stop.{Stop}
-use Rattle.evaluation.specs.declared.loaded.Stop.TheVariants as stop
+use Rattle.result_ops.specs.declared.stop.Stop.{Stop}
+use Rattle.result_ops.specs.declared.stop.Stop.TheVariants as stop
 
 abbrev pub Loads : Type 0
 Loads = List (Result Made Stop)

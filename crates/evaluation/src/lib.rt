@@ -11,5 +11,5 @@ mod results;
 mod rewritings;
 
 pub use laws::{made_places_are_recorded, recorded_results_are_results};
-pub use loaded::{Loaded, Stop};
+pub use loaded::Loaded;
 pub use results::{evaluate, evaluate_recording};

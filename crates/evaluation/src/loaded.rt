@@ -7,20 +7,7 @@ ghost use Rattle.growth_laws.specs.Pieces.{Piece, made_of_piece};
 ghost use Rattle.result_ops.specs.Fitting.{IsFit, StandsInOrder};
 ghost use Rattle.evaluation.specs.Loading.{HoldAll, AreFit, Took, piece_plan};
 
-use result_ops::{Made, MakeRefusal};
-use thiserror::Error;
-
-/// Why no result was made of a piece.
-#[derive(Clone, Copy, Debug, PartialEq, Eq, Drop, Error)]
-pub enum Stop {
-    /// An operator met a number outside of i64.
-    #[error("overflow")]
-    Overflow,
-    /// The machine time is above 4,294,967,295, or what is kept lies outside of the bounds within which it
-    /// may be worked on.
-    #[error("machine time above 4294967295")]
-    Machine,
-}
+use result_ops::{Made, MakeRefusal, Stop};
 
 /// What reading a piece gave.
 pub type Loaded = Result<Made, Stop>;

@@ -17,7 +17,8 @@ use Rattle.rewriting_pieces.proofs.Typings.{kinds_there}
 use Rattle.executor.specs.declared.part.Part.{Part}
 use Rattle.executor.specs.declared.part.Part.TheVariants as part
 use Rattle.executor.specs.Beginning.{IsOnlyInterval, IsBegun}
-use Rattle.executor.specs.Progress.{Loaded, files_left, left_in, up_to, IsFitLoad, IsLoadOf, IsPartOf, ArePartsOf, HasRead, HaveRead}
+use Rattle.evaluation.specs.Loading.{IsFitLoad}
+use Rattle.executor.specs.Progress.{Loaded, files_left, left_in, up_to, IsLoadOf, IsPartOf, ArePartsOf, HasRead, HaveRead}
 use Rattle.executor.proofs.ExtentRows.{first_rows}
 
 extents_left : (stream : ℕ) (cuts : Cuts) (next end : ℕ) → IsOnlyInterval cuts next end → extents_from stream next (end - next) ≡ gathered_files (stream ∷ []) cuts

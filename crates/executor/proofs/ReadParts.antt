@@ -18,16 +18,14 @@ use Rattle.growth_laws.specs.Making.{IsFormOf, made_before}
 use Rattle.growth_laws.specs.Pieces.{Piece, Entry, Gathered}
 use Rattle.gathering.specs.Gathered.{ComesTo}
 use Rattle.gathering.specs.Gathered as so_far
-use Rattle.gathering.specs.declared.stop.Stop.{Stop}
-use Rattle.gathering.specs.declared.stop.Stop.TheVariants as stop
+use Rattle.result_ops.specs.declared.stop.Stop.{Stop}
+use Rattle.result_ops.specs.declared.stop.Stop.TheVariants as stop
 use Rattle.result_ops.specs.declared.made.Made.{Made}
 use Rattle.result_ops.specs.Fitting.{StandsInOrder}
-use Rattle.rewriting_pieces.specs.Pieces.{IsOneStream}
-use Rattle.evaluation.specs.declared.loaded.Stop.{Stop as PieceStop}
-use Rattle.evaluation.specs.Loading.{piece_plan, Holds, HoldAll, AreFit}
-use Rattle.evaluation.specs.Loading as loading
-use Rattle.executor.specs.Loads.{load_of, load_of_rows, load_of_part, HasOneCut}
-use Rattle.executor.specs.Progress.{Loaded, files_left, left_in, IsFitLoad, IsStreamPart, IsPartOf, ArePartsOf, IsLoadOf, up_to, HasFedTo, HasRead, HaveRead}
+use Rattle.growth_laws.specs.Chains.{IsOneStream}
+use Rattle.evaluation.specs.Loading.{piece_plan, Holds, HoldsPiece, HoldAll, IsFitLoad, AreFit}
+use Rattle.executor.specs.Loads.{load_of_rows, load_of_part, HasOneCut}
+use Rattle.executor.specs.Progress.{Loaded, files_left, left_in, IsStreamPart, IsPartOf, ArePartsOf, IsLoadOf, up_to, HasFedTo, HasRead, HaveRead}
 use Rattle.executor.specs.declared.part.Part.{Part}
 use Rattle.executor.specs.declared.part.Part.TheVariants as part
 
@@ -54,12 +52,12 @@ module _ (items rest : List Part) (p : Part) (split : items ≡ p ∷ rest) wher
   pub left_rest : (before after : ℕ) → before ≡ length items → after + 1 ≡ before → after ≡ length rest
   left_rest before after is one_less = let l : length items ≡ length (p ∷ rest) = ap length split in omega (arith, l)
 
-  pub given_next : (all loads next : List (Outcome Made PieceStop)) (piece : Outcome Made PieceStop) → all ≡ loads ++ map load_of_part items → piece ≡ load_of_part p → next ≡ loads ++ piece ∷ []
+  pub given_next : (all loads next : List (Outcome Made Stop)) (piece : Outcome Made Stop) → all ≡ loads ++ map load_of_part items → piece ≡ load_of_part p → next ≡ loads ++ piece ∷ []
       → all ≡ next ++ map load_of_part rest
   given_next all loads next piece given is pushed =
       let here : all ≡ loads ++ load_of_part p ∷ map load_of_part rest = given ∙ ap (λ (l : List Part). loads ++ map load_of_part l) split in
-      let there : next ≡ loads ++ load_of_part p ∷ [] = pushed ∙ ap (λ (l : Outcome Made PieceStop). loads ++ l ∷ []) is in
-      here ∙ sym (append_assoc loads (load_of_part p ∷ []) (map load_of_part rest)) ∙ ap (λ (l : List (Outcome Made PieceStop)). l ++ map load_of_part rest) (sym there)
+      let there : next ≡ loads ++ load_of_part p ∷ [] = pushed ∙ ap (λ (l : Outcome Made Stop). loads ++ l ∷ []) is in
+      here ∙ sym (append_assoc loads (load_of_part p ∷ []) (map load_of_part rest)) ∙ ap (λ (l : List (Outcome Made Stop)). l ++ map load_of_part rest) (sym there)
 
 -- ---- they are fit
 
@@ -76,17 +74,13 @@ stands (kept.Tagged lefts rows) (Concat left right) one is = absurd is
 stands (kept.Tagged lefts rows) (Order child keys) one is = absurd is
 
 module _ (schemas : List Kinds) where
-  fit_load : (plan : PlainPlan) (loaded : Loaded) → IsFitLoad schemas plan loaded → loading.IsFitLoad schemas plan (load_of loaded)
-  fit_load plan (Ok made) fit = fit
-  fit_load plan (Err s) fit = tt
-
-  fit_rows : (plan : PlainPlan) (given : Outcome laws.Made Overflow) (came : Outcome laws.Made Stop) → IsOneStream plan → ComesTo schemas plan given came → loading.IsFitLoad schemas plan (load_of_rows came)
+  fit_rows : (plan : PlainPlan) (given : Outcome laws.Made Overflow) (came : Outcome laws.Made Stop) → IsOneStream plan → ComesTo schemas plan given came → IsFitLoad schemas plan (load_of_rows came)
   fit_rows plan given (Ok made) one comes = (comes.2, stands made.kept plan one comes.2.form_is)
   fit_rows plan given (Err s) one comes = tt
 
-  fit_part : (piece : Piece) (p : Part) → IsPartOf schemas piece p → loading.IsFitLoad schemas (piece_plan piece) (load_of_part p)
+  fit_part : (piece : Piece) (p : Part) → IsPartOf schemas piece p → IsFitLoad schemas (piece_plan piece) (load_of_part p)
   fit_part (Entry plan id) (part.Entry boxed id' None) is = tt
-  fit_part (Entry plan id) (part.Entry boxed id' (Some l)) is = fit_load plan l is.2.fit
+  fit_part (Entry plan id) (part.Entry boxed id' (Some l)) is = is.2.fit
   fit_part (Entry plan id) (part.Gathered gathering stream next end) is = absurd is
   fit_part (Gathered plan cuts) (part.Entry boxed id' l) is = absurd is
   fit_part (Gathered plan cuts) (part.Gathered gathering stream next end) is =
@@ -108,7 +102,7 @@ nothing_left stream next (suc m) e = absurd (cc)
 abbrev made_is : Kept → ℕ → Outcome laws.Made Overflow
 made_is form taken_in = Ok (record { kept = form; taken_in = taken_in })
 
-hold_load : (plan : PlainPlan) (result : KeptResult) (loaded : Loaded) → IsLoadOf plan result loaded → Holds plan (Ok (made_before result)) (load_of loaded)
+hold_load : (plan : PlainPlan) (result : KeptResult) (loaded : Loaded) → IsLoadOf plan result loaded → Holds plan (Ok (made_before result)) loaded
 hold_load plan result (Ok made) is = ap (λ (k : Kept). made_is k (result.machine - 1)) (sym is.0) ∙ ap (made_is made.kept) (sym is.1)
 hold_load plan result (Err stop.Machine) is = (made_before result, refl, inr is)
 hold_load plan result (Err stop.Overflow) is = absurd is
@@ -137,7 +131,7 @@ module _ (schemas : List Kinds) (extents : Extents) (results : KeptResults) wher
       let comes : ComesTo schemas plan (whole_made plan (rows ∷ [])) gathering.came = subst (λ (q : PlainPlan). ComesTo schemas q (whole_made q (rows ∷ [])) gathering.came) is.of_plan fed.gathers.comes in
       subst (λ (l : List Rows). Holds plan (whole_made plan l) (load_of_rows gathering.came)) (sym lists) (hold_rows schemas plan (whole_made plan (rows ∷ [])) gathering.came comes)
 
-  hold_part : (piece : Piece) (p : Part) → files_left p ≡ [] → IsPartOf schemas piece p → HasOneCut piece → HasRead schemas extents results piece p → loading.HoldsPiece extents results piece (load_of_part p)
+  hold_part : (piece : Piece) (p : Part) → files_left p ≡ [] → IsPartOf schemas piece p → HasOneCut piece → HasRead schemas extents results piece p → HoldsPiece extents results piece (load_of_part p)
   hold_part (Entry plan id) (part.Entry boxed id' None) left is one read = absurd (cc)
   hold_part (Entry plan id) (part.Entry boxed id' (Some l)) left is one read = hold_load plan (results id) l read
   hold_part (Entry plan id) (part.Gathered gathering stream next end) left is one read = absurd is

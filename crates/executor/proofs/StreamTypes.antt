@@ -9,8 +9,8 @@ use Rattle.plan_core.specs.PlanTyping.{Kinds}
 use Rattle.plan_core.specs.TypedRows.{HaveKinds, AreOfStreams}
 use Rattle.plan_laws.specs.PlanShape.{kinds_given, plan_shape}
 use Rattle.plan_laws.specs.TypedOn.{IsTypedOn}
-use Rattle.growth_laws.specs.Chains.{IsChain}
-use Rattle.rewriting_pieces.specs.Pieces.{HasTyping, IsOneStream}
+use Rattle.growth_laws.specs.Chains.{IsChain, IsOneStream}
+use Rattle.rewriting_pieces.specs.Pieces.{HasTyping}
 use Rattle.executor.proofs.FileForms.{rows_kinds}
 use Rattle.rewriting_pieces.proofs.Typings.{of_filter, of_project, of_distinct, of_group, kinds_there}
 

@@ -3,31 +3,21 @@ use Rattle.std.specs.Prelude.{◌≡◌, [], ◌∷◌, Some, None, Ok, Err, Res
 use Rattle.rows_core.specs.declared.cut.Cut.{Cut}
 use Rattle.growth_laws.specs.Growth as laws
 use Rattle.growth_laws.specs.Pieces.{Piece, Entry, Gathered}
-use Rattle.gathering.specs.declared.stop.Stop.{Stop}
-use Rattle.gathering.specs.declared.stop.Stop.TheVariants as stop
 use Rattle.result_ops.specs.declared.made.Made.{Made}
-use Rattle.evaluation.specs.declared.loaded.Stop.{Stop as PieceStop}
-use Rattle.evaluation.specs.declared.loaded.Stop.TheVariants as piece_stop
+use Rattle.result_ops.specs.declared.stop.Stop.{Stop}
+use Rattle.result_ops.specs.declared.stop.Stop.TheVariants as stop
 use Rattle.executor.specs.declared.part.Part.{Part}
 use Rattle.executor.specs.declared.part.Part.TheVariants as part
 
-abbrev pub stop_of : Stop → PieceStop
-stop_of stop.Overflow = piece_stop.Overflow
-stop_of stop.Machine = piece_stop.Machine
-
-abbrev pub load_of : Outcome Made Stop → Outcome Made PieceStop
-load_of (Ok made) = Ok made
-load_of (Err s) = Err (stop_of s)
-
 -- what was made of the rows that came
-abbrev pub load_of_rows : Outcome laws.Made Stop → Outcome Made PieceStop
+abbrev pub load_of_rows : Outcome laws.Made Stop → Outcome Made Stop
 load_of_rows (Ok made) = Ok (record { kept = made.kept; taken_in = made.taken_in })
-load_of_rows (Err s) = Err (stop_of s)
+load_of_rows (Err s) = Err s
 
 -- what is loaded of a part; of one that isn't read, nothing that may be worked on
-abbrev pub load_of_part : Part → Outcome Made PieceStop
-load_of_part (part.Entry plan id (Some loaded)) = load_of loaded
-load_of_part (part.Entry plan id None) = Err piece_stop.Machine
+abbrev pub load_of_part : Part → Outcome Made Stop
+load_of_part (part.Entry plan id (Some loaded)) = loaded
+load_of_part (part.Entry plan id None) = Err stop.Machine
 load_of_part (part.Gathered gathering stream next end) = load_of_rows gathering.came
 
 -- a gathered piece has one interval

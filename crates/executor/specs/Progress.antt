@@ -20,11 +20,12 @@ use Rattle.growth_laws.specs.Lists.{Extents, extents_of, interval_rows}
 use Rattle.growth_laws.specs.Pieces.{Piece, Entry, Gathered}
 use Rattle.gathering.specs.Gathered.{Gathers, kept_length, held_by}
 use Rattle.gathering.specs.Gathered as so_far
-use Rattle.gathering.specs.declared.stop.Stop.{Stop}
-use Rattle.gathering.specs.declared.stop.Stop.TheVariants as stop
+use Rattle.result_ops.specs.declared.stop.Stop.{Stop}
+use Rattle.result_ops.specs.declared.stop.Stop.TheVariants as stop
 use Rattle.result_ops.specs.declared.made.Made.{Made}
-use Rattle.result_ops.specs.Fitting.{IsFit, StandsInOrder}
-use Rattle.rewriting_pieces.specs.Pieces.{HasTyping, IsOneStream}
+use Rattle.evaluation.specs.Loading.{IsFitLoad}
+use Rattle.growth_laws.specs.Chains.{IsOneStream}
+use Rattle.rewriting_pieces.specs.Pieces.{HasTyping}
 use Rattle.executor.specs.Reads.{IsOfForm, LoadsEntry, MayBeRead}
 use Rattle.executor.specs.declared.part.Part.{Part}
 use Rattle.executor.specs.declared.part.Part.TheVariants as part
@@ -74,11 +75,6 @@ held_in [] = 0
 held_in (p ∷ parts) = held_in_part p + held_in parts
 
 -- ---- whatever the files hold
-
--- what is loaded is fit for the plan, and stands in order
-abbrev pub IsFitLoad : List Kinds → PlainPlan → Loaded → Type 0
-IsFitLoad schemas plan (Ok made) = IsFit schemas plan made.kept × StandsInOrder made.kept
-IsFitLoad schemas plan (Err s) = Unit {0}
 
 -- of this typed plan some result is loaded, or none yet
 pub record IsEntryPart (schemas : List Kinds) (plan : PlainPlan) (loaded : Option Loaded) : Type 0 where

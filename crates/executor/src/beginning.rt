@@ -4,7 +4,8 @@ ghost use Rattle.std.specs.List.{AllByRecursion};
 ghost use Rattle.row_blob.specs.Kept.{AreEach};
 ghost use Rattle.plan_core.specs.PlainPlan.{plan_of, leaves};
 ghost use Rattle.plan_core.specs.PlanTyping.{Kinds};
-ghost use Rattle.rewriting_pieces.specs.Pieces.{piece_of, pieces_said, IsPiece, IsOneStream};
+ghost use Rattle.growth_laws.specs.Chains.{IsOneStream};
+ghost use Rattle.rewriting_pieces.specs.Pieces.{piece_of, pieces_said, IsPiece};
 ghost use Rattle.executor.specs.Beginning.{IsOnlyInterval, IsBegun};
 
 use crate::part::Part;

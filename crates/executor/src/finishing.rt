@@ -7,18 +7,17 @@ ghost use Rattle.growth_laws.specs.KeptResults.{KeptResults};
 ghost use Rattle.growth_laws.specs.Lists.{Extents};
 ghost use Rattle.growth_laws.specs.Pieces.{pieces_of};
 ghost use Rattle.growth_laws.specs.Trees.{made_by};
-ghost use Rattle.gathering.specs.Gathered.{came_as};
 ghost use Rattle.rewrite_core.specs.PlainRewriting.{rewriting_of};
 ghost use Rattle.result_ops.specs.Steps.{Makes};
 ghost use Rattle.evaluation.specs.Parts.{IsFormed};
 ghost use Rattle.evaluation.specs.Passing.{Passes};
-ghost use Rattle.executor.specs.Loads.{stop_of, load_of, load_of_rows, load_of_part, HasOneCut};
+ghost use Rattle.executor.specs.Loads.{load_of_rows, load_of_part, HasOneCut};
 ghost use Rattle.executor.specs.Progress.{files_left, left_in, ArePartsOf, HaveRead};
 
 use crate::job::Job;
-use crate::part::{Loaded, Part};
-use evaluation::evaluate;
-use gathering::{Gathering, Stop};
+use crate::part::Part;
+use evaluation::{Loaded, evaluate};
+use gathering::Gathering;
 use result_ops::{Made, MakeRefusal};
 use rewrite_core::Rewriting;
 use rows_core::Memory;
@@ -62,7 +61,7 @@ fn evaluated(alloc: Global, rewriting: &Rewriting, parts: Vec<Part>) -> Result<M
 }
 
 // What is loaded of each part, in order.
-fn loaded_pieces(alloc: Global, parts: Vec<Part>) -> Result<Vec<evaluation::Loaded>, Memory>
+fn loaded_pieces(alloc: Global, parts: Vec<Part>) -> Result<Vec<Loaded>, Memory>
     requires { left_in parts.items ≡ [] }
     ensures { IfOk result (λ pieces. pieces.items ≡ map load_of_part parts.items) }
 {
@@ -73,41 +72,21 @@ fn loaded_pieces(alloc: Global, parts: Vec<Part>) -> Result<Vec<evaluation::Load
     Ok(pieces)
 }
 
-fn loaded_piece(alloc: Global, part: Part) -> Result<evaluation::Loaded, Memory>
+fn loaded_piece(alloc: Global, part: Part) -> Result<Loaded, Memory>
     requires { files_left part ≡ [] }
     ensures { IfOk result (λ piece. piece ≡ load_of_part part) }
 {
     match part {
         Part::Entry { loaded, .. } => match loaded {
-            Some(loaded) => Ok(piece_of(loaded)),
+            Some(loaded) => Ok(loaded),
             None => unreachable!(),
         },
         Part::Gathered { gathering, .. } => gathered_piece(alloc, gathering),
     }
 }
 
-fn gathered_piece(alloc: Global, gathering: Gathering) -> Result<evaluation::Loaded, Memory>
+fn gathered_piece(alloc: Global, gathering: Gathering) -> Result<Loaded, Memory>
     ensures { IfOk result (λ piece. piece ≡ load_of_rows gathering.came) }
 {
-    let made = gathering.into_made(alloc)?;
-    Ok(piece_of(made))
-}
-
-fn piece_of(loaded: Loaded) -> evaluation::Loaded
-    ensures same { result ≡ load_of loaded }
-    ensures rows { result ≡ load_of_rows (came_as loaded) }
-{
-    match loaded {
-        Ok(made) => Ok(made),
-        Err(stop) => Err(stop_of(stop)),
-    }
-}
-
-fn stop_of(stop: Stop) -> evaluation::Stop
-    ensures { result ≡ stop_of stop }
-{
-    match stop {
-        Stop::Overflow => evaluation::Stop::Overflow,
-        Stop::Machine => evaluation::Stop::Machine,
-    }
+    gathering.into_made(alloc)
 }

@@ -16,5 +16,5 @@ pub use extent::read_extent;
 pub use finishing::into_result;
 pub use job::{Job, prepare};
 pub use laws::spelled_forms_are_read;
-pub use part::{Loaded, Part};
+pub use part::Part;
 pub use reading::read_next;

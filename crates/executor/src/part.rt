@@ -3,19 +3,16 @@ ghost use Rattle.std.specs.Prelude.{◌≡◌, length};
 ghost use Rattle.gathering.specs.Gathered.{kept_length};
 ghost use Rattle.executor.specs.Progress.{files_left, held_in_part, loaded_length};
 
-use gathering::{Gathering, Stop};
+use evaluation::Loaded;
+use gathering::Gathering;
 use plan_core::Plan;
-use result_ops::Made;
 use row_blob::Kept;
-
-/// What reading a kept result gave: `Machine` where it lies outside of the bounds within which results are
-/// worked on.
-pub type Loaded = Result<Made, Stop>;
 
 /// A piece of a rewriting, as far as it is read.
 #[derive(Drop)]
 pub enum Part {
-    /// The kept result of this plan, by its id, and what reading it gave.
+    /// The kept result of this plan, by its id, and what reading it gave: `Machine` where it lies outside of
+    /// the bounds within which results are worked on.
     Entry {
         plan: Box<Plan>,
         id: u32,

@@ -8,16 +8,17 @@ ghost use Rattle.outside_traits.specs.Calls.{Idles, MayRaiseReads};
 ghost use Rattle.rewrite_core.specs.Files.{Extent, Result};
 ghost use Rattle.rewriting_pieces.specs.Pieces.{HasTyping};
 ghost use Rattle.kept_files.specs.Reads.{HasCause, FoundIn};
-ghost use Rattle.executor.specs.Progress.{loaded_as, IsFitLoad, IsStreamPart, LoadsNow, FeedsNow};
+ghost use Rattle.evaluation.specs.Loading.{IsFitLoad};
+ghost use Rattle.executor.specs.Progress.{loaded_as, IsStreamPart, LoadsNow, FeedsNow};
 
 use crate::entry::read_entry;
 use crate::extent::read_extent;
-use crate::part::Loaded;
-use gathering::{Gathering, Stop};
+use evaluation::Loaded;
+use gathering::Gathering;
 use kept_files::ReadRefusal;
 use outside_traits::Store;
 use plan_core::Plan;
-use result_ops::Made;
+use result_ops::{Made, Stop};
 use rewrite_core::Places;
 use std::alloc::Global;
 

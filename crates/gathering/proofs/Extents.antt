@@ -12,12 +12,11 @@ use Rattle.plan_core.specs.PlainPlan.{PlainPlan, Scan, Filter, Project, Distinct
 use Rattle.plan_core.specs.PlanMeaning.{plan_meaning}
 use Rattle.plan_laws.specs.GrowthOfGroups.{groups_of}
 use Rattle.plan_laws.specs.GrowthOfRows.{joined}
-use Rattle.growth_laws.specs.Chains.{IsChain}
+use Rattle.growth_laws.specs.Chains.{IsChain, IsOneStream}
 use Rattle.growth_laws.specs.Growth.{Made, whole_made}
 use Rattle.growth_laws.proofs.ChainRows.{chain_joined, chain_takes_in}
-use Rattle.gathering.specs.declared.stop.Stop.{Stop}
-use Rattle.gathering.specs.declared.stop.Stop.TheVariants as stop
-use Rattle.gathering.specs.Gathered.{IsOneStream}
+use Rattle.result_ops.specs.declared.stop.Stop.{Stop}
+use Rattle.result_ops.specs.declared.stop.Stop.TheVariants as stop
 use Rattle.gathering.specs.Holding.{chain_of, made_of_chain, Follows}
 use Rattle.gathering.specs.Steps.{counted}
 

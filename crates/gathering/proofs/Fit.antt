@@ -20,7 +20,7 @@ use Rattle.plan_laws.proofs.Answers.{both_ok}
 use Rattle.plan_laws.proofs.GroupBounds.{are_groups, have_averages}
 use Rattle.plan_laws.proofs.TypedParts.{GivesTypedRows}
 use Rattle.plan_laws.proofs.TypedPlans.{and_then}
-use Rattle.growth_laws.specs.Chains.{IsChain}
+use Rattle.growth_laws.specs.Chains.{IsChain, IsOneStream}
 use Rattle.growth_laws.specs.Growth.{Made, whole_made}
 use Rattle.growth_laws.specs.Making.{IsFormOf}
 use Rattle.result_ops.specs.Bounds.{limit, IsBounded}
@@ -29,9 +29,9 @@ use Rattle.result_ops.proofs.FitInputs.{there, some_of, given_kinds}
 use Rattle.result_ops.proofs.FitLaws.{one_fit}
 use Rattle.gathering.specs.declared.held.Held.{Held}
 use Rattle.gathering.specs.declared.progress.Going.{Going}
-use Rattle.gathering.specs.declared.stop.Stop.{Stop}
-use Rattle.gathering.specs.declared.stop.Stop.TheVariants as stop
-use Rattle.gathering.specs.Gathered.{IsOneStream, ComesTo}
+use Rattle.result_ops.specs.declared.stop.Stop.{Stop}
+use Rattle.result_ops.specs.declared.stop.Stop.TheVariants as stop
+use Rattle.gathering.specs.Gathered.{ComesTo}
 use Rattle.gathering.specs.Holding.{chain_of, kept_of_chain, kept_in, made_of_chain, came_of, IsHeld, IsSound, Follows}
 use Rattle.gathering.proofs.Extents.{given, made_from, whole_of, chain_is}
 

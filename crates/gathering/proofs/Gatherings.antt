@@ -8,8 +8,9 @@ use Rattle.plan_laws.proofs.TypedParts.{GivesTypedRows}
 use Rattle.growth_laws.specs.Growth.{Made, whole_made}
 use Rattle.gathering.specs.declared.held.Held.{Held}
 use Rattle.gathering.specs.declared.progress.Going.{Going}
-use Rattle.gathering.specs.declared.stop.Stop.{Stop}
-use Rattle.gathering.specs.Gathered.{IsOneStream, Gathers}
+use Rattle.result_ops.specs.declared.stop.Stop.{Stop}
+use Rattle.growth_laws.specs.Chains.{IsOneStream}
+use Rattle.gathering.specs.Gathered.{Gathers}
 use Rattle.gathering.specs.Holding.{kept_of_chain, kept_in, came_of, IsFormFor, IsSound, Follows}
 use Rattle.gathering.proofs.Fit.{comes_to, comes_follow, further_of_stream, none_of_stream, whole_of_none}
 use Rattle.gathering.proofs.Sums.{summed_none}

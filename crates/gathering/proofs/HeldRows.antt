@@ -11,9 +11,9 @@ use Rattle.plan_core.specs.MachineTime.{row_count, rows_given, rows_taken_in}
 use Rattle.plan_core.specs.PlainPlan.{PlainPlan, Scan, Filter, Project, Distinct, Group, Join, Concat, Order}
 use Rattle.plan_core.specs.PlanMeaning.{plan_meaning}
 use Rattle.plan_laws.specs.KeptForm.{kept_group}
-use Rattle.growth_laws.specs.Chains.{IsChain}
+use Rattle.growth_laws.specs.Chains.{IsChain, IsOneStream}
 use Rattle.growth_laws.specs.Growth.{Made, whole_made}
-use Rattle.gathering.specs.Gathered.{IsOneStream, kept_length}
+use Rattle.gathering.specs.Gathered.{kept_length}
 use Rattle.gathering.specs.Holding.{kept_of_chain, made_of_chain}
 use Rattle.gathering.proofs.Extents.{given, made_from, whole_of}
 

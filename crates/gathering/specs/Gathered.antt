@@ -7,30 +7,24 @@ use Rattle.row_blob.specs.contracts.kept.Kept as a_kept
 use Rattle.row_blob.specs.declared.kept.Kept.{Kept}
 use Rattle.row_blob.specs.declared.kept.Kept.TheVariants as kept
 use Rattle.plan_core.specs.Columns.{Rows}
-use Rattle.plan_core.specs.PlainPlan.{PlainPlan, Distinct, Group, leaves}
+use Rattle.plan_core.specs.PlainPlan.{PlainPlan, leaves}
 use Rattle.plan_core.specs.PlanCode.{plan_code}
 use Rattle.plan_core.specs.PlanTyping.{Kinds, plan_kinds}
 use Rattle.plan_core.specs.TypedRows.{AreOfStreams}
-use Rattle.growth_laws.specs.Chains.{IsChain}
+use Rattle.growth_laws.specs.Chains.{IsOneStream}
 use Rattle.growth_laws.specs.Growth.{Made, whole_made}
 use Rattle.result_ops.specs.declared.made.Made as code
 use Rattle.result_ops.specs.Bounds.{limit}
 use Rattle.result_ops.specs.Fitting.{IsFit}
 use Rattle.result_ops.specs.Steps.{made_of}
-use Rattle.gathering.specs.contracts.stop.Stop as a_stop
-use Rattle.gathering.specs.declared.stop.Stop.{Stop}
-use Rattle.gathering.specs.declared.stop.Stop.TheVariants as stop
+use Rattle.result_ops.specs.contracts.stop.Stop as a_stop
+use Rattle.result_ops.specs.declared.stop.Stop.{Stop}
+use Rattle.result_ops.specs.declared.stop.Stop.TheVariants as stop
 
 -- the plan, and what has come of the rows so far: what is made of them, or why that has stopped
 pub record Gathered : Type 0 where
   pub plan : PlainPlan
   pub came : Result Made Stop
-
--- filters and projections, or none, over one scan; or a grouping or a distinct over such
-abbrev pub IsOneStream : PlainPlan → Type 0
-IsOneStream (Distinct child) = IsChain child
-IsOneStream (Group child keys aggs) = IsChain child
-IsOneStream plan = IsChain plan
 
 -- what is given of all rows is this, with a machine time within the limit and of the form that the plan's result has; or
 -- it is so many rows that the machine time is above the limit; or it is the overflow

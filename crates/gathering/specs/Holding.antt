@@ -15,8 +15,8 @@ use Rattle.result_ops.specs.Bounds.{limit}
 use Rattle.gathering.specs.declared.held.Held.{Held}
 use Rattle.gathering.specs.declared.held.Held.TheVariants as held
 use Rattle.gathering.specs.declared.progress.Going.{Going}
-use Rattle.gathering.specs.declared.stop.Stop.{Stop}
-use Rattle.gathering.specs.declared.stop.Stop.TheVariants as stop
+use Rattle.result_ops.specs.declared.stop.Stop.{Stop}
+use Rattle.result_ops.specs.declared.stop.Stop.TheVariants as stop
 
 -- the filters and projections that each row goes through by itself
 abbrev pub chain_of : PlainPlan → PlainPlan

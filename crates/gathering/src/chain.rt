@@ -9,8 +9,7 @@ ghost use Rattle.plan_core.specs.PlainPlan.{plan_of};
 ghost use Rattle.plan_core.specs.PlanMeaning.{plan_meaning};
 ghost use Rattle.plan_core.specs.Project.{project_rows};
 ghost use Rattle.plan_laws.specs.TypedOn.{IsTypedOn};
-ghost use Rattle.growth_laws.specs.Chains.{IsChain};
-ghost use Rattle.gathering.specs.Gathered.{IsOneStream};
+ghost use Rattle.growth_laws.specs.Chains.{IsChain, IsOneStream};
 ghost use Rattle.gathering.specs.Holding.{chain_of};
 ghost use Rattle.gathering.specs.Steps.{counted, Passes};
 

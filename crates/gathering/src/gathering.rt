@@ -5,11 +5,11 @@ ghost use Rattle.plan_core.specs.PlainPlan.{plan_of, leaves};
 ghost use Rattle.plan_core.specs.PlanTyping.{Kinds, plan_kinds};
 ghost use Rattle.plan_core.specs.TypedRows.{AreOfStreams};
 ghost use Rattle.plan_laws.specs.TypedOn.{IsTypedOn};
-ghost use Rattle.gathering.specs.Gathered.{IsOneStream, Gathers, held_by, came_as};
+ghost use Rattle.growth_laws.specs.Chains.{IsOneStream};
+ghost use Rattle.gathering.specs.Gathered.{Gathers, held_by, came_as};
 
 use crate::held::Held;
 use crate::progress::{Going, advance};
-use crate::stop::Stop;
 use plan_core::Plan;
 use plan_laws::typed_plans_give_typed_rows;
 use result_ops::Made;
@@ -28,7 +28,8 @@ pub struct Gathering {
 
 impl Model for Gathering {
     ghost use Rattle.plan_core.specs.PlainPlan.{plan_of};
-    ghost use Rattle.gathering.specs.Gathered.{Gathered, gathered_code, IsOneStream};
+    ghost use Rattle.growth_laws.specs.Chains.{IsOneStream};
+    ghost use Rattle.gathering.specs.Gathered.{Gathered, gathered_code};
     ghost use Rattle.gathering.specs.Holding.{came_of, IsSound};
 
     ghost Value = { Gathered };

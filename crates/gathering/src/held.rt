@@ -2,7 +2,8 @@
 ghost use Rattle.std.specs.Prelude.{◌≡◌, [], ◌++◌, OnOk, OnErr, IfOk};
 ghost use Rattle.plan_core.specs.PlainPlan.{plan_of};
 ghost use Rattle.result_ops.specs.Bounds.{limit};
-ghost use Rattle.gathering.specs.Gathered.{kept_length, IsOneStream};
+ghost use Rattle.growth_laws.specs.Chains.{IsOneStream};
+ghost use Rattle.gathering.specs.Gathered.{kept_length};
 ghost use Rattle.gathering.specs.Holding.{kept_of_chain, kept_in, IsFormFor, AreMergeable, AreWithin};
 ghost use Rattle.gathering.specs.Holding.{Joins, Sums};
 ghost use Rattle.gathering.specs.declared.held.Held.TheVariants as held;

@@ -7,8 +7,6 @@ mod gathering;
 mod held;
 mod laws;
 mod progress;
-mod stop;
 
 pub use gathering::Gathering;
 pub use laws::rows_that_are_held;
-pub use stop::Stop;

@@ -5,14 +5,13 @@ ghost use Rattle.plan_core.specs.PlainPlan.{plan_of};
 ghost use Rattle.plan_laws.specs.TypedOn.{IsTypedOn};
 ghost use Rattle.growth_laws.specs.Growth.{whole_made};
 ghost use Rattle.result_ops.specs.Bounds.{limit};
-ghost use Rattle.gathering.specs.Gathered.{IsOneStream};
-ghost use Rattle.gathering.specs.declared.stop.Stop.TheVariants as stop;
+ghost use Rattle.growth_laws.specs.Chains.{IsOneStream};
+ghost use Rattle.result_ops.specs.declared.stop.Stop.TheVariants as stop;
 ghost use Rattle.gathering.specs.Holding.{AreWithin, IsSound, came_of, Follows, made_of_chain};
 ghost use Rattle.gathering.specs.Steps.{counted};
 
 use crate::chain::rows_through;
 use crate::held::Held;
-use crate::stop::Stop;
 use plan_core::{EvRefusal, Plan};
 use result_ops::Input;
 use rows_core::{Memory, Row};

@@ -12,6 +12,7 @@ pub mod made;
 mod one_input;
 pub mod refusal;
 mod rows;
+pub mod stop;
 mod two_inputs;
 
 pub use bounds::are_bounded;
@@ -23,4 +24,5 @@ pub use made::{Added, Input, Made};
 pub use one_input::made_of_one;
 pub use refusal::MakeRefusal;
 pub use rows::rows_of;
+pub use stop::Stop;
 pub use two_inputs::made_of_two;

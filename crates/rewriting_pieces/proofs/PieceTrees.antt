@@ -8,10 +8,10 @@ use Rattle.plan_core.specs.PlanTyping.{Kinds}
 use Rattle.estimator.specs.Cuts.{Cuts, added_cuts}
 use Rattle.rewrite_core.specs.IsRewriting.{IsRewriting, IsWay, IsDelta, IsDeltaWay, OfOne, OfTwo, OfSides, OfTail, OfDeltaTail, OfDistinctChild, IsScan, lefts, rights, whichever}
 use Rattle.rewrite_core.specs.PlainRewriting.{PlainRewriting, Node, PlainWay, Scan, One, Two, Read, Tail, LeftGrew, RightGrew, BothGrew, PlainDelta, Change, PlainDeltaWay, Unchanged, NewRows, OfChild, OfDistinct, OfJoin}
-use Rattle.growth_laws.specs.Chains.{IsChain}
+use Rattle.growth_laws.specs.Chains.{IsChain, IsOneStream}
 use Rattle.growth_laws.specs.Pieces.{Piece, Gathered, is_chain_of, is_gathered, is_chain_delta, pieces_of, pieces_in, pieces_of_delta, pieces_in_delta}
 use Rattle.growth_laws.proofs.PieceResults.{subst_both}
-use Rattle.rewriting_pieces.specs.Pieces.{HasTyping, IsOneStream, IsPiece}
+use Rattle.rewriting_pieces.specs.Pieces.{HasTyping, IsPiece}
 use Rattle.rewriting_pieces.proofs.Typings.{of_filter, of_project, of_distinct, of_group, of_order, of_join, of_concat}
 
 -- ---- what is gathered is of one stream

@@ -1,8 +1,8 @@
 -- The pieces of a rewriting: those of the code as the laws of growth see them, and what is known of each.
 use Rattle.std.specs.Prelude.{List, map, IsOk}
-use Rattle.plan_core.specs.PlainPlan.{PlainPlan, Distinct, Group, plan_of}
+use Rattle.plan_core.specs.PlainPlan.{PlainPlan, plan_of}
 use Rattle.plan_core.specs.PlanTyping.{Kinds, plan_typing}
-use Rattle.growth_laws.specs.Chains.{IsChain}
+use Rattle.growth_laws.specs.Chains.{IsOneStream}
 use Rattle.growth_laws.specs.Pieces.{Piece, Entry, Gathered}
 use Rattle.rewriting_pieces.specs.declared.piece.Piece as code
 use Rattle.rewriting_pieces.specs.declared.piece.Piece.TheVariants as variant
@@ -17,12 +17,6 @@ pieces_said = map piece_of
 -- the plan has a typing over streams of these kinds
 abbrev pub HasTyping : List Kinds → PlainPlan → Type 0
 HasTyping schemas plan = IsOk (plan_typing schemas plan)
-
--- filters and projections, or none, over one scan; or a grouping or a distinct over such
-abbrev pub IsOneStream : PlainPlan → Type 0
-IsOneStream (Distinct child) = IsChain child
-IsOneStream (Group child keys aggs) = IsChain child
-IsOneStream plan = IsChain plan
 
 -- the piece's plan has a typing, and is of one stream where it is gathered
 abbrev pub IsPiece : List Kinds → Piece → Type 0

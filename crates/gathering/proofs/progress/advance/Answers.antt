@@ -3,7 +3,7 @@ use Rattle.plan_core.specs.Columns.{Rows}
 use Rattle.plan_core.specs.MachineTime.{rows_taken_in}
 use Rattle.plan_core.specs.PlainPlan.{plan_of}
 use Rattle.growth_laws.specs.Growth.{whole_made}
-use Rattle.gathering.specs.declared.stop.Stop.TheVariants as stop
+use Rattle.result_ops.specs.declared.stop.Stop.TheVariants as stop
 use Rattle.gathering.specs.Holding.{came_of, Follows, made_of_chain}
 use Rattle.gathering.specs.Steps.{counted, Passes}
 use Rattle.gathering.proofs.Extents.{given, passed_follow, failed_follow, stopped_follow}
