@@ -1,7 +1,8 @@
 -- Parts of which no file is left, as what is loaded of their pieces.
-use Rattle.std.proofs.Common.{◌≡◌, refl, sym, ap, ◌∙◌, subst, ℕ, zero, suc, ◌+◌, ◌-◌, ◌≤◌, max, inl, inr, List, [], ◌∷◌, ◌++◌, length, map, take, drop, append_assoc, Some, None, Ok, Err, Result as Outcome, arith}
+use Rattle.std.proofs.Common.{◌≡◌, refl, sym, ap, ◌∙◌, subst, ℕ, zero, suc, ◌+◌, ◌-◌, ◌≤◌, max, inl, inr, List, [], ◌∷◌, ◌++◌, length, map, take, drop, append_assoc, Some, None, Ok, Err, Result as Outcome, IfOk, arith}
 use Rattle.std.specs.List.{flat_map, AllByRecursion}
 use Rattle.rows_core.specs.declared.cut.Cut.{Cut}
+use Rattle.rows_core.specs.declared.memory.Memory.{Memory}
 use Rattle.rows_core.specs.declared.overflow.Overflow.{Overflow}
 use Rattle.row_blob.specs.declared.kept.Kept.{Kept}
 use Rattle.row_blob.specs.declared.kept.Kept.TheVariants as kept
@@ -16,7 +17,7 @@ use Rattle.growth_laws.specs.KeptResults.{KeptResult, KeptResults}
 use Rattle.growth_laws.specs.Lists.{Extents, extents_of, interval_rows, lists_at, plan_lists}
 use Rattle.growth_laws.specs.Making.{IsFormOf, made_before}
 use Rattle.growth_laws.specs.Pieces.{Piece, Entry, Gathered}
-use Rattle.gathering.specs.Gathered.{ComesTo}
+use Rattle.gathering.specs.Gathered.{ComesTo, came_as}
 use Rattle.gathering.specs.Gathered as so_far
 use Rattle.result_ops.specs.declared.stop.Stop.{Stop}
 use Rattle.result_ops.specs.declared.stop.Stop.TheVariants as stop
@@ -58,6 +59,16 @@ module _ (items rest : List Part) (p : Part) (split : items ≡ p ∷ rest) wher
       let here : all ≡ loads ++ load_of_part p ∷ map load_of_part rest = given ∙ ap (λ (l : List Part). loads ++ map load_of_part l) split in
       let there : next ≡ loads ++ load_of_part p ∷ [] = pushed ∙ ap (λ (l : Outcome Made Stop). loads ++ l ∷ []) is in
       here ∙ sym (append_assoc loads (load_of_part p ∷ []) (map load_of_part rest)) ∙ ap (λ (l : List (Outcome Made Stop)). l ++ map load_of_part rest) (sym there)
+
+-- ---- what a gathering made
+
+load_of_came : (loaded : Loaded) → load_of_rows (came_as loaded) ≡ loaded
+load_of_came (Ok made) = refl
+load_of_came (Err s) = refl
+
+pub loaded_of_came : (result : Outcome Loaded Memory) (came : Outcome laws.Made Stop) → IfOk result (λ made. came_as made ≡ came) → IfOk result (λ loaded. loaded ≡ load_of_rows came)
+loaded_of_came (Ok loaded) came is = sym (load_of_came loaded) ∙ ap load_of_rows is
+loaded_of_came (Err e) came is = tt
 
 -- ---- they are fit
 

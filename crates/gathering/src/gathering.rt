@@ -12,7 +12,7 @@ use crate::held::Held;
 use crate::progress::{Going, advance};
 use plan_core::Plan;
 use plan_laws::typed_plans_give_typed_rows;
-use result_ops::Made;
+use result_ops::{Made, Stop};
 use rows_core::{Memory, Row};
 use std::alloc::Global;
 use std::marker::Model;

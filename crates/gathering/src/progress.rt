@@ -13,7 +13,7 @@ ghost use Rattle.gathering.specs.Steps.{counted};
 use crate::chain::rows_through;
 use crate::held::Held;
 use plan_core::{EvRefusal, Plan};
-use result_ops::Input;
+use result_ops::{Input, Stop};
 use rows_core::{Memory, Row};
 use std::alloc::Global;
 
