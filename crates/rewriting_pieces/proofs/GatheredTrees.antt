@@ -39,7 +39,7 @@ abbrev IsNotOne : PlainWay → Type 0
 IsNotOne (One r) = ⊥
 IsNotOne _ = Unit {0}
 
-as_chain : (p : PlainPlan) (c : Cuts) (way : PlainWay) → IsNotOne way → is_gathered (Node p c way) ≡ is_chain_of (Node p c way)
+pub as_chain : (p : PlainPlan) (c : Cuts) (way : PlainWay) → IsNotOne way → is_gathered (Node p c way) ≡ is_chain_of (Node p c way)
 as_chain (plan.Distinct child) c (One r) is = absurd is
 as_chain (plan.Distinct child) c _ is = refl
 as_chain (plan.Group child keys aggs) c (One r) is = absurd is

@@ -1,4 +1,4 @@
-mod GatheredTrees
+pub mod GatheredTrees
 mod Joined
 mod PieceFiles
 pub mod PieceTrees
