@@ -8,9 +8,11 @@ pub mod Above
 pub mod Nodes
 pub mod Fits
 pub mod TakenPieces
-pub mod Chains
 pub mod Arms
 pub mod Sizes
 pub mod Records
 pub mod RecordedParts
 pub mod StandingTrees
+pub mod DeltaArms
+pub mod RewritingArms
+pub mod GrownArms

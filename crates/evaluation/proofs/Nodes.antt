@@ -10,14 +10,14 @@ use Rattle.growth_laws.specs.KeptResults.{KeptResults}
 use Rattle.growth_laws.specs.Lists.{Extents}
 use Rattle.growth_laws.specs.Making.{made_before, taken_in_of, made_of_one, computed_one, made_of_two, computed_two, made_of_grown, grown_one, made_of_left, grown_left, made_of_right, grown_right, made_of_both, grown_both, added_of_child, passed_delta, added_of_distinct, distinct_delta, added_of_join, join_delta}
 use Rattle.growth_laws.specs.Parts.{plan_at}
-use Rattle.growth_laws.specs.Pieces.{Piece, pieces_of, pieces_in, pieces_of_delta, pieces_in_delta}
+use Rattle.growth_laws.specs.Pieces.{Piece, pieces_of, pieces_of_delta}
 use Rattle.growth_laws.specs.Trees.{made_by, made_in, added_by, added_in}
 use Rattle.result_ops.specs.declared.made.Made.{Made}
 use Rattle.result_ops.specs.declared.made.Added.{Added}
 use Rattle.result_ops.specs.declared.refusal.MakeRefusal.{MakeRefusal}
 use Rattle.result_ops.specs.Bounds.{limit, PassesBounds}
 use Rattle.result_ops.specs.Steps.{made_of, added_of, Makes, MakesGrown, Adds, taken_of_one, taken_of_two}
-use Rattle.evaluation.specs.Evaluating.{Evaluates, EvaluatesDelta}
+use Rattle.evaluation.specs.Evaluating.{Tree, Computed, Grown, DeltaTree, Passed}
 use Rattle.evaluation.specs.Laws.{GivesValid, MakesResults, AddsResults}
 use Rattle.evaluation.specs.Loading.{Loads, HoldAll}
 use Rattle.evaluation.specs.Parts.{pieces_behind}
@@ -25,24 +25,6 @@ use Rattle.evaluation.specs.Passing.{Passes, DeltaPasses}
 use Rattle.evaluation.proofs.Above as law
 use Rattle.evaluation.proofs.Loads.{hold_two, hold_four}
 use Rattle.evaluation.proofs.Steps.{makes_more, adds_more, made_stops, added_stops, made_stops_added, added_stops_added, on_ok}
-
--- what a tree and a delta answer, and what a node does
-abbrev pub Tree : PlainRewriting → Loads → Loads → Result Made MakeRefusal → Type 0
-Tree r = Evaluates (λ extents results. Passes extents results r) (plan_at r) (λ extents results. made_by extents results r) (pieces_of r)
-
-abbrev pub Computed : PlainPlan → Cuts → PlainWay → Loads → Loads → Result Made MakeRefusal → Type 0
-Computed plan cuts way = Evaluates (λ extents results. Passes extents results (Node plan cuts way)) plan (λ extents results. made_in extents results plan cuts way) (pieces_in plan way)
-
-abbrev pub Grown : PlainPlan → Cuts → Hit → PlainWay → Made → Loads → Loads → Result Made MakeRefusal → Type 0
-Grown plan cuts hit way old before after result =
-    (extents : Extents) (results : KeptResults) (rest : List Piece) → made_before (results hit.id) ≡ made_of old → HoldAll extents results (pieces_behind way ++ rest) (reverse before)
-    → Makes (Passes extents results (Node plan cuts way)) plan (made_in extents results plan cuts way) result × OnOk result (HoldAll extents results rest (reverse after))
-
-abbrev pub DeltaTree : PlainDelta → Loads → Loads → Result Added MakeRefusal → Type 0
-DeltaTree d = EvaluatesDelta (λ extents results. DeltaPasses extents results d) (λ extents results. added_by extents results d) (pieces_of_delta d)
-
-abbrev pub Passed : PlainPlan → Cuts → Cuts → PlainDeltaWay → Loads → Loads → Result Added MakeRefusal → Type 0
-Passed plan old new way = EvaluatesDelta (λ extents results. DeltaPasses extents results (Change plan old new way)) (λ extents results. added_in extents results plan old new way) (pieces_in_delta way)
 
 module _ (makes : MakesResults) (adds : AddsResults) (valid : GivesValid) where
   -- ---- computed nodes

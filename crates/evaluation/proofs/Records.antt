@@ -13,12 +13,14 @@ use Rattle.growth_laws.specs.Trees.{made_by}
 use Rattle.result_ops.specs.declared.made.Made.{Made}
 use Rattle.result_ops.specs.declared.refusal.MakeRefusal.{MakeRefusal}
 use Rattle.result_ops.specs.Steps.{made_of}
-use Rattle.evaluation.specs.Evaluating.{MakesFit}
+use Rattle.evaluation.specs.Evaluating.{MakesFit, Tree}
 use Rattle.evaluation.specs.Loading.{Loads, HoldAll}
 use Rattle.evaluation.specs.Parts.{pieces_behind}
-use Rattle.evaluation.specs.Recording.{is_made, is_recorded, if_recorded, recorded_of, recorded_in, recorded_of_delta, recorded_in_delta, recorded_below, AreMade, Records, RecordsOwn}
+use Rattle.evaluation.specs.declared.recording.MadePlace.{MadePlace}
+use Rattle.evaluation.specs.declared.recording.Recording.{Recording}
+use Rattle.evaluation.specs.declared.recording.Recording.TheVariants as recording
+use Rattle.evaluation.specs.Recording.{is_made, is_recorded, if_recorded, recorded_of, recorded_in, recorded_of_delta, recorded_in_delta, recorded_below, AreMade, AreRecorded, HasRecorded, Records, RecordsIf, RecordsOwn}
 use Rattle.evaluation.proofs.Loads.{hold_two, gathered_pieces, other_pieces, gathered_delta_pieces, other_delta_pieces, grown_pieces}
-use Rattle.evaluation.proofs.Nodes.{Tree}
 use Rattle.evaluation.proofs.TakenPieces.{TakesHeld}
 
 pub made_grown : (hit : Hit) (of : parts.Parts) → is_made (grown_way hit of) ≡ true
@@ -27,63 +29,71 @@ made_grown hit (parts.LeftGrew' _ _ _ _ _ _ _) = refl
 made_grown hit (parts.RightGrew' _ _ _ _ _ _ _) = refl
 made_grown hit (parts.BothGrew' _ _ _ _ _ _ _ _ _ _ _ _ _ _) = refl
 
--- a refusal records nothing that counts
-pub no_record : {X : Type 0} (B : Type 0) (result : Result X MakeRefusal) (e : MakeRefusal) → result ≡ Err e → OnOk result B
-no_record B result e is = subst (λ result. OnOk result B) (sym is) tt
-
 -- ---- of one part after another
 
-both_made : (extents : Extents) (results : KeptResults) (ts us : List PlainRewriting) (ms ns : List Made) → AreMade extents results ts ms → AreMade extents results us ns → AreMade extents results (ts ++ us) (ms ++ ns)
-both_made extents results [] us [] ns first second = second
-both_made extents results [] us (m ∷ ms) ns first second = absurd first
-both_made extents results (t ∷ ts) us [] ns first second = absurd first
-both_made extents results (t ∷ ts) us (m ∷ ms) ns first second = (first.0, both_made extents results ts us ms ns first.1 second)
+module _ (extents : Extents) (results : KeptResults) where
+  both_made : (ts us : List PlainRewriting) (ms ns : List MadePlace) → AreMade extents results ts ms → AreMade extents results us ns → AreMade extents results (ts ++ us) (ms ++ ns)
+  both_made [] us [] ns first second = second
+  both_made [] us (m ∷ ms) ns first second = absurd first
+  both_made (t ∷ ts) us [] ns first second = absurd first
+  both_made (t ∷ ts) us (m ∷ ms) ns first second = (first.0, both_made ts us ms ns first.1 second)
 
-joined : (f g h ms ns : List Made) → g ≡ f ++ ms → h ≡ g ++ ns → h ≡ f ++ (ms ++ ns)
-joined f g h ms ns first second = second ∙ ap (λ xs. xs ++ ns) first ∙ append_assoc f ms ns
+  joined : (ts us : List PlainRewriting) (f g h : List MadePlace) → AreRecorded extents results ts f g → AreRecorded extents results us g h → AreRecorded extents results (ts ++ us) f h
+  joined ts us f g h first second =
+      (first.0 ++ second.0, second.1 ∙ ap (λ xs. xs ++ second.0) first.1 ∙ append_assoc f first.0 second.0, both_made ts us first.0 second.0 first.2 second.2)
 
-pub then_records : (ps qs : List Piece) (ts us : List PlainRewriting) (a b c : Loads) (f g h : List Made) → Records ps ts a b f g → Records qs us b c g h → Records (ps ++ qs) (ts ++ us) a c f h
+  both_recorded : (ts us : List PlainRewriting) (f g h : Recording) → HasRecorded extents results ts f g → HasRecorded extents results us g h → HasRecorded extents results (ts ++ us) f h
+  both_recorded ts us recording.Off recording.Off recording.Off first second = tt
+  both_recorded ts us (recording.On f) (recording.On g) (recording.On h) first second = joined ts us f.items g.items h.items first second
+  both_recorded ts us recording.Off (recording.On g) h first second = absurd first
+  both_recorded ts us (recording.On f) recording.Off h first second = absurd first
+  both_recorded ts us recording.Off recording.Off (recording.On h) first second = absurd second
+  both_recorded ts us (recording.On f) (recording.On g) recording.Off first second = absurd second
+
+  nothing_recorded : (f : Recording) → HasRecorded extents results [] f f
+  nothing_recorded recording.Off = tt
+  nothing_recorded (recording.On f) = ([], sym (append-nil f.items), tt)
+
+pub then_records : (ps qs : List Piece) (ts us : List PlainRewriting) (a b c : Loads) (f g h : Recording) → Records ps ts a b f g → Records qs us b c g h → Records (ps ++ qs) (ts ++ us) a c f h
 then_records ps qs ts us a b c f g h first second = λ extents results rest held.
     let part = first extents results (qs ++ rest) (hold_two extents results (reverse a) ps qs rest held) in
-    let next = second extents results rest part.0 in (
-      next.0,
-      (part.1.0 ++ next.1.0, joined f g h part.1.0 next.1.0 part.1.1 next.1.1, both_made extents results ts us part.1.0 next.1.0 part.1.2 next.1.2),
-    )
+    let next = second extents results rest part.0 in
+    (next.0, both_recorded extents results ts us f g h part.1 next.1)
 
 -- ---- no result
 
-pub none_recorded : (before : Loads) (f : List Made) → Records [] [] before before f f
-none_recorded before f = λ extents results rest held. (held, ([], sym (append-nil f), tt))
+pub none_recorded : (before : Loads) (f : Recording) → Records [] [] before before f f
+none_recorded before f = λ extents results rest held. (held, nothing_recorded extents results f)
 
-taken_records : {X : Type 0} (piece : Piece) (before after : Loads) (f : List Made) (result : Result X MakeRefusal)
+taken_records : {X : Type 0} (piece : Piece) (before after : Loads) (f : Recording) (result : Result X MakeRefusal)
     → ((extents : Extents) (results : KeptResults) (rest : List Piece) → HoldAll extents results (piece ∷ rest) (reverse before) → OnOk result (HoldAll extents results rest (reverse after)))
     → OnOk result (Records (piece ∷ []) [] before after f f)
-taken_records piece before after f (Ok x) held = λ extents results rest all. (held extents results rest all, ([], sym (append-nil f), tt))
+taken_records piece before after f (Ok x) held = λ extents results rest all. (held extents results rest all, nothing_recorded extents results f)
 taken_records piece before after f (Err e) held = tt
 
-pub piece_records : (piece : Piece) (before after : Loads) (f : List Made) (result : Result Made MakeRefusal) → TakesHeld before after result → OnOk result (Records (piece ∷ []) [] before after f f)
+pub piece_records : (piece : Piece) (before after : Loads) (f : Recording) (result : Result Made MakeRefusal) → TakesHeld before after result → OnOk result (Records (piece ∷ []) [] before after f f)
 piece_records piece before after f result held = taken_records piece before after f result (λ extents results rest all. (held extents results piece rest all).1)
 
-module _ (p : PlainPlan) (c : Cuts) (way : PlainWay) (before after : Loads) (f : List Made) where
+module _ (p : PlainPlan) (c : Cuts) (way : PlainWay) (before after : Loads) (f : Recording) where
   pub gathered_records : (result : Result Made MakeRefusal) → is_gathered (Node p c way) ≡ true → TakesHeld before after result
       → OnOk result (Records (pieces_of (Node p c way)) (recorded_below (Node p c way)) before after f f)
   gathered_records result chain held =
       subst (λ ps. OnOk result (Records ps (recorded_below (Node p c way)) before after f f)) (sym (gathered_pieces p c way chain))
       (subst (λ ts. OnOk result (Records (Gathered p c ∷ []) ts before after f f)) (sym (ap (λ b. cond b [] (recorded_in way)) chain)) (piece_records (Gathered p c) before after f result held))
 
-  pub other_records : (g : List Made) (result : Result Made MakeRefusal) → is_gathered (Node p c way) ≡ false → OnOk result (Records (pieces_in p way) (recorded_in way) before after f g)
+  pub other_records : (g : Recording) (result : Result Made MakeRefusal) → is_gathered (Node p c way) ≡ false → OnOk result (Records (pieces_in p way) (recorded_in way) before after f g)
       → OnOk result (Records (pieces_of (Node p c way)) (recorded_below (Node p c way)) before after f g)
   other_records g result chain held =
       subst (λ ps. OnOk result (Records ps (recorded_below (Node p c way)) before after f g)) (sym (other_pieces p c way chain))
       (subst (λ ts. OnOk result (Records (pieces_in p way) ts before after f g)) (sym (ap (λ b. cond b [] (recorded_in way)) chain)) held)
 
-module _ (p : PlainPlan) (old new : Cuts) (way : PlainDeltaWay) (before after : Loads) (f : List Made) where
+module _ (p : PlainPlan) (old new : Cuts) (way : PlainDeltaWay) (before after : Loads) (f : Recording) where
   pub chain_records : (made : Made) → is_chain_delta (Change p old new way) ≡ true → TakesHeld before after (Ok made) → Records (pieces_of_delta (Change p old new way)) (recorded_of_delta (Change p old new way)) before after f f
   chain_records made chain held =
       subst (λ ps. Records ps (recorded_of_delta (Change p old new way)) before after f f) (sym (gathered_delta_pieces p old new way chain))
       (subst (λ ts. Records (Gathered p (added_cuts old new) ∷ []) ts before after f f) (sym (ap (λ b. cond b [] (recorded_in_delta way)) chain)) (piece_records (Gathered p (added_cuts old new)) before after f (Ok made) held))
 
-  pub other_delta_records : {X : Type 0} (g : List Made) (result : Result X MakeRefusal) → is_chain_delta (Change p old new way) ≡ false → OnOk result (Records (pieces_in_delta way) (recorded_in_delta way) before after f g)
+  pub other_delta_records : {X : Type 0} (g : Recording) (result : Result X MakeRefusal) → is_chain_delta (Change p old new way) ≡ false → OnOk result (Records (pieces_in_delta way) (recorded_in_delta way) before after f g)
       → OnOk result (Records (pieces_of_delta (Change p old new way)) (recorded_of_delta (Change p old new way)) before after f g)
   other_delta_records g result chain held =
       subst (λ ps. OnOk result (Records ps (recorded_of_delta (Change p old new way)) before after f g)) (sym (other_delta_pieces p old new way chain))
@@ -91,7 +101,7 @@ module _ (p : PlainPlan) (old new : Cuts) (way : PlainDeltaWay) (before after : 
 
 -- ---- behind an earlier result
 
-pub then_grown : (p : PlainPlan) (hit : Hit) (of : parts.Parts) (ts : List PlainRewriting) (before mid after : Loads) (f g : List Made) (old : Made) (result : Result Made MakeRefusal) → TakesHeld before mid (Ok old)
+pub then_grown : (p : PlainPlan) (hit : Hit) (of : parts.Parts) (ts : List PlainRewriting) (before mid after : Loads) (f g : Recording) (old : Made) (result : Result Made MakeRefusal) → TakesHeld before mid (Ok old)
     → OnOk result (Records (pieces_behind (grown_way hit of)) ts mid after f g) → OnOk result (Records (pieces_in p (grown_way hit of)) ts before after f g)
 then_grown p hit of ts before mid after f g old (Ok made) held records = λ extents results rest all.
     records extents results rest (held extents results (Entry p hit.id) (pieces_behind (grown_way hit of) ++ rest) (subst (λ ps. HoldAll extents results (ps ++ rest) (reverse before)) (grown_pieces hit p of) all)).1
@@ -99,7 +109,7 @@ then_grown p hit of ts before mid after f g old (Err e) held records = tt
 
 -- ---- of a tree itself
 
-module _ (r : PlainRewriting) (before after : Loads) (made : Made) (g h : List Made) where
+module _ (r : PlainRewriting) (before after : Loads) (made : Made) (g h : Recording) where
   pub own_fit : (plan : PlainPlan) (pieces : List Piece) (result : Result Made MakeRefusal) → RecordsOwn r made g h result → MakesFit plan pieces before after (Ok made) → MakesFit plan pieces before after result
   own_fit plan pieces (Ok same) own fit = subst (λ m. MakesFit plan pieces before after (Ok m)) (sym own.0) fit
   own_fit plan pieces (Err e) own fit = λ schemas rest typed are. tt
@@ -108,24 +118,23 @@ module _ (r : PlainRewriting) (before after : Loads) (made : Made) (g h : List M
   own_made (Ok same) own tree = subst (λ m. Tree r before after (Ok m)) (sym own.0) tree
   own_made (Err e) own tree = subst (λ e. Tree r before after (Err e)) (sym own) (λ extents results rest held. (tt, tt))
 
-own_is_made : (extents : Extents) (results : KeptResults) (tree : PlainRewriting) (made : Made) (b : Bool) → made_by extents results tree ≡ Ok (made_of made) → AreMade extents results (if_recorded b tree) (if_recorded b made)
-own_is_made extents results tree made true is = (is, tt)
-own_is_made extents results tree made false is = tt
+own_recorded : (extents : Extents) (results : KeptResults) (tree : PlainRewriting) (made : Made) (b : Bool) (g h : Recording) → made_by extents results tree ≡ Ok (made_of made) → RecordsIf b tree made g h
+    → HasRecorded extents results (if_recorded b tree) g h
+own_recorded extents results tree made false g h is own = subst (HasRecorded extents results [] g) (sym own) (nothing_recorded extents results g)
+own_recorded extents results tree made true recording.Off recording.Off is own = tt
+own_recorded extents results tree made true (recording.On g) (recording.On h) is own =
+    (own.0 ∷ [], own.2, ((own.1.0, own.1.1, is ∙ ap (λ (m : Made). Ok (made_of m)) (sym own.1.2)), tt))
+own_recorded extents results tree made true recording.Off (recording.On h) is own = absurd own
+own_recorded extents results tree made true (recording.On g) recording.Off is own = absurd own
 
-module _ (p : PlainPlan) (c : Cuts) (way : PlainWay) (before after : Loads) (made : Made) (f g h : List Made) where
+module _ (p : PlainPlan) (c : Cuts) (way : PlainWay) (before after : Loads) (made : Made) (f g h : Recording) where
   pub own_records : (result : Result Made MakeRefusal) → RecordsOwn (Node p c way) made g h result → Tree (Node p c way) before after (Ok made) → Records (pieces_of (Node p c way)) (recorded_below (Node p c way)) before after f g
       → OnOk result (Records (pieces_of (Node p c way)) (recorded_of (Node p c way)) before after f h)
   own_records (Ok same) own tree records = λ extents results rest held.
       let part = records extents results rest held in
-      let mine = if_recorded (is_recorded (Node p c way)) made in
-      let is = (tree extents results rest held).0.0 in (
-        part.0,
-        (
-          part.1.0 ++ mine,
-          joined f g h part.1.0 mine part.1.1 own.1,
-          both_made extents results (recorded_below (Node p c way)) (if_recorded (is_recorded (Node p c way)) (Node p c way)) part.1.0 mine part.1.2 (own_is_made extents results (Node p c way) made (is_recorded (Node p c way)) is),
-        ),
-      )
+      let counts = is_recorded (Node p c way) in
+      let mine = own_recorded extents results (Node p c way) made counts g h (tree extents results rest held).0.0 own.1 in
+      (part.0, both_recorded extents results (recorded_below (Node p c way)) (if_recorded counts (Node p c way)) f g h part.1 mine)
   own_records (Err e) own tree records = tt
 
 pub then_on_ok : {X : Type 0} (A B : Type 0) (result : Result X MakeRefusal) → (A → B) → OnOk result A → OnOk result B

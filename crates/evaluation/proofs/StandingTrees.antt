@@ -15,9 +15,9 @@ use Rattle.growth_laws.specs.MadePlaces.{Place, Standing, nowhere, both_standing
 use Rattle.growth_laws.specs.Parts.{plan_at, cuts_at}
 use Rattle.growth_laws.specs.Pieces.{is_chain_of, is_gathered, is_chain_delta}
 use Rattle.growth_laws.proofs.MadeOnes.{Fits, Aligned}
-use Rattle.evaluation.specs.Gathering.{gathers}
+use Rattle.rewriting_pieces.specs.Operators.{gathers}
 use Rattle.evaluation.specs.Recording.{is_made, is_recorded, if_recorded, recorded_of, recorded_in, recorded_of_delta, recorded_in_delta, IsFoundBelow}
-use Rattle.evaluation.proofs.Chains.{as_chain, gathered_one}
+use Rattle.rewriting_pieces.proofs.GatheredTrees.{as_chain, gathered_one}
 
 -- ---- what is gathered records nothing on the way
 

@@ -23,14 +23,13 @@ use Rattle.result_ops.specs.declared.refusal.MakeRefusal.{MakeRefusal}
 use Rattle.result_ops.specs.Bounds.{IsBounded}
 use Rattle.result_ops.specs.Fitting.{IsFit, IsOfKinds, FitRows, StandsInOrder}
 use Rattle.result_ops.specs.Steps.{made_of, added_of}
-use Rattle.evaluation.specs.Evaluating.{IsReady, IsReadyWith, MakesFit, MakesFitWith, AddsFit}
+use Rattle.evaluation.specs.Evaluating.{IsReady, IsReadyWith, MakesFit, MakesFitWith, AddsFit, Tree, Computed, Grown, DeltaTree}
 use Rattle.evaluation.specs.Laws.{GivesValid, MakesResults, AddsResults}
 use Rattle.evaluation.specs.Loading.{Loads, HoldAll, AreFit, Took, IsAbove, piece_plan}
 use Rattle.evaluation.specs.Parts.{IsFormed, IsFormedDelta, pieces_behind}
 use Rattle.evaluation.specs.Passing.{Passes}
 use Rattle.evaluation.proofs.Above as law
 use Rattle.evaluation.proofs.Loads.{gathered_pieces, gathered_delta_pieces, grown_pieces}
-use Rattle.evaluation.proofs.Nodes.{Tree, Computed, Grown, DeltaTree}
 use Rattle.evaluation.proofs.Steps.{took_makes, took_stops, took_stops_added, from_ok}
 
 -- what taking a piece needs and says

@@ -39,3 +39,9 @@ abbrev pub AddsResults : Type 0
 AddsResults =
     (extents : Extents) (results : KeptResults) (plan : PlainPlan) (old new : Cuts) (d : PlainDelta) → AreIntervals old → IsDelta (kept_among extents results) plan old new d
     → Extends plan (plan_lists extents plan old) (plan_lists extents plan new) (added_by extents results d)
+
+pub record Laws : Type 0 where
+  pub typed : GivesTyped
+  pub valid : GivesValid
+  pub makes : MakesResults
+  pub adds : AddsResults

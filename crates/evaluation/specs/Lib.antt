@@ -3,5 +3,4 @@ pub mod Parts
 pub mod Passing
 pub mod Evaluating
 pub mod Laws
-pub mod Gathering
 pub mod Recording

@@ -2,6 +2,7 @@
 -- which they are made.
 use Rattle.std.specs.Prelude.{◌≡◌, Bool, true, false, ◌&&◌, List, [], ◌∷◌, ◌++◌, reverse, Result, Ok, Err, if◌then◌else◌}
 use Rattle.std.specs.List.{Contains}
+use Rattle.plan_core.specs.PlainPlan.{plan_of}
 use Rattle.rewrite_core.specs.PlainRewriting.{PlainRewriting, Node, PlainWay, Scan, One, Two, Read, Tail, LeftGrew, RightGrew, BothGrew, PlainDelta, Change, PlainDeltaWay, Unchanged, NewRows, OfChild, OfDistinct, OfJoin}
 use Rattle.growth_laws.specs.KeptResults.{KeptResults}
 use Rattle.growth_laws.specs.Lists.{Extents}
@@ -13,6 +14,9 @@ use Rattle.result_ops.specs.declared.made.Made.{Made}
 use Rattle.result_ops.specs.declared.refusal.MakeRefusal.{MakeRefusal}
 use Rattle.result_ops.specs.declared.refusal.MakeRefusal.TheVariants as refusal
 use Rattle.result_ops.specs.Steps.{made_of}
+use Rattle.evaluation.specs.declared.recording.MadePlace.{MadePlace}
+use Rattle.evaluation.specs.declared.recording.Recording.{Recording}
+use Rattle.evaluation.specs.declared.recording.Recording.TheVariants as recording
 use Rattle.evaluation.specs.Loading.{Loads, HoldAll}
 
 -- a kept result that is read isn't made
@@ -65,25 +69,58 @@ recorded_below (Node plan cuts way) = if is_gathered (Node plan cuts way) then [
 
 -- ---- their results
 
--- each is what the definitions give of its tree
-abbrev pub AreMade : Extents → KeptResults → List PlainRewriting → List Made → Type 0
+-- a recorded result is of the tree's plan at the tree's cut, and what the definitions give of the tree
+abbrev pub IsMadePlace : Extents → KeptResults → PlainRewriting → MadePlace → Type 0
+IsMadePlace extents results tree place =
+    (plan_of place.plan ≡ plan_at tree) × (place.cuts ≡ cuts_at tree) × (made_by extents results tree ≡ Ok (made_of place.made))
+
+-- one recorded result of each tree
+abbrev pub AreMade : Extents → KeptResults → List PlainRewriting → List MadePlace → Type 0
 AreMade extents results [] [] = Unit {0}
-AreMade extents results (tree ∷ trees) (made ∷ mades) = (made_by extents results tree ≡ Ok (made_of made)) × AreMade extents results trees mades
+AreMade extents results (tree ∷ trees) (place ∷ places) = IsMadePlace extents results tree place × AreMade extents results trees places
 AreMade extents results _ _ = ⊥
 
 -- those of the trees come behind those that were recorded before
-abbrev pub AreRecorded : Extents → KeptResults → List PlainRewriting → List Made → List Made → Type 0
-AreRecorded extents results trees before after = (mades : List Made) × (after ≡ before ++ mades) × AreMade extents results trees mades
+abbrev pub AreRecorded : Extents → KeptResults → List PlainRewriting → List MadePlace → List MadePlace → Type 0
+AreRecorded extents results trees before after = (places : List MadePlace) × (after ≡ before ++ places) × AreMade extents results trees places
+
+-- the results that are recorded; none where they aren't
+abbrev pub places_of : Recording → List MadePlace
+places_of recording.Off = []
+places_of (recording.On places) = places.items
+
+-- they do where results are recorded
+abbrev pub HasRecorded : Extents → KeptResults → List PlainRewriting → Recording → Recording → Type 0
+HasRecorded extents results trees recording.Off recording.Off = Unit {0}
+HasRecorded extents results trees (recording.On before) (recording.On after) = AreRecorded extents results trees before.items after.items
+HasRecorded extents results trees _ _ = ⊥
 
 -- the pieces are taken, and the trees' results are recorded
-abbrev pub Records : List Piece → List PlainRewriting → Loads → Loads → List Made → List Made → Type 0
+abbrev pub Records : List Piece → List PlainRewriting → Loads → Loads → Recording → Recording → Type 0
 Records pieces trees before after old new =
     (extents : Extents) (results : KeptResults) (rest : List Piece) → HoldAll extents results (pieces ++ rest) (reverse before)
-    → HoldAll extents results rest (reverse after) × AreRecorded extents results trees old new
+    → HoldAll extents results rest (reverse after) × HasRecorded extents results trees old new
 
--- a tree's own result is recorded, if it counts
-abbrev pub RecordsOwn : PlainRewriting → Made → List Made → List Made → Result Made MakeRefusal → Type 0
-RecordsOwn r made before after (Ok same) = (same ≡ made) × (after ≡ before ++ if_recorded (is_recorded r) made)
+-- ---- a tree's own result
+
+abbrev pub IsPlaceOf : PlainRewriting → Made → MadePlace → Type 0
+IsPlaceOf r made place = (plan_of place.plan ≡ plan_at r) × (place.cuts ≡ cuts_at r) × (place.made ≡ made)
+
+abbrev pub HasPlaceOf : PlainRewriting → Made → List MadePlace → List MadePlace → Type 0
+HasPlaceOf r made before after = (place : MadePlace) × IsPlaceOf r made place × (after ≡ before ++ place ∷ [])
+
+abbrev pub RecordsOne : PlainRewriting → Made → Recording → Recording → Type 0
+RecordsOne r made recording.Off recording.Off = Unit {0}
+RecordsOne r made (recording.On before) (recording.On after) = HasPlaceOf r made before.items after.items
+RecordsOne r made _ _ = ⊥
+
+abbrev pub RecordsIf : Bool → PlainRewriting → Made → Recording → Recording → Type 0
+RecordsIf true r made before after = RecordsOne r made before after
+RecordsIf false r made before after = after ≡ before
+
+-- it is recorded, if it counts
+abbrev pub RecordsOwn : PlainRewriting → Made → Recording → Recording → Result Made MakeRefusal → Type 0
+RecordsOwn r made before after (Ok same) = (same ≡ made) × RecordsIf (is_recorded r) r made before after
 RecordsOwn r made before after (Err e) = e ≡ refusal.Memory
 
 -- ---- the places

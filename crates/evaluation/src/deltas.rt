@@ -1,23 +1,21 @@
 //! What deltas add of loaded pieces.
-ghost use Rattle.std.specs.Prelude.{◌≡◌, false, OnOk};
+ghost use Rattle.std.specs.Prelude.{◌≡◌, false};
 ghost use Rattle.plan_core.specs.PlainPlan.{plan_of};
 ghost use Rattle.growth_laws.specs.Pieces.{is_chain_delta, pieces_of_delta, pieces_in_delta};
 ghost use Rattle.growth_laws.specs.Making.{kept_rows, nothing_added};
-ghost use Rattle.growth_laws.specs.Trees.{added_by, added_in};
 ghost use Rattle.result_ops.specs.Steps.{added_of};
 ghost use Rattle.rewrite_core.specs.PlainRewriting.{Change, delta_of, delta_way_of};
-ghost use Rattle.evaluation.specs.Evaluating.{IsReady, AddsFit, EvaluatesDelta};
+ghost use Rattle.evaluation.specs.Evaluating.{IsReady, DeltaAnswers, DeltaWayAnswers};
 ghost use Rattle.evaluation.specs.Parts.{IsFormedDelta};
-ghost use Rattle.evaluation.specs.Passing.{DeltaPasses};
-ghost use Rattle.evaluation.specs.Recording.{Records, recorded_of_delta, recorded_in_delta};
 
-use crate::gathered::is_gathered_delta;
 use crate::laws::results_are_made;
 use crate::loaded::{Loaded, taken};
+use crate::recording::Recording;
 use crate::rewritings::made;
 use plan_core::Plan;
 use result_ops::{Added, Made, MakeRefusal, added_of_child, added_of_distinct, added_of_join};
 use rewrite_core::{Delta, DeltaWay};
+use rewriting_pieces::is_chain_delta;
 use row_blob::Kept;
 use rows_core::Cut;
 use std::alloc::Global;
@@ -29,22 +27,16 @@ pub fn added(
     alloc: Global,
     delta: &Delta,
     pieces: &mut Vec<Loaded>,
-    found: &mut Vec<Made>,
+    found: &mut Recording,
 ) -> Result<Added, MakeRefusal>
     requires formed { IsFormedDelta (delta_of delta.now) }
     requires ready { IsReady (plan_of delta.now.plan) (pieces_of_delta (delta_of delta.now))
         pieces.old.items }
-    ensures fit { AddsFit (plan_of delta.now.plan) (pieces_of_delta (delta_of delta.now))
-        pieces.old.items pieces.new.items result }
-    ensures added { EvaluatesDelta (λ extents results. DeltaPasses extents results (delta_of delta.now))
-        (λ extents results. added_by extents results (delta_of delta.now))
-        (pieces_of_delta (delta_of delta.now)) pieces.old.items pieces.new.items result }
-    ensures places { OnOk result (Records (pieces_of_delta (delta_of delta.now))
-        (recorded_of_delta (delta_of delta.now)) pieces.old.items pieces.new.items found.old.items
-        found.new.items) }
+    ensures { DeltaAnswers (delta_of delta.now) pieces.old.items pieces.new.items found.old found.new
+        result }
 {
     results_are_made();
-    if is_gathered_delta(delta) {
+    if is_chain_delta(delta) {
         Ok(rows_added(alloc, taken(pieces)?))
     } else {
         let (old, new) = (delta.old.items(), delta.new.items());
@@ -62,23 +54,14 @@ fn added_in(
     _old: &[Cut],
     _new: &[Cut],
     pieces: &mut Vec<Loaded>,
-    found: &mut Vec<Made>,
+    found: &mut Recording,
 ) -> Result<Added, MakeRefusal>
     requires formed { IsFormedDelta (Change (plan_of plan.now) _old.now _new.now (delta_way_of way.now)) }
     requires parts { is_chain_delta (Change (plan_of plan.now) _old.now _new.now (delta_way_of way.now))
         ≡ false }
     requires ready { IsReady (plan_of plan.now) (pieces_in_delta (delta_way_of way.now)) pieces.old.items }
-    ensures fit { AddsFit (plan_of plan.now) (pieces_in_delta (delta_way_of way.now))
-        pieces.old.items pieces.new.items result }
-    ensures added { EvaluatesDelta
-        (λ extents results. DeltaPasses extents results
-        (Change (plan_of plan.now) _old.now _new.now (delta_way_of way.now)))
-        (λ extents results. added_in extents results (plan_of plan.now) _old.now _new.now
-        (delta_way_of way.now))
-        (pieces_in_delta (delta_way_of way.now)) pieces.old.items pieces.new.items result }
-    ensures places { OnOk result (Records (pieces_in_delta (delta_way_of way.now))
-        (recorded_in_delta (delta_way_of way.now)) pieces.old.items pieces.new.items found.old.items
-        found.new.items) }
+    ensures { DeltaWayAnswers (plan_of plan.now) _old.now _new.now (delta_way_of way.now)
+        pieces.old.items pieces.new.items found.old found.new result }
 {
     results_are_made();
     match way {

@@ -8,7 +8,7 @@ ghost use Rattle.growth_laws.specs.KeptResults.{KeptResults, kept_among};
 ghost use Rattle.growth_laws.specs.Lists.{Extents};
 ghost use Rattle.growth_laws.specs.MadePlaces.{made_places};
 ghost use Rattle.growth_laws.specs.Parts.{IsOwn};
-ghost use Rattle.evaluation.specs.Laws.{GivesTyped, GivesValid, MakesResults, AddsResults};
+ghost use Rattle.evaluation.specs.Laws.{Laws};
 ghost use Rattle.evaluation.specs.Recording.{recorded_of, recorded_below, IsFoundBelow};
 
 use growth_laws::{results_of_deltas, results_of_parts, results_of_rewritings};
@@ -18,10 +18,7 @@ use rows_core::total_order;
 /// Typed plans give typed and valid rows, rewritings make the results of their plans, and deltas add what
 /// comes behind them.
 pub fn results_are_made()
-    ensures typed { GivesTyped }
-    ensures valid { GivesValid }
-    ensures makes { MakesResults }
-    ensures adds { AddsResults }
+    ensures { Laws }
 {
     typed_plans_give_typed_rows();
     typed_plans_give_valid_rows();

@@ -3,13 +3,14 @@
 #![tactic(auto)]
 
 mod deltas;
-mod gathered;
 mod laws;
-pub mod loaded;
+mod loaded;
 mod recorded;
+pub mod recording;
 mod results;
 mod rewritings;
 
 pub use laws::{made_places_are_recorded, recorded_results_are_results};
 pub use loaded::Loaded;
+pub use recording::MadePlace;
 pub use results::{evaluate, evaluate_recording};

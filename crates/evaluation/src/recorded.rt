@@ -1,10 +1,11 @@
 //! Results that are recorded on the way.
-ghost use Rattle.std.specs.Prelude.{◌≡◌, IfOk, ◌++◌, [], ◌∷◌};
+ghost use Rattle.std.specs.Prelude.{◌≡◌, IfOk, OnOk};
 ghost use Rattle.plan_core.specs.PlainPlan.{plan_of};
 ghost use Rattle.growth_laws.specs.MadePlaces.{counts_below};
 ghost use Rattle.rewrite_core.specs.PlainRewriting.{rewriting_of, way_of};
-ghost use Rattle.evaluation.specs.Recording.{is_made, RecordsOwn};
+ghost use Rattle.evaluation.specs.Recording.{is_made, IsPlaceOf, HasPlaceOf, RecordsOne, RecordsOwn};
 
+use crate::recording::{MadePlace, Recording};
 use plan_core::Plan;
 use result_ops::{Made, MakeRefusal};
 use rewrite_core::{Rewriting, Way};
@@ -38,14 +39,41 @@ fn counts_below(plan: &Plan) -> bool
     }
 }
 
-// A copy of the result comes behind the others.
-fn record(alloc: Global, made: &Made, found: &mut Vec<Made>) -> Result<(), Memory>
-    ensures { IfOk result (λ _. found.new.items ≡ found.old.items ++ made.now ∷ []) }
+// A copy of the result, with its plan and its cut.
+fn place_of(alloc: Global, r: &Rewriting, made: &Made) -> Result<MadePlace, Memory>
+    ensures { IfOk result (λ place. IsPlaceOf (rewriting_of r.now) made.now place) }
 {
+    let plan = r.plan.try_copy(alloc)?;
+    let cuts = r.cuts.try_copy(alloc)?;
     let kept = made.kept.try_copy(alloc)?;
     let taken_in = made.taken_in;
-    found.push(Made { kept, taken_in })?;
+    Ok(MadePlace {
+        plan,
+        cuts,
+        made: Made { kept, taken_in },
+    })
+}
+
+fn push_place(
+    alloc: Global,
+    r: &Rewriting,
+    made: &Made,
+    places: &mut Vec<MadePlace>,
+) -> Result<(), Memory>
+    ensures { OnOk result (HasPlaceOf (rewriting_of r.now) made.now places.old.items places.new.items) }
+{
+    let place = place_of(alloc, r, made)?;
+    places.push(place)?;
     Ok(())
+}
+
+fn record(alloc: Global, r: &Rewriting, made: &Made, found: &mut Recording) -> Result<(), Memory>
+    ensures { OnOk result (RecordsOne (rewriting_of r.now) made.now found.old found.new) }
+{
+    match found {
+        Recording::Off => Ok(()),
+        Recording::On(places) => push_place(alloc, r, made, places),
+    }
 }
 
 /// Records a copy of what a rewriting makes, if it is made and counts below the root.
@@ -53,12 +81,12 @@ pub fn recorded(
     alloc: Global,
     r: &Rewriting,
     made: Made,
-    found: &mut Vec<Made>,
+    found: &mut Recording,
 ) -> Result<Made, MakeRefusal>
-    ensures { RecordsOwn (rewriting_of r.now) made found.old.items found.new.items result }
+    ensures { RecordsOwn (rewriting_of r.now) made found.old found.new result }
 {
     if is_made(&r.way) && counts_below(&r.plan) {
-        record(alloc, &made, found)?;
+        record(alloc, r, &made, found)?;
     }
     Ok(made)
 }

@@ -1,30 +1,25 @@
 //! What rewritings make of loaded pieces.
-ghost use Rattle.std.specs.Prelude.{◌≡◌, false, List, ◌++◌, reverse, IsSome, OnOk};
+ghost use Rattle.std.specs.Prelude.{◌≡◌, false};
 ghost use Rattle.plan_core.specs.PlainPlan.{plan_of};
-ghost use Rattle.growth_laws.specs.KeptResults.{KeptResults};
-ghost use Rattle.growth_laws.specs.Lists.{Extents};
-ghost use Rattle.growth_laws.specs.Making.{made_before};
-ghost use Rattle.growth_laws.specs.Pieces.{Piece, is_gathered, pieces_of, pieces_in};
-ghost use Rattle.growth_laws.specs.Trees.{made_by, made_in};
+ghost use Rattle.growth_laws.specs.Pieces.{is_gathered, pieces_of, pieces_in};
 ghost use Rattle.rewrite_core.specs.PlainRewriting.{Node, rewriting_of, way_of, grown_way};
-ghost use Rattle.result_ops.specs.Steps.{made_of, Makes};
-ghost use Rattle.evaluation.specs.Evaluating.{IsReady, IsReadyWith, MakesFit, MakesFitWith, Evaluates};
-ghost use Rattle.evaluation.specs.Loading.{HoldAll};
+ghost use Rattle.evaluation.specs.Evaluating.{IsReady, IsReadyWith};
+ghost use Rattle.evaluation.specs.Evaluating.{TreeAnswers, WayAnswers, GrownAnswers};
 ghost use Rattle.evaluation.specs.Parts.{IsFormed, pieces_behind};
-ghost use Rattle.evaluation.specs.Passing.{Passes};
-ghost use Rattle.evaluation.specs.Recording.{Records, recorded_of, recorded_below, recorded_in};
+ghost use Rattle.evaluation.specs.Recording.{recorded_of, recorded_below};
 
 use crate::deltas::added;
-use crate::gathered::is_gathered;
 use crate::laws::results_are_made;
 use crate::loaded::{Loaded, taken};
 use crate::recorded::recorded;
+use crate::recording::Recording;
 use plan_core::Plan;
 use result_ops::{
-    Made, MakeRefusal, computed_results_are_fit, grown_results_are_fit, made_of_both,
-    made_of_grown, made_of_left, made_of_one, made_of_right, made_of_two,
+    Made, MakeRefusal, made_of_both, made_of_grown, made_of_left, made_of_one, made_of_right,
+    made_of_two,
 };
 use rewrite_core::{Hit, Parts, Rewriting, Way};
+use rewriting_pieces::is_gathered;
 use rows_core::Cut;
 use std::alloc::Global;
 
@@ -35,18 +30,12 @@ pub fn made(
     alloc: Global,
     r: &Rewriting,
     pieces: &mut Vec<Loaded>,
-    found: &mut Vec<Made>,
+    found: &mut Recording,
 ) -> Result<Made, MakeRefusal>
     requires formed { IsFormed (rewriting_of r.now) }
     requires ready { IsReady (plan_of r.now.plan) (pieces_of (rewriting_of r.now)) pieces.old.items }
-    ensures fit { MakesFit (plan_of r.now.plan) (pieces_of (rewriting_of r.now)) pieces.old.items
-        pieces.new.items result }
-    ensures made { Evaluates (λ extents results. Passes extents results (rewriting_of r.now))
-        (plan_of r.now.plan) (λ extents results. made_by extents results (rewriting_of r.now))
-        (pieces_of (rewriting_of r.now)) pieces.old.items pieces.new.items result }
-    ensures places { OnOk result (Records (pieces_of (rewriting_of r.now))
-        (recorded_of (rewriting_of r.now)) pieces.old.items pieces.new.items found.old.items
-        found.new.items) }
+    ensures { TreeAnswers (rewriting_of r.now) (recorded_of (rewriting_of r.now)) pieces.old.items
+        pieces.new.items found.old found.new result }
 {
     let made = made_unrecorded(alloc, r, pieces, found)?;
     recorded(alloc, r, made, found)
@@ -59,18 +48,12 @@ pub fn made_unrecorded(
     alloc: Global,
     r: &Rewriting,
     pieces: &mut Vec<Loaded>,
-    found: &mut Vec<Made>,
+    found: &mut Recording,
 ) -> Result<Made, MakeRefusal>
     requires formed { IsFormed (rewriting_of r.now) }
     requires ready { IsReady (plan_of r.now.plan) (pieces_of (rewriting_of r.now)) pieces.old.items }
-    ensures fit { MakesFit (plan_of r.now.plan) (pieces_of (rewriting_of r.now)) pieces.old.items
-        pieces.new.items result }
-    ensures made { Evaluates (λ extents results. Passes extents results (rewriting_of r.now))
-        (plan_of r.now.plan) (λ extents results. made_by extents results (rewriting_of r.now))
-        (pieces_of (rewriting_of r.now)) pieces.old.items pieces.new.items result }
-    ensures places { OnOk result (Records (pieces_of (rewriting_of r.now))
-        (recorded_below (rewriting_of r.now)) pieces.old.items pieces.new.items found.old.items
-        found.new.items) }
+    ensures { TreeAnswers (rewriting_of r.now) (recorded_below (rewriting_of r.now)) pieces.old.items
+        pieces.new.items found.old found.new result }
 {
     results_are_made();
     if is_gathered(r) {
@@ -89,22 +72,14 @@ fn made_in(
     plan: &Plan,
     cuts: &[Cut],
     pieces: &mut Vec<Loaded>,
-    found: &mut Vec<Made>,
+    found: &mut Recording,
 ) -> Result<Made, MakeRefusal>
     requires formed { IsFormed (Node (plan_of plan.now) cuts.now (way_of way.now)) }
     requires parts { is_gathered (Node (plan_of plan.now) cuts.now (way_of way.now)) ≡ false }
     requires ready { IsReady (plan_of plan.now) (pieces_in (plan_of plan.now) (way_of way.now))
         pieces.old.items }
-    ensures fit { MakesFit (plan_of plan.now) (pieces_in (plan_of plan.now) (way_of way.now))
-        pieces.old.items pieces.new.items result }
-    ensures made { Evaluates
-        (λ extents results. Passes extents results (Node (plan_of plan.now) cuts.now (way_of way.now)))
-        (plan_of plan.now)
-        (λ extents results. made_in extents results (plan_of plan.now) cuts.now (way_of way.now))
-        (pieces_in (plan_of plan.now) (way_of way.now)) pieces.old.items pieces.new.items result }
-    ensures places { OnOk result (Records (pieces_in (plan_of plan.now) (way_of way.now))
-        (recorded_in (way_of way.now)) pieces.old.items pieces.new.items found.old.items
-        found.new.items) }
+    ensures { WayAnswers (plan_of plan.now) cuts.now (way_of way.now) pieces.old.items pieces.new.items
+        found.old found.new result }
 {
     results_are_made();
     match way {
@@ -137,24 +112,13 @@ fn grown(
     _hit: &Hit,
     old: Made,
     pieces: &mut Vec<Loaded>,
-    found: &mut Vec<Made>,
+    found: &mut Recording,
 ) -> Result<Made, MakeRefusal>
     requires formed { IsFormed (Node (plan_of plan.now) _cuts.now (grown_way _hit.now parts.now)) }
     requires ready { IsReadyWith (plan_of plan.now) old (pieces_behind (grown_way _hit.now parts.now))
         pieces.old.items }
-    ensures fit { MakesFitWith (plan_of plan.now) old (pieces_behind (grown_way _hit.now parts.now))
-        pieces.old.items pieces.new.items result }
-    ensures made { (extents : Extents) (results : KeptResults) (rest : List Piece)
-        → made_before (results _hit.now.id) ≡ made_of old
-        → HoldAll extents results (pieces_behind (grown_way _hit.now parts.now) ++ rest)
-        (reverse pieces.old.items)
-        → Makes (Passes extents results
-        (Node (plan_of plan.now) _cuts.now (grown_way _hit.now parts.now))) (plan_of plan.now)
-        (made_in extents results (plan_of plan.now) _cuts.now (grown_way _hit.now parts.now)) result
-        × OnOk result (HoldAll extents results rest (reverse pieces.new.items)) }
-    ensures places { OnOk result (Records (pieces_behind (grown_way _hit.now parts.now))
-        (recorded_in (grown_way _hit.now parts.now)) pieces.old.items pieces.new.items found.old.items
-        found.new.items) }
+    ensures { GrownAnswers (plan_of plan.now) _cuts.now _hit.now (grown_way _hit.now parts.now) old
+        pieces.old.items pieces.new.items found.old found.new result }
 {
     results_are_made();
     match parts {

@@ -4,9 +4,9 @@ use Rattle.std.proofs.lemmas.List.{append-nil, reverse-reverse}
 use Rattle.growth_laws.specs.Pieces.{pieces_of}
 use Rattle.rewrite_core.specs.PlainRewriting.{rewriting_of}
 use Rattle.evaluation.specs.Loading.{HoldAll}
-use Rattle.evaluation.specs.Recording.{Records, AreRecorded, recorded_below}
+use Rattle.evaluation.specs.Recording.{Records, HasRecorded, recorded_below}
 use Rattle.evaluation.proofs.Records.{then_on_ok}
-use Rattle.evaluation.proofs.results.evaluate_recording.Goals as goal
+use Rattle.evaluation.proofs.results.evaluated.Goals as goal
 
 pub returns-clause-made : goal.returns-clause-made
 returns-clause-made c = λ extents results held.
@@ -19,6 +19,6 @@ returns-clause-recorded c = λ extents results held.
     let pieces = pieces_of (rewriting_of c.args.rewriting.now) in
     let trees = recorded_below (rewriting_of c.args.rewriting.now) in
     let stack : reverse c.reverse.new.self.items ≡ c.args.pieces.items = ap reverse c.reverse.ensures.items ∙ reverse-reverse c.args.pieces.items in
-    then_on_ok (Records pieces trees c.reverse.new.self.items c.made_unrecorded.new.pieces.items c.args.found.now.items c.made_unrecorded.new.found.items)
-    (AreRecorded extents results trees c.args.found.now.items c.made_unrecorded.new.found.items) c.made_unrecorded.result
+    then_on_ok (Records pieces trees c.reverse.new.self.items c.made_unrecorded.new.pieces.items c.args.found.now c.made_unrecorded.new.found)
+    (HasRecorded extents results trees c.args.found.now c.made_unrecorded.new.found) c.made_unrecorded.result
     (λ records. (records extents results [] (subst (λ ps. HoldAll extents results ps (reverse c.reverse.new.self.items)) (sym (append-nil pieces)) (subst (HoldAll extents results pieces) (sym stack) held))).1) c.made_unrecorded.ensures.places
