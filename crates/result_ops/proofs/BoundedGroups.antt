@@ -1,5 +1,5 @@
 -- Accumulators within the bounds, one by one.
-use Rattle.std.proofs.Common.{rules, zero, suc, ◌≡◌, ◌≢◌, ◌↔◌, refl, sym, subst, ℕ, ◌-◌, ◌≤◌, ◌<◌, Bool, true, false, IsTrue, ◌==◌, List, [], ◌∷◌, length, take, drop, get_or, All, arith}
+use Rattle.std.proofs.Common.{rules, zero, suc, ◌≡◌, ◌≢◌, ◌↔◌, sym, subst, ℕ, ◌-◌, ◌≤◌, ◌<◌, Bool, true, false, IsTrue, ◌==◌, List, [], ◌∷◌, length, take, drop, get_or, All, arith}
 use Rattle.std.specs.List.{AllPairs}
 use Rattle.std.proofs.lemmas.List.{take_all}
 use Rattle.row_blob.specs.declared.kept.Acc.{Acc}

@@ -1,11 +1,10 @@
 -- Groups whose keys and accumulators have the kinds of the grouping's columns.
-use Rattle.std.proofs.Common.{◌≡◌, refl, sym, ap, ◌∙◌, subst, ℕ, ℤ, pos, Bool, true, false, cond, ◌||◌, List, [], ◌∷◌, ◌++◌, map, length, All, Result, Ok, Err, Option, None, Some, get_or, arith}
-use Rattle.std.specs.List.{AllByRecursion, Contains, filter, find, slice_get}
-use Rattle.std.proofs.lemmas.List.Elements.{All-from_recursion, recursion_from_All, All-filter, All-append, All-map, All-contains, All-contains_itself}
+use Rattle.std.proofs.Common.{◌≡◌, refl, sym, ap, ◌∙◌, subst, ℕ, pos, Bool, true, false, cond, ◌||◌, List, [], ◌∷◌, ◌++◌, map, All, Ok, Err, Some, get_or, arith}
+use Rattle.std.specs.List.{AllByRecursion, Contains, slice_get}
+use Rattle.std.proofs.lemmas.List.Elements.{All-from_recursion, recursion_from_All, All-filter, All-map, All-contains, All-contains_itself}
 use Rattle.std.proofs.lemmas.List.{map-append}
 use Rattle.rows_core.specs.declared.kind.Kind.{Kind}
 use Rattle.rows_core.specs.declared.kind.Kind.TheVariants as kind
-use Rattle.rows_core.specs.declared.overflow.Overflow.{Overflow}
 use Rattle.rows_core.specs.declared.value.Value.{Value}
 use Rattle.rows_core.specs.declared.value.Value.TheVariants.{Int}
 use Rattle.rows_core.specs.Equality.{row_eq-Decides}
@@ -16,7 +15,6 @@ use Rattle.row_blob.specs.declared.kept.Acc.TheVariants as acc
 use Rattle.row_blob.specs.declared.kept.GroupRow.{GroupRow}
 use Rattle.plan_core.specs.declared.agg.Agg.{Agg}
 use Rattle.plan_core.specs.declared.agg.Agg.TheVariants as agg
-use Rattle.plan_core.specs.Aggregate.{aggregate_value, whole_value}
 use Rattle.plan_core.specs.Columns.{Row, Rows, columns_of}
 use Rattle.plan_core.specs.ExpressionValue.{◌>>=◌, all_of}
 use Rattle.plan_core.specs.Group.{keys_of, members_of}

@@ -1,5 +1,5 @@
 -- What the operators ask of the rows that they take in, where these have the kinds of the input's columns.
-use Rattle.std.proofs.Common.{◌≡◌, refl, sym, ap, ◌∙◌, subst, ℕ, List, [], ◌∷◌, map, All, IsSome, Option, None, Some, Ok}
+use Rattle.std.proofs.Common.{◌≡◌, refl, sym, subst, List, [], ◌∷◌, map, All, IsSome, Option, None, Some}
 use Rattle.rows_core.specs.Value.{kind_of}
 use Rattle.plan_core.specs.declared.expr.Expr as code
 use Rattle.plan_core.specs.Columns.{Rows}

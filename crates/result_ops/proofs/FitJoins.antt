@@ -1,13 +1,11 @@
 -- The kinds of a join's rows, also where it has grown.
-use Rattle.std.proofs.Common.{◌≡◌, refl, sym, ap, ◌∙◌, subst, ℕ, ◌+◌, ◌≤◌, ◌<◌, Bool, false, List, [], ◌∷◌, ◌++◌, map, length, All, Result, Ok, Err, IfOk, arith}
+use Rattle.std.proofs.Common.{◌≡◌, sym, subst, ℕ, List, [], ◌∷◌, ◌++◌, map, All, Result, Ok, Err, IfOk}
 use Rattle.std.specs.List.{AllByRecursion}
-use Rattle.std.specs.List.Sorted.{IsPermutation}
 use Rattle.std.proofs.lemmas.List.Elements.{All-from_recursion, recursion_from_All, All-append, All-map}
 use Rattle.std.proofs.lemmas.List.Sorted.{All-permutation}
 use Rattle.rows_core.specs.Value.{kind_of}
 use Rattle.row_blob.specs.declared.kept.TaggedRow.{TaggedRow}
-use Rattle.plan_core.specs.Columns.{Row, Rows}
-use Rattle.plan_core.specs.Join.{join_rows}
+use Rattle.plan_core.specs.Columns.{Rows}
 use Rattle.plan_core.specs.PlanTyping.{Kinds}
 use Rattle.plan_core.specs.TypedRows.{HaveKinds}
 use Rattle.plan_laws.specs.GrowthOfJoins.{AscendsByPosition, merge_by_position}

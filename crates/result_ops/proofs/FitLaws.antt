@@ -1,18 +1,17 @@
 -- What is made of fit results is fit.
-use Rattle.std.proofs.Common.{◌≡◌, refl, sym, ap, ◌∙◌, subst, ℕ, ◌+◌, not, List, [], ◌∷◌, ◌++◌, map, length, All, IsSome, IfOk, Option, None, Some, Result, Ok, Err}
+use Rattle.std.proofs.Common.{◌≡◌, refl, sym, ap, ◌∙◌, subst, ℕ, ◌+◌, not, List, [], ◌∷◌, ◌++◌, map, length, All, IsSome, IfOk, Option, Some, Result, Ok, Err}
 use Rattle.std.specs.Prelude.{nat_lt}
 use Rattle.std.specs.List.{list_all}
 use Rattle.std.specs.Option.{option_and_then}
 use Rattle.std.proofs.lemmas.List.Elements.{All-append, All-filter, All-from_recursion}
 use Rattle.rows_core.specs.declared.overflow.Overflow.{Overflow}
 use Rattle.rows_core.specs.Value.{kind_of}
-use Rattle.row_blob.specs.declared.kept.GroupRow.{GroupRow}
 use Rattle.row_blob.specs.declared.kept.Kept.{Kept}
 use Rattle.row_blob.specs.declared.kept.Kept.TheVariants as kept
 use Rattle.row_blob.specs.declared.kept.TaggedRow.{TaggedRow}
 use Rattle.rows_core.specs.declared.order.Key.{Key}
 use Rattle.plan_core.specs.declared.agg.Agg.{Agg}
-use Rattle.plan_core.specs.Columns.{Row, Rows}
+use Rattle.plan_core.specs.Columns.{Rows}
 use Rattle.plan_core.specs.Distinct.{distinct_rows}
 use Rattle.plan_core.specs.Filter.{filter_rows}
 use Rattle.plan_core.specs.Join.{join_rows}
@@ -34,13 +33,13 @@ use Rattle.plan_laws.proofs.KeptRows.{join_kept}
 use Rattle.plan_laws.proofs.TaggedMerge.{tagged_ascends}
 use Rattle.plan_laws.proofs.TypedParts.{GivesTypedRows}
 use Rattle.plan_laws.proofs.TypedPlans.{and_then}
-use Rattle.plan_laws.proofs.TypedOperators.{HasKinds, distinct_typed, filter_same_kinds, join_kinds_are, concat_kinds_are}
+use Rattle.plan_laws.proofs.TypedOperators.{HasKinds, distinct_typed, join_kinds_are, concat_kinds_are}
 use Rattle.rewrite_core.specs.IsRewriting.{OfOne, OfTwo, OfSides, OfDistinctChild}
 use Rattle.growth_laws.specs.Growth.{Added, Made}
 use Rattle.growth_laws.specs.Making.{IsFormOf, as_rows, with_taken_in, with_rows_taken_in, taken_in_of, kept_of_one, made_of_one, kept_of_two, made_of_two, behind, kept_rows, kept_groups, kept_tagged, left_length, pairs_of, with_new_lefts, with_new_rights, with_both, made_of_left, made_of_right, made_of_both, kept_of_grown, made_of_grown, added_of_child, added_of_distinct, added_of_join}
 use Rattle.result_ops.specs.Bounds.{IsBounded}
 use Rattle.result_ops.specs.Fitting.{kinds_of_group, IsOfKinds, IsFit, FitRows, OfPassed, OfGrown, StandsInOrder}
-use Rattle.result_ops.proofs.FitInputs.{there, some_of, given_kinds}
+use Rattle.result_ops.proofs.FitInputs.{there, given_kinds}
 use Rattle.result_ops.proofs.FitResults.{rows_fit}
 use Rattle.result_ops.proofs.FitGroups.{groups_of_kinds}
 use Rattle.result_ops.proofs.FitMerged.{IsSuch, such_of, such_groups, merged_kinds}

@@ -1,6 +1,5 @@
 -- The rows of what is kept of a result have the kinds of the plan's columns.
-use Rattle.std.proofs.Common.{◌≡◌, ap, subst, List, map, All, Ok}
-use Rattle.rows_core.specs.Value.{kind_of}
+use Rattle.std.proofs.Common.{◌≡◌, subst, List, map, Ok}
 use Rattle.row_blob.specs.declared.kept.Kept.{Kept}
 use Rattle.row_blob.specs.declared.kept.Kept.TheVariants as kept
 use Rattle.plan_core.specs.Columns.{Rows}

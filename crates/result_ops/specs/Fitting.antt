@@ -7,7 +7,7 @@ use Rattle.row_blob.specs.declared.kept.Acc.TheVariants as acc
 use Rattle.row_blob.specs.declared.kept.GroupRow.{GroupRow}
 use Rattle.row_blob.specs.declared.kept.Kept.{Kept}
 use Rattle.row_blob.specs.declared.kept.Kept.TheVariants as kept
-use Rattle.plan_core.specs.PlainPlan.{PlainPlan, Filter, Project, Distinct, Group, Join, Concat, Order}
+use Rattle.plan_core.specs.PlainPlan.{PlainPlan, Filter, Project, Distinct, Group, Concat, Order}
 use Rattle.plan_core.specs.Columns.{Rows}
 use Rattle.plan_core.specs.PlanTyping.{Kinds, plan_kinds}
 use Rattle.plan_core.specs.TypedRows.{HaveKinds}

@@ -1,4 +1,3 @@
-use Rattle.std.proofs.Common.{rules}
 use Rattle.result_ops.proofs.BoundedGroups.{holds, no_accs, accs_there}
 use Rattle.result_ops.proofs.bounds.+are_accs.Goals as goal
 

@@ -1,5 +1,5 @@
 -- The new rows have the kinds of the input's columns; and what is made of groups.
-use Rattle.std.proofs.Common.{sym, subst, ap, ◌∙◌, ◌+◌, List, map, All, IsSome}
+use Rattle.std.proofs.Common.{sym, subst, ◌∙◌, ◌+◌, List, map, All, IsSome}
 use Rattle.rows_core.specs.Value.{kind_of}
 use Rattle.plan_core.specs.ExpressionKind.{IsTyped}
 use Rattle.row_blob.specs.declared.kept.Kept.TheVariants as kept
@@ -9,7 +9,7 @@ use Rattle.plan_core.specs.PlanTyping.{Kinds, plan_kinds}
 use Rattle.result_ops.specs.Fitting.{IsFit, OfGrown, FitRows}
 use Rattle.result_ops.proofs.FitInputs.{columns_typed_on}
 use Rattle.growth_laws.specs.Making.{taken_in_of, made_of_grown}
-use Rattle.result_ops.specs.Steps.{made_of, added_of, MakesGrown}
+use Rattle.result_ops.specs.Steps.{added_of, MakesGrown}
 use Rattle.result_ops.proofs.GrownGroups.{groups_grown}
 use Rattle.result_ops.proofs.grown.made_of_grown.Goals as goal
 

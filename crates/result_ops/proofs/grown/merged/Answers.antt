@@ -1,6 +1,5 @@
 -- The keys of merged groups differ, and their accumulators were looked at.
-use Rattle.std.proofs.Common.{◌≡◌, refl, sym, ap, ◌∙◌, subst, All}
-use Rattle.row_blob.specs.declared.kept.GroupRow.{GroupRow}
+use Rattle.std.proofs.Common.{sym, ap, ◌∙◌, subst, All}
 use Rattle.row_blob.specs.declared.kept.Kept.TheVariants as kept
 use Rattle.plan_laws.specs.GrowthOfGroups.{merged_groups}
 use Rattle.result_ops.proofs.BoundedGroups.{AreAccs, holds, never, bounded_groups}

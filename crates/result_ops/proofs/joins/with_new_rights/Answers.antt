@@ -1,6 +1,6 @@
 -- The rows of a join ascend by position, and have one merge.
-use Rattle.std.proofs.Common.{◌≡◌, sym, subst, ap, ◌∙◌, IfOk}
-use Rattle.plan_laws.specs.GrowthOfJoins.{AscendsByPosition, merge_by_position, IsMergedByPosition}
+use Rattle.std.proofs.Common.{sym, subst}
+use Rattle.plan_laws.specs.GrowthOfJoins.{AscendsByPosition, IsMergedByPosition}
 use Rattle.plan_laws.specs.KeptForm.{tagged_from}
 use Rattle.plan_laws.proofs.TaggedMerge.{tagged_ascends, only_merge}
 use Rattle.result_ops.proofs.FitJoins.{of_ok}

@@ -1,5 +1,5 @@
 -- The rows of the input have the kinds of its columns.
-use Rattle.std.proofs.Common.{sym, subst, List, map, All, IsSome}
+use Rattle.std.proofs.Common.{sym, subst, map, All}
 use Rattle.rows_core.specs.Value.{kind_of}
 use Rattle.plan_core.specs.ExpressionKind.{IsTyped}
 use Rattle.plan_core.specs.PlainExpr.{expr_of}
