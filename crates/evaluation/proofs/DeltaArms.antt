@@ -1,5 +1,5 @@
 -- What each way of a delta needs of its parts, and what it answers.
-use Rattle.std.proofs.Common.{◌≡◌, sym, ap, subst, ◌≤◌, true, false, List, [], ◌++◌, reverse, IsSome, Result, Ok, Err}
+use Rattle.std.proofs.Common.{◌≡◌, sym, subst, ◌≤◌, true, false, List, ◌++◌, reverse, IsSome, Result, Ok, Err}
 use Rattle.plan_core.specs.PlainPlan.{PlainPlan}
 use Rattle.plan_core.specs.PlanTyping.{Kinds, plan_kinds}
 use Rattle.estimator.specs.Cuts.{Cuts}

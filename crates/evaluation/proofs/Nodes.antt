@@ -1,17 +1,17 @@
 -- What a node answers, of what its parts and its step have answered.
-use Rattle.std.proofs.Common.{◌≡◌, sym, ap, subst, ℕ, ◌+◌, ◌≤◌, ◌⊎◌, inl, inr, List, ◌++◌, reverse, OnOk, Result, Ok, Err, arith}
+use Rattle.std.proofs.Common.{◌≡◌, sym, ap, subst, ℕ, ◌+◌, ◌≤◌, ◌⊎◌, inl, inr, List, ◌++◌, reverse, Result, Ok, Err, arith}
 use Rattle.rows_core.specs.declared.overflow.Overflow.{Overflow}
 use Rattle.plan_core.specs.PlainPlan.{PlainPlan}
 use Rattle.estimator.specs.Cuts.{Cuts}
 use Rattle.rewrite_core.specs.declared.rewriting.Hit.{Hit}
-use Rattle.rewrite_core.specs.PlainRewriting.{PlainRewriting, Node, PlainWay, One, Two, Tail, LeftGrew, RightGrew, BothGrew, PlainDelta, Change, PlainDeltaWay, OfChild, OfDistinct, OfJoin}
+use Rattle.rewrite_core.specs.PlainRewriting.{PlainRewriting, Node, PlainWay, One, Two, Tail, LeftGrew, RightGrew, BothGrew, PlainDelta, Change, OfChild, OfDistinct, OfJoin}
 use Rattle.growth_laws.specs.Growth as laws
 use Rattle.growth_laws.specs.KeptResults.{KeptResults}
 use Rattle.growth_laws.specs.Lists.{Extents}
 use Rattle.growth_laws.specs.Making.{made_before, taken_in_of, made_of_one, computed_one, made_of_two, computed_two, made_of_grown, grown_one, made_of_left, grown_left, made_of_right, grown_right, made_of_both, grown_both, added_of_child, passed_delta, added_of_distinct, distinct_delta, added_of_join, join_delta}
 use Rattle.growth_laws.specs.Parts.{plan_at}
 use Rattle.growth_laws.specs.Pieces.{Piece, pieces_of, pieces_of_delta}
-use Rattle.growth_laws.specs.Trees.{made_by, made_in, added_by, added_in}
+use Rattle.growth_laws.specs.Trees.{made_by, made_in, added_by}
 use Rattle.result_ops.specs.declared.made.Made.{Made}
 use Rattle.result_ops.specs.declared.made.Added.{Added}
 use Rattle.result_ops.specs.declared.refusal.MakeRefusal.{MakeRefusal}

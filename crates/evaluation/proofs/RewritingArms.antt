@@ -1,5 +1,5 @@
 -- What each way of a rewriting needs of its parts, and what it answers.
-use Rattle.std.proofs.Common.{◌≡◌, sym, ap, subst, ◌≤◌, true, false, List, [], ◌∷◌, ◌++◌, reverse, OnOk, Result, Ok, Err}
+use Rattle.std.proofs.Common.{◌≡◌, sym, subst, ◌≤◌, true, false, ◌++◌, reverse, Result, Ok, Err}
 use Rattle.plan_core.specs.PlainPlan.{PlainPlan}
 use Rattle.estimator.specs.Cuts.{Cuts}
 use Rattle.rewrite_core.specs.declared.rewriting.Hit.{Hit}

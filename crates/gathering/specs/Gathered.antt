@@ -11,7 +11,6 @@ use Rattle.plan_core.specs.PlainPlan.{PlainPlan, leaves}
 use Rattle.plan_core.specs.PlanCode.{plan_code}
 use Rattle.plan_core.specs.PlanTyping.{Kinds, plan_kinds}
 use Rattle.plan_core.specs.TypedRows.{AreOfStreams}
-use Rattle.growth_laws.specs.Chains.{IsOneStream}
 use Rattle.growth_laws.specs.Growth.{Made, whole_made}
 use Rattle.result_ops.specs.declared.made.Made as code
 use Rattle.result_ops.specs.Bounds.{limit}
