@@ -12,5 +12,6 @@ pub mod NamedResults
 pub mod PartTimes
 pub mod PieceFiles
 pub mod PieceResults
+pub mod ThereFiles
 pub mod TreeOwners
 pub mod TreeParts

@@ -8,4 +8,5 @@ pub mod MadePlaces
 pub mod Making
 pub mod Parts
 pub mod Pieces
+pub mod There
 pub mod Trees
