@@ -6,6 +6,7 @@ pub mod Joined
 pub mod Lengths
 pub mod NextParts
 pub mod PartSteps
+pub mod PieceCuts
 pub mod ReadParts
 pub mod StreamTypes
 pub mod Updates

@@ -15,6 +15,6 @@ pub use entry::read_entry;
 pub use extent::read_extent;
 pub use finishing::into_result;
 pub use job::{Job, prepare};
-pub use laws::spelled_forms_are_read;
+pub use laws::{pieces_have_one_cut, spelled_forms_are_read};
 pub use part::Part;
 pub use reading::read_next;
