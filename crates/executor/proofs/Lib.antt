@@ -8,5 +8,8 @@ pub mod NextParts
 pub mod PartSteps
 pub mod PieceCuts
 pub mod ReadParts
+pub mod RestSteps
+pub mod RestEnds
+pub mod RestShapes
 pub mod StreamTypes
 pub mod Updates

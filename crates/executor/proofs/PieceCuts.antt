@@ -113,8 +113,10 @@ mutual
   way_have p (One r) (plan.Group child keys aggs) c is fits = pieces_have r child c is fits
   way_have p (One r) (plan.Order child keys) c is fits = pieces_have r child c is fits
   way_have p (One r) _ c is fits = absurd is
-  way_have p (Two l r) (plan.Join left right on) c is fits = two_have left right l r c is.0 is.1 fits
-  way_have p (Two l r) (plan.Concat left right) c is fits = two_have left right l r c is.0 is.1 fits
+  way_have p (Two l r) (plan.Join left right on) c is fits =
+      both (pieces_of l) (pieces_of r) (pieces_have l left (lefts left c) is.0 (left_fits left right c fits)) (pieces_have r right (rights left c) is.1 (right_fits left right c fits))
+  way_have p (Two l r) (plan.Concat left right) c is fits =
+      both (pieces_of l) (pieces_of r) (pieces_have l left (lefts left c) is.0 (left_fits left right c fits)) (pieces_have r right (rights left c) is.1 (right_fits left right c fits))
   way_have p (Two l r) _ c is fits = absurd is
   way_have p (Read hit) q c is fits = (tt, tt)
   way_have p (Tail hit d) (plan.Filter child test) c is fits = (tt, delta_have d child hit.cuts c is.1 fits)
@@ -147,11 +149,6 @@ mutual
             (pieces_have r right (rights left c) is.1.5 second),
       )
   way_have p (BothGrew hit l rd ld r) _ c is fits = absurd is.1
-
-  two_have : (left right : PlainPlan) (l r : PlainRewriting) (c : Cuts) → IsRewriting whichever left (lefts left c) l → IsRewriting whichever right (rights left c) r
-      → length c ≡ length (leaves left ++ leaves right) → Have (pieces_of l ++ pieces_of r)
-  two_have left right l r c first second fits =
-      both (pieces_of l) (pieces_of r) (pieces_have l left (lefts left c) first (left_fits left right c fits)) (pieces_have r right (rights left c) second (right_fits left right c fits))
 
   delta_have : (d : PlainDelta) (q : PlainPlan) (old new : Cuts) → IsDelta whichever q old new d → Fits q new → Have (pieces_of_delta d)
   delta_have (Change p o n way) q old new is fits =

@@ -4,3 +4,5 @@ pub mod Progress
 pub mod Beginning
 pub mod Sources
 pub mod Loads
+pub mod Running
+pub mod Runs

@@ -9,6 +9,8 @@ mod job;
 pub mod laws;
 mod part;
 mod reading;
+mod refusal;
+mod rest;
 mod step;
 
 pub use entry::read_entry;
@@ -18,3 +20,5 @@ pub use job::{Job, prepare};
 pub use laws::{pieces_have_one_cut, spelled_forms_are_read};
 pub use part::Part;
 pub use reading::read_next;
+pub use refusal::RunRefusal;
+pub use rest::read_rest;

@@ -1,0 +1,38 @@
+-- Why a run of a rewriting gives no outcome.
+use Rattle.std.specs.Prelude.{◌≡◌, List, ⊤}
+use Rattle.rows_core.specs.declared.file_ref.FileRef.{FileRef}
+use Rattle.outside_traits.specs.View.{Counts}
+use Rattle.kept_files.specs.declared.refusal.ReadRefusal.{ReadRefusal}
+use Rattle.kept_files.specs.declared.refusal.ReadRefusal.TheVariants as read
+use Rattle.result_ops.specs.declared.refusal.MakeRefusal.{MakeRefusal}
+use Rattle.result_ops.specs.declared.refusal.MakeRefusal.TheVariants as made
+use Rattle.rewrite_core.specs.Files.{FileName}
+use Rattle.growth_laws.specs.Pieces.{Piece}
+use Rattle.executor.specs.Running.{EndsBy, EndsOver}
+use Rattle.executor.specs.Sources.{Sources}
+use Rattle.executor.specs.declared.refusal.RunRefusal.{RunRefusal}
+use Rattle.executor.specs.declared.refusal.RunRefusal.TheVariants as run
+
+abbrev pub of_reading : ReadRefusal → RunRefusal
+of_reading read.Fault = run.Fault
+of_reading (read.Damaged file kept found) = run.Damaged file kept found
+of_reading (read.Unreadable file at) = run.Unreadable file at
+of_reading read.Memory = run.Memory
+
+abbrev pub of_making : MakeRefusal → RunRefusal
+of_making made.Overflow = run.Overflow
+of_making made.Machine = run.Machine
+of_making made.Memory = run.Memory
+
+-- the store failed, or one of these files isn't what was kept of it; nothing else is seen of the outside
+abbrev pub HasRunCause : (FileName → FileRef) → List FileName → Counts → Counts → RunRefusal → Type 0
+HasRunCause places names old new run.Fault = EndsBy places names old new read.Fault
+HasRunCause places names old new (run.Damaged file kept found) = EndsBy places names old new (read.Damaged file kept found)
+HasRunCause places names old new (run.Unreadable file at) = EndsBy places names old new (read.Unreadable file at)
+HasRunCause places names old new _ = new.reads ≡ old.reads
+
+-- where the store tells its files, by the bytes of that file
+abbrev pub IsRunFound : Sources → List Piece → List FileName → RunRefusal → Type 0
+IsRunFound from pieces names (run.Damaged file kept found) = EndsOver from pieces names (read.Damaged file kept found)
+IsRunFound from pieces names (run.Unreadable file at) = EndsOver from pieces names (read.Unreadable file at)
+IsRunFound from pieces names _ = ⊤
