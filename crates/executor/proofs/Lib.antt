@@ -4,6 +4,7 @@ pub mod FileBounds
 pub mod FileForms
 pub mod Joined
 pub mod Lengths
+pub mod MadeResults
 pub mod NextParts
 pub mod PartSteps
 pub mod PieceCuts

@@ -13,6 +13,9 @@ use Rattle.growth_laws.specs.Chains.{IsChain, IsOneStream}
 use Rattle.growth_laws.specs.Pieces.{Piece, Entry, Gathered, is_gathered, is_chain_delta, pieces_of, pieces_in, pieces_of_delta, pieces_in_delta}
 use Rattle.rewriting_pieces.specs.Pieces.{IsPiece}
 use Rattle.executor.specs.Loads.{HasOneCut}
+use Rattle.executor.specs.Progress.{IsPartOf, ArePartsOf}
+use Rattle.executor.specs.declared.part.Part.{Part}
+use Rattle.executor.specs.declared.part.Part.TheVariants as part
 
 -- one interval for each leaf
 abbrev Fits : PlainPlan → Cuts → Type 0
@@ -204,3 +207,14 @@ piece_cut schemas (Gathered plan cuts) is has = one_cut plan cuts is.1 has
 pub pieces_cut : (schemas : List Kinds) (pieces : List Piece) → AllByRecursion (IsPiece schemas) pieces → Have pieces → AllByRecursion HasOneCut pieces
 pieces_cut schemas [] are have = tt
 pieces_cut schemas (piece ∷ pieces) are have = (piece_cut schemas piece are.0 have.0, pieces_cut schemas pieces are.1 have.1)
+
+-- the same of the pieces of which these are parts
+part_cut : (schemas : List Kinds) (piece : Piece) (p : Part) → IsPartOf schemas piece p → HasCuts piece → HasOneCut piece
+part_cut schemas (Entry plan id) p is has = tt
+part_cut schemas (Gathered plan cuts) (part.Entry boxed id loaded) is has = absurd is
+part_cut schemas (Gathered plan cuts) (part.Gathered gathering stream next end) is has = one_cut plan cuts is.one has
+
+pub parts_cut : (schemas : List Kinds) (pieces : List Piece) (parts : List Part) → ArePartsOf schemas pieces parts → Have pieces → AllByRecursion HasOneCut pieces
+parts_cut schemas [] parts are have = tt
+parts_cut schemas (piece ∷ pieces) [] are have = absurd are
+parts_cut schemas (piece ∷ pieces) (p ∷ parts) are have = (part_cut schemas piece p are.0 have.0, parts_cut schemas pieces parts are.1 have.1)

@@ -5,4 +5,5 @@ pub mod Beginning
 pub mod Sources
 pub mod Loads
 pub mod Running
+pub mod Outcomes
 pub mod Runs
