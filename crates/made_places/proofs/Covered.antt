@@ -1,8 +1,8 @@
 -- A formed rewriting has trees for each place of its plan, and so has a formed delta.
-use Rattle.std.proofs.Common.{◌≡◌, sym, subst, List, [], ◌∷◌, ◌++◌}
+use Rattle.std.proofs.Common.{sym, subst, List, [], ◌∷◌, ◌++◌}
 use Rattle.plan_core.specs.PlainPlan.{PlainPlan, Scan, Filter, Project, Distinct, Group, Join, Concat, Order}
 use Rattle.estimator.specs.Cuts.{Cuts}
-use Rattle.rewrite_core.specs.IsRewriting.{IsWay, IsScan, lefts, rights, whichever}
+use Rattle.rewrite_core.specs.IsRewriting.{IsScan, lefts, rights}
 use Rattle.rewrite_core.specs.PlainRewriting.{PlainRewriting, Node, PlainWay, One, Two, Read, Tail, LeftGrew, RightGrew, BothGrew, PlainDelta, Change, PlainDeltaWay, Unchanged, NewRows, OfChild, OfDistinct, OfJoin}
 use Rattle.rewrite_core.specs.PlainRewriting as tree
 use Rattle.growth_laws.specs.MadePlaces.{Place, place, places, Standing, nowhere, both_standing, before_tail, standing_of, standing_in, standing_of_delta, standing_in_delta}

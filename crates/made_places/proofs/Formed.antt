@@ -4,7 +4,7 @@ use Rattle.plan_core.specs.PlainPlan.{PlainPlan}
 use Rattle.estimator.specs.Cuts.{Cuts}
 use Rattle.rewrite_core.specs.declared.rewriting.Hit.{Hit}
 use Rattle.rewrite_core.specs.IsRewriting.{IsRewriting, IsDelta, whichever}
-use Rattle.rewrite_core.specs.PlainRewriting.{PlainRewriting, Node, PlainWay, One, Two, Tail, LeftGrew, RightGrew, BothGrew, PlainDelta, Change, PlainDeltaWay, OfChild, OfDistinct, OfJoin}
+use Rattle.rewrite_core.specs.PlainRewriting.{PlainRewriting, Node, PlainWay, One, Two, Tail, LeftGrew, RightGrew, BothGrew, PlainDelta, Change, OfChild, OfDistinct, OfJoin}
 use Rattle.growth_laws.specs.Parts.{plan_at}
 use Rattle.made_places.specs.Formed.{IsFormed, IsFormedWay, IsFormedDelta, delta_plan}
 use Rattle.made_places.proofs.Shapes.{HasOne, HasTwo, HasTail, by_one, by_two, by_sides, by_tail, by_delta_tail, by_distinct}
@@ -110,17 +110,17 @@ module _ (plan : PlainPlan) where
   both_grown hit l rd ld r is =
       by_sides (OfBothGrown plan l rd ld r) _ plan
       (λ left right made over.
-        let of_left = plan_is l left _ made.2 in
-        let of_right = plan_is r right _ made.5 in
-        record {
-          of_left = formed l left _ made.2;
-          of_right_delta = formed_delta rd right _ _ made.3;
-          of_left_delta = formed_delta ld left _ _ made.4;
-          of_right = formed r right _ made.5;
-          shape = over_two (plan_at l) (plan_at r) left right of_left of_right over;
-          same_left = delta_plan_is ld left _ _ made.4 ∙ sym of_left;
-          same_right = delta_plan_is rd right _ _ made.3 ∙ sym of_right;
-        }) is.1.1
+      let of_left = plan_is l left _ made.2 in
+      let of_right = plan_is r right _ made.5 in
+      record {
+        of_left = formed l left _ made.2;
+        of_right_delta = formed_delta rd right _ _ made.3;
+        of_left_delta = formed_delta ld left _ _ made.4;
+        of_right = formed r right _ made.5;
+        shape = over_two (plan_at l) (plan_at r) left right of_left of_right over;
+        same_left = delta_plan_is ld left _ _ made.4 ∙ sym of_left;
+        same_right = delta_plan_is rd right _ _ made.3 ∙ sym of_right;
+      }) is.1.1
 
   -- ---- the inputs of a delta
 

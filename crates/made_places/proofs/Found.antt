@@ -1,11 +1,11 @@
 -- What the parts of a rewriting answer, as marks.
-use Rattle.std.proofs.Common.{◌≡◌, refl, sym, ap, ◌∙◌, Bool, true, false, ◌&&◌, ◌||◌, ◌==◌, List, [], ◌∷◌}
+use Rattle.std.proofs.Common.{◌≡◌, ap, ◌∙◌, Bool, ◌&&◌, ◌==◌, List, [], ◌∷◌}
 use Rattle.std.specs.Prelude.{IsTrue, ◌↔◌}
 use Rattle.std.specs.Bool.{Decides}
 use Rattle.std.specs.Cmp.Lexicographic.{pointwise_decides}
 use Rattle.std.specs.List.{list_any}
-use Rattle.std.proofs.lemmas.Bool.{eqb-true}
-use Rattle.std.proofs.lemmas.Bool.Decides.{same_from_decides, Decides-eqb}
+use Rattle.std.proofs.Math.Bool.{or-false}
+use Rattle.std.proofs.lemmas.Bool.Decides.{same_from_decides, Decides-and, Decides-eqb}
 use Rattle.rows_core.specs.declared.cut.Cut.{Cut}
 use Rattle.plan_core.specs.PlainPlan.{PlainPlan, plan_of}
 use Rattle.estimator.specs.Cuts.{Cuts}
@@ -18,30 +18,16 @@ use Rattle.made_places.proofs.MarkedWays.{tree_marks, delta_marks}
 
 -- ---- the tree at the root
 
-both_true : (p q : Bool) → (p && q) ≡ true → (p ≡ true) × (q ≡ true)
-both_true true q is = (refl, is)
-both_true false q is = absurd (cc)
-
 cut_decides : (a b : Cut) → Decides ((a.from == b.from) && (a.to == b.to)) (a ≡ b)
-cut_decides a b = (
-  (λ is.
-    let ends = both_true (a.from == b.from) (a.to == b.to) is in
-    let from = eqb-true a.from b.from ends.0 in
-    let to = eqb-true a.to b.to ends.1 in
-    λ i. record { from = from i; to = to i }),
-  (λ is.
-    let from = (Decides-eqb a.from b.from).1 (ap (λ (c : Cut). c.from) is) in
-    let to = (Decides-eqb a.to b.to).1 (ap (λ (c : Cut). c.to) is) in
-    ap (λ (t : Bool). t && (a.to == b.to)) from ∙ to),
-)
-
-or_false : (b : Bool) → (b || false) ≡ b
-or_false true = refl
-or_false false = refl
+cut_decides a b =
+    let both = Decides-and (a.from == b.from) (a.to == b.to) (Decides-eqb a.from b.from) (Decides-eqb a.to b.to) in (
+      (λ is. let ends = both.0 is in λ i. record { from = ends.0 i; to = ends.1 i }),
+      (λ is. both.1 (ap (λ (c : Cut). c.from) is, ap (λ (c : Cut). c.to) is)),
+    )
 
 -- the tree at the root is at the place's own cut exactly if the two are the same
 pub own_is : (p : PlainPlan) (cuts at : Cuts) (way : PlainWay) (own : Bool) → (IsTrue own ↔ (cuts ≡ at)) → list_any (is_made_at (place p at)) (Node p cuts way ∷ []) ≡ own
-own_is p cuts at way own is = or_false (same_cuts cuts at) ∙ same_from_decides (same_cuts cuts at) own (pointwise_decides cut_decides cuts at) is
+own_is p cuts at way own is = or-false (same_cuts cuts at) ∙ same_from_decides (same_cuts cuts at) own (pointwise_decides cut_decides cuts at) is
 
 -- ---- the parts
 

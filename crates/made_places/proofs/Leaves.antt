@@ -1,7 +1,6 @@
 -- How many leaves a plan has, and the intervals of a left input's leaves.
 use Rattle.std.proofs.Common.{◌≡◌, ℕ, ◌+◌, ◌-◌, min, length, ◌++◌, arith, take, drop, List, length-append}
 use Rattle.std.proofs.lemmas.List.{take_min, drop_min}
-use Rattle.plan_core.specs.PlainPlan.{PlainPlan, leaves, leaf_count, Join, Concat}
 
 pub both_within : (a b most : ℕ) → min a most + min b (most - min a most) ≡ min (a + b) most
 both_within a b most = omega arith

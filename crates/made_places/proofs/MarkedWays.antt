@@ -5,11 +5,10 @@ use Rattle.plan_core.specs.PlainPlan.{PlainPlan}
 use Rattle.estimator.specs.Cuts.{Cuts}
 use Rattle.rewrite_core.specs.declared.rewriting.Hit.{Hit}
 use Rattle.rewrite_core.specs.IsRewriting.{lefts, rights}
-use Rattle.rewrite_core.specs.PlainRewriting.{PlainRewriting, Node, PlainWay, One, Two, Tail, LeftGrew, RightGrew, BothGrew, PlainDelta, Change, OfChild, OfDistinct, OfJoin}
-use Rattle.rewrite_core.specs.PlainRewriting as tree
-use Rattle.growth_laws.specs.MadePlaces.{place, places, Standing, both_standing, before_tail, is_made_at, standing_of, standing_in, standing_of_delta, standing_in_delta}
+use Rattle.rewrite_core.specs.PlainRewriting.{PlainRewriting, PlainWay, One, Two, Tail, LeftGrew, RightGrew, BothGrew, PlainDelta, Change, OfChild, OfDistinct, OfJoin}
+use Rattle.growth_laws.specs.MadePlaces.{place, places, both_standing, before_tail, is_made_at, standing_of, standing_in, standing_of_delta}
 use Rattle.growth_laws.specs.Parts.{plan_at}
-use Rattle.made_places.specs.Formed.{IsFormed, IsFormedWay, IsFormedDelta, delta_plan}
+use Rattle.made_places.specs.Formed.{IsFormedWay, IsFormedDelta, delta_plan}
 use Rattle.made_places.specs.Marks.{marks, unmarked, either, tail_cuts}
 use Rattle.made_places.proofs.Covered.{Covers, tree_covers, delta_covers, together, over_one}
 use Rattle.made_places.proofs.Formed as formed

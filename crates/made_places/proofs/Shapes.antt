@@ -1,9 +1,9 @@
 -- Where the places of a node's inputs stand among the places of its plan.
-use Rattle.std.proofs.Common.{◌≡◌, refl, List, [], ◌∷◌, ◌++◌}
+use Rattle.std.proofs.Common.{◌≡◌, refl, [], ◌∷◌, ◌++◌}
 use Rattle.plan_core.specs.PlainPlan.{PlainPlan, Scan, Filter, Project, Distinct, Group, Join, Concat, Order}
 use Rattle.estimator.specs.Cuts.{Cuts}
 use Rattle.rewrite_core.specs.IsRewriting.{OfOne, OfTwo, OfSides, OfTail, OfDeltaTail, OfDistinctChild, lefts, rights}
-use Rattle.growth_laws.specs.MadePlaces.{Place, place, places}
+use Rattle.growth_laws.specs.MadePlaces.{place, places}
 use Rattle.made_places.specs.Marks.{tail_cuts, places_before}
 
 -- one input

@@ -1,5 +1,5 @@
 -- Worked places: the definitions compute them.
-use Rattle.std.specs.Prelude.{◌≡◌, refl, ℕ, pos, true, false, [], ◌∷◌}
+use Rattle.std.specs.Prelude.{◌≡◌, refl, ℕ, true, false, [], ◌∷◌}
 use Rattle.rows_core.specs.declared.cut.Cut.{Cut}
 use Rattle.scalar_ops.specs.declared.cell.Cell.TheVariants as cell
 use Rattle.plan_core.specs.declared.agg.Agg.TheVariants.{Count}

@@ -5,10 +5,9 @@ use Rattle.plan_core.specs.PlainPlan.{plan_of}
 use Rattle.rewrite_core.specs.IsRewriting.{lefts, rights}
 use Rattle.rewrite_core.specs.PlainRewriting.{One, Two, Read, Tail, LeftGrew, RightGrew, BothGrew, Unchanged, NewRows, OfChild, OfDistinct, OfJoin, PlainWay, PlainDeltaWay, rewriting_of, way_of, grown_way, delta_of, delta_way_of, Change}
 use Rattle.rewrite_core.specs.PlainRewriting as tree
-use Rattle.growth_laws.specs.MadePlaces.{places, before_tail, nowhere, standing_in, standing_of_delta}
 use Rattle.made_places.specs.Formed.{IsFormed, IsFormedWay, IsFormedDelta, delta_plan}
 use Rattle.growth_laws.specs.Parts.{plan_at}
-use Rattle.made_places.specs.Marks.{marks, unmarked, either, tail_cuts}
+use Rattle.made_places.specs.Marks.{either, tail_cuts}
 use Rattle.made_places.proofs.Formed as formed
 use Rattle.made_places.proofs.Found.{own_is, tree_found, delta_found}
 use Rattle.made_places.proofs.MarkLemmas.{nowhere_marked, scan_marks}
@@ -16,7 +15,6 @@ use Rattle.made_places.proofs.MarkedWays as marked
 use Rattle.made_places.proofs.MarkedWays.{tree_marks, delta_marks, way_marks}
 use Rattle.made_places.proofs.Sizes.{size_of, way_size, delta_size, delta_way_size, size_grown}
 use Rattle.made_places.proofs.marks.+marks.Goals as goal
-
 
 pub marked-marked_in-requires : goal.marked-marked_in-requires
 marked-marked_in-requires t c =
@@ -45,7 +43,7 @@ marked_in-returns-in_ok-marked-in-One t c =
     λ root own.
     let found = tree_found c.deref.result.now c.in-One.input.value c.in_ok-marked-in-One.field-0.items c.args.at.now c.args.at.now c.deref.ensures c.in_ok-marked-in-One.ensures refl in
     let whole = ap (λ (ms : List Bool). ms ++ c.args.own ∷ []) found ∙ sym (marked.one_marks p c.args.at.now root c.args.own own r is)
-        ∙ ap (way_marks p c.args.at.now root c.args.own own) (sym w) in
+    ∙ ap (way_marks p c.args.at.now root c.args.own own) (sym w) in
     subst (λ (ms : List Bool). IfOk c.of_one-in-One.result (λ all. all.items ≡ ms)) whole c.of_one-in-One.ensures
 
 pub marked_in-marked-requires-in-Two : goal.marked_in-marked-requires-in-Two
@@ -79,7 +77,7 @@ marked_in-returns-in_ok-marked-in-Two t c =
     let left = tree_found c.deref-in-Two-2.result.now c.in-Two.left.value c.in_ok-left-in-Two.left.items c.sides.result.0.now (lefts (plan_at l) c.args.at.now) c.deref-in-Two-2.ensures c.in_ok-left-in-Two.ensures (c.sides.ensures.lefts ∙ side) in
     let right = tree_found c.deref-in-Two-3.result.now c.in-Two.right.value c.in_ok-marked-in-Two.field-0.items c.sides.result.1.now (rights (plan_at l) c.args.at.now) c.deref-in-Two-3.ensures c.in_ok-marked-in-Two.ensures (c.sides.ensures.rights ∙ other) in
     let whole = (λ i. left i ++ (right i ++ c.args.own ∷ [])) ∙ sym (marked.two_marks p c.args.at.now root c.args.own own l r is)
-        ∙ ap (way_marks p c.args.at.now root c.args.own own) (sym w) in
+    ∙ ap (way_marks p c.args.at.now root c.args.own own) (sym w) in
     subst (λ (ms : List Bool). IfOk c.of_two.result (λ all. all.items ≡ ms)) whole c.of_two.ensures
 
 pub marked_in-marked_in_grown-requires : goal.marked_in-marked_in_grown-requires
@@ -114,7 +112,7 @@ marked_in-returns-in-Scan t c =
     let is : IsFormedWay p tree.Scan = subst (IsFormedWay p) w c.requires in
     λ root own.
     let whole = ap (λ (ms : List Bool). ms ++ c.args.own ∷ []) c.new.ensures.items ∙ sym (scan_marks p c.args.at.now root c.args.own own is.1)
-        ∙ ap (way_marks p c.args.at.now root c.args.own own) (sym w) in
+    ∙ ap (way_marks p c.args.at.now root c.args.own own) (sym w) in
     subst (λ (ms : List Bool). IfOk c.of_one.result (λ all. all.items ≡ ms)) whole c.of_one.ensures
 
 pub marked_in_grown-marked_in_delta-requires : goal.marked_in_grown-marked_in_delta-requires
@@ -138,7 +136,7 @@ marked_in_grown-returns-in_ok-marked_in_delta-in-Tail t c =
     λ hit2 root own.
     let v : grown_way hit2 c.args.parts.now ≡ Tail hit2 d = ap (grown_way hit2) c.in-Tail.is in
     let whole = (λ i. before i ++ (behind i ++ c.args.own ∷ [])) ∙ sym (marked.tail_marks p c.args.at.now root c.args.own own hit d is)
-        ∙ ap (way_marks p c.args.at.now root c.args.own own) (sym v) in
+    ∙ ap (way_marks p c.args.at.now root c.args.own own) (sym v) in
     subst (λ (ms : List Bool). IfOk c.of_two.result (λ all. all.items ≡ ms)) whole c.of_two.ensures
 
 pub marked_in_grown-marked_in_delta-requires-in-LeftGrew : goal.marked_in_grown-marked_in_delta-requires-in-LeftGrew
@@ -174,7 +172,7 @@ marked_in_grown-returns-in_ok-marked-in-LeftGrew t c =
     λ hit2 root own.
     let v : grown_way hit2 c.args.parts.now ≡ LeftGrew hit2 d r = ap (grown_way hit2) c.in-LeftGrew.is in
     let whole = (λ i. left i ++ (right i ++ c.args.own ∷ [])) ∙ sym (marked.left_marks p c.args.at.now root c.args.own own hit d r is)
-        ∙ ap (way_marks p c.args.at.now root c.args.own own) (sym v) in
+    ∙ ap (way_marks p c.args.at.now root c.args.own own) (sym v) in
     subst (λ (ms : List Bool). IfOk c.of_two-in-LeftGrew.result (λ all. all.items ≡ ms)) whole c.of_two-in-LeftGrew.ensures
 
 pub marked_in_grown-marked-requires-in-RightGrew : goal.marked_in_grown-marked-requires-in-RightGrew
@@ -210,7 +208,7 @@ marked_in_grown-returns-in_ok-marked_in_delta-in-RightGrew t c =
     λ hit2 root own.
     let v : grown_way hit2 c.args.parts.now ≡ RightGrew hit2 l d = ap (grown_way hit2) c.in-RightGrew.is in
     let whole = (λ i. left i ++ (right i ++ c.args.own ∷ [])) ∙ sym (marked.right_marks p c.args.at.now root c.args.own own hit l d is)
-        ∙ ap (way_marks p c.args.at.now root c.args.own own) (sym v) in
+    ∙ ap (way_marks p c.args.at.now root c.args.own own) (sym v) in
     subst (λ (ms : List Bool). IfOk c.of_two-in-RightGrew.result (λ all. all.items ≡ ms)) whole c.of_two-in-RightGrew.ensures
 
 pub marked_in_grown-marked-requires-in-BothGrew : goal.marked_in_grown-marked-requires-in-BothGrew
@@ -280,7 +278,7 @@ marked_in_grown-returns-in_ok-right-in-BothGrew t c =
     λ hit2 root own.
     let v : grown_way hit2 c.args.parts.now ≡ BothGrew hit2 l rd ld r = ap (grown_way hit2) c.in-BothGrew.is in
     let whole = (λ i. left i ++ (right i ++ c.args.own ∷ [])) ∙ sym (marked.both_marks p c.args.at.now root c.args.own own hit l rd ld r is)
-        ∙ ap (way_marks p c.args.at.now root c.args.own own) (sym v) in
+    ∙ ap (way_marks p c.args.at.now root c.args.own own) (sym v) in
     subst (λ (ms : List Bool). IfOk c.of_two-in-BothGrew.result (λ all. all.items ≡ ms)) whole c.of_two-in-BothGrew.ensures
 
 pub marked_in_delta-marked_in_delta-requires : goal.marked_in_delta-marked_in_delta-requires
@@ -302,7 +300,7 @@ marked_in_delta-returns-in_ok-behind-in-Tail t c =
     let before = c.in_ok-before-in-Tail.ensures in
     let behind = delta_found c.deref.result.now c.in-Tail.input.value c.in_ok-behind-in-Tail.behind.items c.tail_cuts.result.now (tail_cuts p c.args.at.now) c.deref.ensures c.in_ok-behind-in-Tail.ensures c.tail_cuts.ensures in
     let whole = (λ i. before i ++ (behind i ++ false ∷ [])) ∙ sym (marked.child_marks p d0.old d0.new c.args.at.now d is)
-        ∙ ap (λ (way : PlainDeltaWay). delta_marks (Change p d0.old d0.new way) c.args.at.now) (sym w) in
+    ∙ ap (λ (way : PlainDeltaWay). delta_marks (Change p d0.old d0.new way) c.args.at.now) (sym w) in
     subst (λ (ms : List Bool). IfOk c.of_two.result (λ all. all.items ≡ ms)) whole c.of_two.ensures
 
 pub marked_in_delta-marked_in_delta-requires-in-Distinct : goal.marked_in_delta-marked_in_delta-requires-in-Distinct
@@ -337,7 +335,7 @@ marked_in_delta-returns-in_ok-marked-in-Distinct t c =
     let old = tree_found c.deref-in-Distinct-2.result.now c.in-Distinct.old.value c.in_ok-marked-in-Distinct.field-0.items c.args.at.now c.args.at.now c.deref-in-Distinct-2.ensures c.in_ok-marked-in-Distinct.ensures refl in
     let found = c.in_ok-found-in-Distinct.ensures ∙ ap (λ (ms : List Bool). ms ++ false ∷ []) child in
     let whole = (λ i. either (old i) (found i)) ∙ sym (marked.distinct_marks p d0.old d0.new c.args.at.now r d is)
-        ∙ ap (λ (way : PlainDeltaWay). delta_marks (Change p d0.old d0.new way) c.args.at.now) (sym w) in
+    ∙ ap (λ (way : PlainDeltaWay). delta_marks (Change p d0.old d0.new way) c.args.at.now) (sym w) in
     subst (λ (ms : List Bool). IfOk c.either.result (λ all. all.items ≡ ms)) whole c.either.ensures
 
 pub marked_in_delta-marked_in_delta-requires-in-Join : goal.marked_in_delta-marked_in_delta-requires-in-Join
@@ -373,7 +371,7 @@ marked_in_delta-returns-in_ok-marked-in-Join t c =
     let left = delta_found c.deref-in-Join-2.result.now c.in-Join.left.value c.in_ok-left-in-Join.left.items c.sides.result.0.now (lefts (delta_plan d) c.args.at.now) c.deref-in-Join-2.ensures c.in_ok-left-in-Join.ensures (c.sides.ensures.lefts ∙ side) in
     let right = tree_found c.deref-in-Join-3.result.now c.in-Join.right.value c.in_ok-marked-in-Join.field-0.items c.sides.result.1.now (rights (delta_plan d) c.args.at.now) c.deref-in-Join-3.ensures c.in_ok-marked-in-Join.ensures (c.sides.ensures.rights ∙ other) in
     let whole = (λ i. left i ++ (right i ++ false ∷ [])) ∙ sym (marked.join_marks p d0.old d0.new c.args.at.now d r is)
-        ∙ ap (λ (way : PlainDeltaWay). delta_marks (Change p d0.old d0.new way) c.args.at.now) (sym w) in
+    ∙ ap (λ (way : PlainDeltaWay). delta_marks (Change p d0.old d0.new way) c.args.at.now) (sym w) in
     subst (λ (ms : List Bool). IfOk c.of_two-in-Join.result (λ all. all.items ≡ ms)) whole c.of_two-in-Join.ensures
 
 pub marked_in_delta-returns-in-Unchanged : goal.marked_in_delta-returns-in-Unchanged
