@@ -21,7 +21,7 @@ use Rattle.result_ops.specs.Bounds.{limit}
 use Rattle.result_ops.specs.Steps.{made_of}
 use Rattle.result_ops.specs.declared.made.Made.{Made}
 use Rattle.evaluation.specs.Recording.{is_recorded, if_recorded, recorded_of, recorded_below, AreMade, IsAmong, IsFoundBelow}
-use Rattle.evaluation.specs.declared.recorded.MadePlace.{MadePlace}
+use Rattle.evaluation.specs.declared.recording.MadePlace.{MadePlace}
 use Rattle.evaluation.proofs.RecordedParts.{all_below}
 use Rattle.executor.specs.Outcomes.{IsMadeAt, IsAnyMadeAt, IsResultAt, IsKeptOf, KeepsAt, IsKeptAt}
 use Rattle.executor.specs.declared.outcome.KeptPlace.{KeptPlace}
@@ -79,32 +79,33 @@ counted p c r =
 -- ---- one was made there
 
 module _ (extents : Extents) (results : KeptResults) where
+  abbrev IsOfTree : List MadePlace → PlainRewriting → Type 0
+  IsOfTree found tree = (made : MadePlace) × Contains found made × (plan_of made.plan ≡ plan_at tree) × (made.cuts ≡ cuts_at tree)
+
+  more_found : (m : MadePlace) (found : List MadePlace) (trees : List PlainRewriting) → AllByRecursion (IsOfTree found) trees → AllByRecursion (IsOfTree (m ∷ found)) trees
+  more_found m found [] all = tt
+  more_found m found (tree ∷ trees) all = ((all.0.0, contains_more m found all.0.0 all.0.1, all.0.2, all.0.3), more_found m found trees all.1)
+
   of_tree : (trees : List PlainRewriting) (found : List MadePlace) → AreMade extents results trees found
-      → AllByRecursion (λ tree. (made : MadePlace) × Contains found made × (plan_of made.plan ≡ plan_at tree) × (made.cuts ≡ cuts_at tree)) trees
+      → AllByRecursion (IsOfTree found) trees
   of_tree [] [] are = tt
   of_tree [] (m ∷ found) are = absurd are
   of_tree (tree ∷ trees) [] are = absurd are
-  of_tree (tree ∷ trees) (m ∷ found) are = ((m, contains_here m found, are.0.plan, are.0.cuts), more (of_tree trees found are.1))
-    where
-      more : {us : List PlainRewriting}
-          → AllByRecursion (λ t. (made : MadePlace) × Contains found made × (plan_of made.plan ≡ plan_at t) × (made.cuts ≡ cuts_at t)) us
-          → AllByRecursion (λ t. (made : MadePlace) × Contains (m ∷ found) made × (plan_of made.plan ≡ plan_at t) × (made.cuts ≡ cuts_at t)) us
-      more {us = []} all = tt
-      more {us = u ∷ us} all = ((all.0.0, contains_more m found all.0.0 all.0.1, all.0.2, all.0.3), more all.1)
+  of_tree (tree ∷ trees) (m ∷ found) are = ((m, contains_here m found, are.0.0, are.0.1), more_found m found trees (of_tree trees found are.1))
 
   module _ (p : PlainPlan) (c : Cuts) (own : MadePlace) (found : List MadePlace) (here : IsMadeAt (place p c) own) where
-    module _ (way_of_it : PlainRewriting) (of_plan : plan_at way_of_it ≡ p) (of_cuts : cuts_at way_of_it ≡ c) (are : AreMade extents results (recorded_below way_of_it) found) where
-      below : (at : Place) (tree : PlainRewriting) → Contains (recorded_below way_of_it) tree → plan_at tree ≡ at.plan → cuts_at tree ≡ at.cuts → IsAnyMadeAt (own ∷ found) at
+    module _ (r : PlainRewriting) (of_plan : plan_at r ≡ p) (of_cuts : cuts_at r ≡ c) (are : AreMade extents results (recorded_below r) found) where
+      below : (at : Place) (tree : PlainRewriting) → Contains (recorded_below r) tree → plan_at tree ≡ at.plan → cuts_at tree ≡ at.cuts → IsAnyMadeAt (own ∷ found) at
       below at tree is of_tree_plan of_tree_cuts =
-          let one = All-contains _ (recorded_below way_of_it) tree (All-from_recursion _ (recorded_below way_of_it) (of_tree (recorded_below way_of_it) found are)) is in
+          let one = All-contains (IsOfTree found) (recorded_below r) tree (All-from_recursion (IsOfTree found) (recorded_below r) (of_tree (recorded_below r) found are)) is in
           (one.0, contains_more own found one.0 one.1, (one.2 ∙ of_tree_plan, one.3 ∙ of_tree_cuts))
 
       at_root : (at : Place) → p ≡ at.plan → c ≡ at.cuts → IsAnyMadeAt (own ∷ found) at
       at_root at same_plan same_cuts = (own, contains_here own found, (here.0 ∙ same_plan, here.1 ∙ same_cuts))
 
-      itself : (b : Bool) (at : Place) (tree : PlainRewriting) → Contains (if_recorded b way_of_it) tree → plan_at tree ≡ at.plan → cuts_at tree ≡ at.cuts → IsAnyMadeAt (own ∷ found) at
+      itself : (b : Bool) (at : Place) (tree : PlainRewriting) → Contains (if_recorded b r) tree → plan_at tree ≡ at.plan → cuts_at tree ≡ at.cuts → IsAnyMadeAt (own ∷ found) at
       itself true at tree is of_tree_plan of_tree_cuts =
-          let same : tree ≡ way_of_it = All-contains (λ t. t ≡ way_of_it) (way_of_it ∷ []) tree (All-from_recursion (λ t. t ≡ way_of_it) (way_of_it ∷ []) (refl, tt)) is in
+          let same : tree ≡ r = All-contains (λ t. t ≡ r) (r ∷ []) tree (All-from_recursion (λ t. t ≡ r) (r ∷ []) (refl, tt)) is in
           at_root at (sym of_plan ∙ sym (ap plan_at same) ∙ of_tree_plan) (sym of_cuts ∙ sym (ap cuts_at same) ∙ of_tree_cuts)
       itself false at tree is of_tree_plan of_tree_cuts =
           absurd (All-contains (λ t. ⊥) [] tree (All-from_recursion (λ t. ⊥) [] tt) is)
@@ -145,7 +146,7 @@ module _ (extents : Extents) (results : KeptResults) where
   results_below [] (m ∷ found) are own within = absurd are
   results_below (tree ∷ trees) [] are own within = absurd are
   results_below (tree ∷ trees) (m ∷ found) are own within =
-      (result_of tree m are.0.plan are.0.cuts are.0.made own.0.made within.0, results_below trees found are.1 own.1 within.1)
+      (result_of tree m are.0.0 are.0.1 are.0.2 own.0.made within.0, results_below trees found are.1 own.1 within.1)
 
   pub all_results : (r : PlainRewriting) (own : MadePlace) (found : List MadePlace) → IsMadeAt (place (plan_at r) (cuts_at r)) own → made_by extents results r ≡ Ok (made_of own.made)
       → IsMade (plan_at r) (plan_lists extents (plan_at r) (cuts_at r)) (made_by extents results r) → AreMade extents results (recorded_below r) found

@@ -1,5 +1,5 @@
 -- Files that are read one after another.
-use Rattle.std.proofs.Common.{◌≡◌, refl, sym, ap, ◌∙◌, subst, ℕ, ◌+◌, ◌<◌, ◌≤◌, ◌^◌, ◌-◌, min, Bool, List, [], ◌∷◌, ◌++◌, length, take, IsTrue, append_assoc, sum_by, arith}
+use Rattle.std.proofs.Common.{◌≡◌, ◌≢◌, refl, sym, ap, ◌∙◌, subst, ℕ, ◌+◌, ◌<◌, ◌≤◌, ◌^◌, ◌-◌, min, Bool, List, [], ◌∷◌, ◌++◌, length, take, IsTrue, append_assoc, sum_by, arith}
 use Rattle.std.specs.List.{AllByRecursion}
 use Rattle.std.proofs.lemmas.List.{append-nil, length-take}
 use Rattle.std.proofs.lemmas.List.Sums.{sum_by-append, sum_by_push}
@@ -8,8 +8,9 @@ use Rattle.rows_core.specs.declared.file_ref.FileRef.{FileRef}
 use Rattle.row_blob.specs.Spelling.{kept_spelling}
 use Rattle.row_blob.specs.declared.kept.Kept.{Kept}
 use Rattle.row_blob.specs.declared.shape.Shape.{Shape}
-use Rattle.outside_traits.specs.View.{Counts}
-use Rattle.outside_traits.specs.Calls.{CountsTaken, MayRaiseReads}
+use Rattle.estimator.specs.Bytes.{capped}
+use Rattle.outside_traits.specs.View.{View, Counts}
+use Rattle.outside_traits.specs.Calls.{CountsTaken, MayRaiseReads, Idles}
 use Rattle.plan_core.specs.PlainPlan.{leaves}
 use Rattle.plan_core.specs.PlanTyping.{Kinds}
 use Rattle.rewrite_core.specs.Files.{FileName}
@@ -33,7 +34,7 @@ rises_on old half new first then =
 taken_on : (names : List FileName) (extents : Extents) (results : KeptResults) (name : FileName) (old half new : Counts) → HaveTaken extents results names old half → HasTaken extents results name half new
     → HaveTaken extents results (names ++ name ∷ []) old new
 taken_on [] extents results name old half new before now =
-    let one : sum_by (held_bytes extents results) (name ∷ []) ≡ held_bytes extents results name = refl in
+    let one : sum_by (held_bytes extents results) (name ∷ []) ≡ 0 + held_bytes extents results name = refl in
     let same : half.taken ≡ old.taken = before in
     let taken : new.taken ≡ min (half.taken + held_bytes extents results name) (2 ^ 64 - 1) = now in omega (arith, one, same, taken)
 taken_on (n ∷ names) extents results name old half new before now =
@@ -130,3 +131,22 @@ rest_there Has all names left split there = behind names left (subst (AllByRecur
 
 pub one_shorter : (before after : List FileName) (name : FileName) → before ≡ name ∷ after → length after < length before
 one_shorter before after name is = let l : length before ≡ length (name ∷ after) = ap length is in omega (arith, l)
+
+-- as many as are left, by their count
+pub some_left : (names : List FileName) (n : ℕ) → n ≡ capped (length names) → 0 < n → names ≢ []
+some_left names n is above none =
+    let count : length names ≡ 0 = ap length none in let capped_count : n ≡ min (length names) (2 ^ 64 - 1) = is in omega (arith, count, capped_count, above)
+
+pub none_left : (names : List FileName) (n : ℕ) → n ≡ capped (length names) → n ≤ 0 → names ≡ []
+none_left [] n is low = refl
+none_left (name ∷ names) n is low = absurd (let capped_count : n ≡ min (length (name ∷ names)) (2 ^ 64 - 1) = is in omega (arith, capped_count, low))
+
+-- where nothing was called, nothing changed
+pub idles_yet : (v : View) → Idles v v
+idles_yet v = record {
+  time = record { later = omega arith; kept = λ k file x before left. left; no_more = λ k file x before left. left };
+  same = λ g. refl;
+  same_there = λ g. refl;
+  no_more = λ k g x later high. absurd (omega (arith, later, high));
+  kept = λ g x now. now;
+}

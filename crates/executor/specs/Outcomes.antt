@@ -24,7 +24,7 @@ use Rattle.result_ops.specs.declared.made.Made.{Made}
 use Rattle.result_ops.specs.declared.refusal.MakeRefusal.{MakeRefusal}
 use Rattle.result_ops.specs.declared.refusal.MakeRefusal.TheVariants as refusal
 use Rattle.evaluation.specs.Passing.{Passes, IsStored, IsTyped, IsWithin}
-use Rattle.evaluation.specs.declared.recorded.MadePlace.{MadePlace}
+use Rattle.evaluation.specs.declared.recording.MadePlace.{MadePlace}
 use Rattle.executor.specs.Progress.{ArePartsOf, HaveRead}
 use Rattle.executor.specs.declared.outcome.KeptPlace.{KeptPlace}
 use Rattle.executor.specs.declared.outcome.Outcome.{Outcome}
@@ -123,6 +123,6 @@ pub record Finishes (extents : Extents) (results : KeptResults) (r : PlainRewrit
 -- these are parts of the rewriting's pieces, on a cut of one interval for each leaf, and what was read is what these extents and
 -- kept results are
 pub record AreReadAs (schemas : List Kinds) (extents : Extents) (results : KeptResults) (r : PlainRewriting) (parts : List Part) : Type 0 where
-  pub parts : ArePartsOf schemas (pieces_of r) parts
+  pub are : ArePartsOf schemas (pieces_of r) parts
   pub cuts : length (cuts_at r) ≡ leaf_count (plan_at r)
   pub read : HaveRead schemas extents results (pieces_of r) parts

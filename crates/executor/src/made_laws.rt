@@ -12,7 +12,7 @@ ghost use Rattle.result_ops.specs.Bounds.{limit};
 ghost use Rattle.result_ops.specs.Steps.{made_of};
 ghost use Rattle.evaluation.specs.Passing.{IsWithin};
 ghost use Rattle.evaluation.specs.Recording.{recorded_below, AreMade};
-ghost use Rattle.evaluation.specs.declared.recorded.MadePlace.{MadePlace as AMadePlace};
+ghost use Rattle.evaluation.specs.declared.recording.MadePlace.{MadePlace as AMadePlace};
 ghost use Rattle.executor.specs.Outcomes.{IsMadeAt, IsAnyMadeAt, IsResultAt};
 
 use evaluation::{made_places_are_recorded, recorded_results_are_results};

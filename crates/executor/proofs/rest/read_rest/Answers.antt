@@ -6,7 +6,7 @@ use Rattle.executor.specs.Progress.{left_in, next_shape}
 use Rattle.executor.specs.Running.{EndsBy, EndsOver}
 use Rattle.executor.specs.Sources.{sources}
 use Rattle.executor.proofs.NextParts.{some_first}
-use Rattle.executor.proofs.RestSteps.{rises_on, most_of_all, most_at_end, reads_more, none_yet, rest_there, one_shorter}
+use Rattle.executor.proofs.RestSteps.{idles_yet, some_left, none_left, rises_on, most_of_all, most_at_end, reads_more, none_yet, rest_there, one_shorter}
 use Rattle.executor.proofs.RestEnds.{refused_most, ends_by, ends_over}
 use Rattle.executor.proofs.RestShapes.{has_next}
 use Rattle.executor.proofs.rest.read_rest.Goals as goal
@@ -16,7 +16,7 @@ loop-alloc-init g c = record {
   rewriting = refl;
   read = none_yet g.D.Store.tells (g.D.Store.view c.args.store.now).files (g.P.Places.files c.args.places.now) (g.P.Places.machines c.args.places.now) (g.P.Places.stream_kinds c.args.places.now)
       c.args.job.now.parts.items (g.D.Store.counts c.args.store.now);
-  idles = ?;
+  idles = idles_yet (g.D.Store.view c.args.store.now);
 }
 
 pub read_next-requires-clause-there : goal.read_next-requires-clause-there
@@ -47,7 +47,7 @@ returns-in_err-read_next-clause-rewriting g c = c.in_err-read_next.ensures.rewri
 pub returns-in_err-read_next-clause-most : goal.returns-in_err-read_next-clause-most
 returns-in_err-read_next-clause-most g c = λ tells.
     let at = c.loop-alloc.invariant in
-    let some = some_first (left_in c.loop-alloc.job.parts.items) c.read_next.requires.left in
+    let some = some_first (left_in c.loop-alloc.job.parts.items) (some_left (left_in c.loop-alloc.job.parts.items) c.left.result c.left.ensures c.loop-alloc-test.true) in
     let parts = c.requires.parts in
     let next = has_next (g.P.Places.stream_kinds c.args.places.now) parts.0 c.loop-alloc.job.parts.items some.0 some.1 (at.read.parts parts.0 parts.1) some.2 in
     most_of_all (g.P.Places.files c.args.places.now) (left_in c.args.job.now.parts.items) at.read.names some.0 some.1 (g.D.Store.counts c.args.store.now) (g.D.Store.counts c.loop-alloc.store)
@@ -59,7 +59,7 @@ returns-in_err-read_next-clause-most g c = λ tells.
 pub returns-in_err-read_next-clause-cause : goal.returns-in_err-read_next-clause-cause
 returns-in_err-read_next-clause-cause g c =
     let at = c.loop-alloc.invariant in
-    let some = some_first (left_in c.loop-alloc.job.parts.items) c.read_next.requires.left in
+    let some = some_first (left_in c.loop-alloc.job.parts.items) (some_left (left_in c.loop-alloc.job.parts.items) c.left.result c.left.ensures c.loop-alloc-test.true) in
     let same : c.from_residual.result ≡ Err c.in_err-read_next.field-0.0 = search rules in
     rw same
     (ends_by (g.P.Places.files c.args.places.now) (left_in c.args.job.now.parts.items) at.read.names some.0 some.1 (at.read.left ∙ ap (λ (l : List FileName). at.read.names ++ l) some.2)
@@ -69,7 +69,7 @@ returns-in_err-read_next-clause-cause g c =
 pub returns-in_err-read_next-clause-found : goal.returns-in_err-read_next-clause-found
 returns-in_err-read_next-clause-found g c = λ (pieces : List Piece) are (tells : IsTrue g.D.Store.tells).
     let at = c.loop-alloc.invariant in
-    let some = some_first (left_in c.loop-alloc.job.parts.items) c.read_next.requires.left in
+    let some = some_first (left_in c.loop-alloc.job.parts.items) (some_left (left_in c.loop-alloc.job.parts.items) c.left.result c.left.ensures c.loop-alloc-test.true) in
     let next = has_next (g.P.Places.stream_kinds c.args.places.now) pieces c.loop-alloc.job.parts.items some.0 some.1 (at.read.parts pieces are) some.2 in
     let same : c.from_residual.result ≡ Err c.in_err-read_next.field-0.0 = search rules in
     rw same
@@ -96,7 +96,8 @@ pub returns-clause-most : goal.returns-clause-most
 returns-clause-most g c = λ tells.
     let read = c.loop-alloc.invariant.read in
     most_at_end (g.P.Places.files c.args.places.now) (left_in c.args.job.now.parts.items) read.names (left_in c.loop-alloc.job.parts.items) (g.D.Store.counts c.args.store.now)
-    (g.D.Store.counts c.loop-alloc.store) read.left ? (read.most tells)
+    (g.D.Store.counts c.loop-alloc.store) read.left
+    (none_left (left_in c.loop-alloc.job.parts.items) c.left.result c.left.ensures c.loop-alloc-test.false) (read.most tells)
 
 pub returns-clause-idles : goal.returns-clause-idles
 returns-clause-idles g c = c.loop-alloc.invariant.idles
