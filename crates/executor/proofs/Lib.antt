@@ -1,4 +1,5 @@
 pub mod Begun
+pub mod Ended
 pub mod ExtentRows
 pub mod FileBounds
 pub mod FileForms
@@ -8,9 +9,11 @@ pub mod MadeResults
 pub mod NextParts
 pub mod PartSteps
 pub mod PieceCuts
+pub mod ReadAs
 pub mod ReadParts
 pub mod RestSteps
 pub mod RestEnds
 pub mod RestShapes
+pub mod RunEnds
 pub mod StreamTypes
 pub mod Updates
