@@ -4,6 +4,7 @@ pub mod ExtentRows
 pub mod FileBounds
 pub mod FileForms
 pub mod Joined
+pub mod KeptAt
 pub mod Lengths
 pub mod MadeResults
 pub mod NextParts

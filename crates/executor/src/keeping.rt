@@ -4,7 +4,7 @@ ghost use Rattle.std.specs.Option.{option_map};
 ghost use Rattle.plan_core.specs.PlainPlan.{plan_of};
 ghost use Rattle.growth_laws.specs.MadePlaces.{place, made_places};
 ghost use Rattle.made_places.specs.Formed.{IsFormed};
-ghost use Rattle.made_places.specs.Picking.{place_of};
+ghost use Rattle.made_places.specs.Picking.{place_of, places_said};
 ghost use Rattle.result_ops.specs.Bounds.{limit};
 ghost use Rattle.rewrite_core.specs.PlainRewriting.{rewriting_of};
 ghost use Rattle.executor.specs.Outcomes.{IsMadeAt, IsKeptOf, KeepEach, FindsAt, PutsKept};
@@ -33,8 +33,22 @@ pub(crate) fn kept_places(
         (made_places (plan_of rewriting.now.plan) rewriting.now.cuts (rewriting_of rewriting.now))
         kept.items) }
 {
+    let places = made_places(alloc, rewriting)?;
+    kept_at_each(alloc, places, own, found)
+}
+
+// What is kept at each of these places.
+fn kept_at_each(
+    alloc: Global,
+    places: Vec<Place>,
+    own: &MadePlace,
+    found: &[MadePlace],
+) -> Result<Vec<KeptPlace>, Memory>
+    ensures { IfOk result
+        (λ kept. KeepEach (own.now ∷ found.now) (places_said places.items) kept.items) }
+{
     let mut kept = Vec::new(alloc);
-    for place in made_places(alloc, rewriting)? {
+    for place in places {
         put_kept(alloc, place, own, found, &mut kept)?;
     }
     Ok(kept)
