@@ -1,5 +1,6 @@
 -- What is kept at one place more, and what is found among one result more.
-use Rattle.std.proofs.Common.{◌≡◌, refl, sym, subst, inl, inr, List, [], ◌∷◌, ◌++◌, Option, Some, None, map}
+use Rattle.std.proofs.Common.{◌≡◌, refl, sym, ap, ◌∙◌, subst, ◌-◌, ◌≤◌, inl, inr, List, [], ◌∷◌, ◌++◌, Option, Some, None, map, length, take, drop, get_or, arith}
+use Rattle.std.proofs.Math.Seq.{take-length}
 use Rattle.std.specs.List.{AllByRecursion, Contains}
 use Rattle.std.proofs.lemmas.List.Elements.{All-contains, All-from_recursion, Contains-append_cases}
 use Rattle.row_blob.specs.Kept.{AreEach}
@@ -21,6 +22,15 @@ finds_more m mades at None not is = λ (made : MadePlace) (among : Contains (m �
           not (subst (λ (x : MadePlace). IsMadeAt at x) same made_at)
       | inr other ↦ is made other made_at
     ]
+
+-- the first one isn't it
+pub finds_behind : (mades : List MadePlace) (m : MadePlace) (at : Place) (found : Option MadePlace) → 1 ≤ length mades → m ≡ get_or mades 0 m → (IsMadeAt at m → ⊥)
+    → FindsAt (take (length mades - 1) (drop 1 mades)) at found → FindsAt mades at found
+finds_behind [] m at found some is not finds = absurd (omega (arith, some))
+finds_behind (x ∷ mades) m at found some is not finds =
+    let count : length (x ∷ mades) - 1 ≡ length mades = omega arith in
+    let rest : take (length (x ∷ mades) - 1) mades ≡ mades = ap (λ n. take n mades) count ∙ take-length mades in
+    finds_more x mades at found (λ (made_at : IsMadeAt at x). not (subst (λ (y : MadePlace). IsMadeAt at y) (sym is) made_at)) (subst (λ (l : List MadePlace). FindsAt l at found) rest finds)
 
 module _ (mades : List MadePlace) where
   split_said : (ps : List code.Place) (p : code.Place) → AllByRecursion (IsAnyMadeAt mades) (places_said (ps ++ p ∷ [])) → AllByRecursion (IsAnyMadeAt mades) (places_said ps) × IsAnyMadeAt mades (place_of p)

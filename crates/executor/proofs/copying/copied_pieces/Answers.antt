@@ -9,4 +9,4 @@ copied_piece-requires c = nothing_at c.args.parts.now c.loop-part.part-index c.p
 
 pub loop-part-preserved : goal.loop-part-preserved
 loop-part-preserved c =
-    load_next c.args.parts.now c.loop-part.part-index c.part-item.result c.loop-part.pieces.items c.push.new.self.items c.in_ok-copied_piece.value c.loop-part-test.true c.part-item.is c.loop-part.invariant c.in_ok-copied_piece.ensures c.in_ok-push.ensures.items
+    load_next c.args.parts.now c.loop-part.part-index c.part-item.result c.loop-part.pieces.items c.push.new.self.items c.in_ok-copied_piece.field-0 c.loop-part-test.true c.part-item.is c.loop-part.invariant c.in_ok-copied_piece.ensures c.in_ok-push.ensures.items
