@@ -38,7 +38,7 @@ no_premise : {K : Type 0} (ks : List K) → AllByRecursion (λ (k : K). Unit {0}
 no_premise [] = tt
 no_premise (k ∷ ks) = (tt, no_premise ks)
 
-some_first : {B : Type 0} (bs : List B) → bs ≢ [] → (b : B) × (rest : List B) × (bs ≡ b ∷ rest)
+pub some_first : {B : Type 0} (bs : List B) → bs ≢ [] → (b : B) × (rest : List B) × (bs ≡ b ∷ rest)
 some_first [] left = absurd (left refl)
 some_first (b ∷ rest) left = (b, rest, refl)
 

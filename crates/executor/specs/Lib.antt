@@ -4,3 +4,6 @@ pub mod Progress
 pub mod Beginning
 pub mod Sources
 pub mod Loads
+pub mod Running
+pub mod Outcomes
+pub mod Runs

@@ -12,6 +12,7 @@ ghost use Rattle.kept_files.specs.Reads.{HasCause, FoundIn};
 ghost use Rattle.executor.specs.Firsts.{IsFirst};
 ghost use Rattle.executor.specs.Progress.{files_left, left_in, next_shape, IsNextPart, IsPartOf};
 ghost use Rattle.executor.specs.Progress.{ArePartsOf, HaveRead};
+ghost use Rattle.executor.specs.Running.{TookAtMost};
 ghost use Rattle.executor.specs.Sources.{sources, HoldFiles, HasTaken, HasReadNext};
 
 use crate::job::Job;
@@ -50,6 +51,9 @@ pub fn read_next<D: Store, P: Places>(
         → HaveRead (P.stream_kinds places.now) extents results pieces job.old.parts.items
         → HaveRead (P.stream_kinds places.now) extents results pieces job.new.parts.items
         × HasTaken extents results name (D.counts store.old) (D.counts store.new)) }
+    ensures most { (name : FileName) (others : List FileName) → left_in job.old.parts.items ≡ name ∷ others
+        → IsTrue D.tells → OnOk result
+        (TookAtMost (P.files places.now name).len (D.counts store.old) (D.counts store.new)) }
     ensures cause { (name : FileName) (others : List FileName) → left_in job.old.parts.items ≡ name ∷ others
         → IfErr result (HasCause (P.files places.now name) (D.counts store.old) (D.counts store.new)) }
     ensures found { (next : Part) (name : FileName) (others : List FileName)
@@ -103,6 +107,9 @@ pub(crate) fn read_part<D: Store, P: Places>(
         → HasReadNext (sources D.tells ((D.view store.old).files) (P.files places.now) (P.machines places.now)
         (P.stream_kinds places.now)) extents results piece part.old part.new (D.counts store.old)
         (D.counts store.new)) }
+    ensures most { (name : FileName) (others : List FileName) → files_left part.old ≡ name ∷ others
+        → IsTrue D.tells → OnOk result
+        (TookAtMost (P.files places.now name).len (D.counts store.old) (D.counts store.new)) }
     ensures cause { (name : FileName) (others : List FileName) → files_left part.old ≡ name ∷ others
         → IfErr result (HasCause (P.files places.now name) (D.counts store.old) (D.counts store.new)) }
     ensures found { (name : FileName) (others : List FileName) → files_left part.old ≡ name ∷ others

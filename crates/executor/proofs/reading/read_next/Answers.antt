@@ -1,4 +1,4 @@
-use Rattle.std.proofs.Common.{◌≡◌, ◌≢◌, sym, subst, rules, ◌<◌, List, [], length, take, Err, IfErr, arith}
+use Rattle.std.proofs.Common.{◌≡◌, ◌≢◌, sym, subst, rules, ◌<◌, List, [], ◌∷◌, length, take, Err, IfErr, arith}
 use Rattle.row_blob.specs.declared.shape.Shape.{Shape}
 use Rattle.rewrite_core.specs.Files.{FileName}
 use Rattle.growth_laws.specs.KeptResults.{KeptResults}
@@ -8,6 +8,7 @@ use Rattle.kept_files.specs.Reads.{HasCause, FoundIn}
 use Rattle.executor.specs.declared.part.Part.{Part}
 use Rattle.executor.specs.Firsts.{IsFirst}
 use Rattle.executor.specs.Progress.{files_left, left_in}
+use Rattle.executor.specs.Running.{TookAtMost}
 use Rattle.executor.specs.Sources.{sources}
 use Rattle.executor.proofs.Updates.{is_within}
 use Rattle.executor.proofs.NextParts.{left_of_next, next_there, next_part, next_name, next_found, next_less, job_parts, job_read}
@@ -55,3 +56,9 @@ returns-clause-read g c =
     let less = c.in_ok-read_part.ensures.next in
     job_read c.args.job.now.parts.items c.next_of-next.result c.index_mut.result.now (subst (λ (xs : List Part). IsFirst files_left xs c.next_of-next.result) c.as_slice.ensures.value c.next_of-next.ensures) c.index_mut.ensures.value c.read_part.new.part (sources g.D.Store.tells (g.D.Store.view c.args.store.now).files (g.P.Places.files c.args.places.now) (g.P.Places.machines c.args.places.now) (g.P.Places.stream_kinds c.args.places.now)) extents results (g.D.Store.counts c.args.store.now) (g.D.Store.counts c.read_part.new.store)
     c.in_ok-read_part.ensures.part (c.in_ok-read_part.ensures.read extents results) less.0 less.1 pieces name others left holds are have
+
+pub returns-clause-most : goal.returns-clause-most
+returns-clause-most g c = λ (name : FileName) (others : List FileName) left tells.
+    next_name c.args.job.now.parts.items c.next_of-next.result c.index_mut.result.now (subst (λ (xs : List Part). IsFirst files_left xs c.next_of-next.result) c.as_slice.ensures.value c.next_of-next.ensures) c.index_mut.ensures.value
+    (λ (n : FileName). TookAtMost (g.P.Places.files c.args.places.now n).len (g.D.Store.counts c.args.store.now) (g.D.Store.counts c.read_part.new.store))
+    (λ (n : FileName) (rest : List FileName) (here : files_left c.index_mut.result.now ≡ n ∷ rest). c.in_ok-read_part.ensures.most n rest here tells) name others left

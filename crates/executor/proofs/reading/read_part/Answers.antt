@@ -1,4 +1,5 @@
 use Rattle.std.proofs.Common.{◌≡◌, ◌≢◌, sym, ap, ◌∙◌, subst, rules, ◌+◌, ◌-◌, ◌<◌, List, [], take, Err, IfErr, arith}
+use Rattle.row_blob.specs.declared.kept.Kept.TheVariants as form
 use Rattle.row_blob.specs.declared.shape.Shape.{Shape}
 use Rattle.plan_core.specs.declared.plan.Plan as code
 use Rattle.plan_core.specs.PlainPlan.{plan_of}
@@ -10,8 +11,10 @@ use Rattle.growth_laws.specs.Pieces.{Piece}
 use Rattle.kept_files.specs.Reads.{FoundIn}
 use Rattle.executor.specs.declared.part.Part.{Part}
 use Rattle.executor.specs.Progress.{files_left, IsPartOf, HasRead}
+use Rattle.executor.specs.Running.{TookAtMost}
 use Rattle.executor.specs.Sources.{HasTaken}
 use Rattle.executor.proofs.PartSteps.{is_before, one_less, first_extent, extent_found, read_now, entry_found, stream_part, stream_read}
+use Rattle.executor.proofs.RestSteps.{took_spelled}
 use Rattle.executor.proofs.reading.read_part.Goals as goal
 
 pub returns-in_err-load_entry-in-Entry-clause-found : goal.returns-in_err-load_entry-in-Entry-clause-found
@@ -56,3 +59,20 @@ returns-in_ok-feed_extent-in-Gathered-clause-read g c =
     (g.D.Store.counts c.feed_extent.new.store) piece c.in-Gathered.gathering c.feed_extent.new.gathering c.in-Gathered.stream c.in-Gathered.next c.in-Gathered.end (subst (λ (p : Part). files_left p ≢ []) c.in-Gathered.is c.requires.left) c.in_ok-feed_extent-in-Gathered.ensures.fed holds (subst (IsPartOf (g.P.Places.stream_kinds c.args.places.now) piece) c.in-Gathered.is is)
     (subst (HasRead (g.P.Places.stream_kinds c.args.places.now) extents results piece) c.in-Gathered.is read) in
     (both.0, subst (λ (n : FileName). HasTaken extents results n (g.D.Store.counts c.args.store.now) (g.D.Store.counts c.feed_extent.new.store)) first both.1)
+
+pub returns-in_ok-load_entry-in-Entry-clause-most : goal.returns-in_ok-load_entry-in-Entry-clause-most
+returns-in_ok-load_entry-in-Entry-clause-most g c = λ (name : FileName) (others : List FileName) left tells.
+    let now = c.in_ok-load_entry-in-Entry.ensures.loaded.loads in
+    entry_found c.in-Entry.plan c.in-Entry.id (λ (shape : Shape) (n : FileName). TookAtMost (g.P.Places.files c.args.places.now n).len (g.D.Store.counts c.args.store.now) (g.D.Store.counts c.load_entry.new.store))
+    (g.P.Places.stream_kinds c.args.places.now) c.args.part.now c.in-Entry.loaded c.in-Entry.is
+    (took_spelled (g.P.Places.files c.args.places.now (Result c.in-Entry.id)).len ((g.D.Store.view c.args.store.now).files (g.P.Places.files c.args.places.now (Result c.in-Entry.id)).file) now.form
+    (g.D.Store.counts c.args.store.now) (g.D.Store.counts c.load_entry.new.store) (now.read.spelled tells) now.taken) name others left
+
+pub returns-in_ok-feed_extent-in-Gathered-clause-most : goal.returns-in_ok-feed_extent-in-Gathered-clause-most
+returns-in_ok-feed_extent-in-Gathered-clause-most g c = λ (name : FileName) (others : List FileName) left tells.
+    let now = c.in_ok-feed_extent-in-Gathered.ensures.fed in
+    extent_found (λ (shape : Shape) (n : FileName). TookAtMost (g.P.Places.files c.args.places.now n).len (g.D.Store.counts c.args.store.now) (g.D.Store.counts c.feed_extent.new.store))
+    (g.P.Places.stream_kinds c.args.places.now) c.args.part.now c.in-Gathered.gathering c.in-Gathered.stream c.in-Gathered.next c.in-Gathered.end c.in-Gathered.is
+    (took_spelled (g.P.Places.files c.args.places.now (Extent c.in-Gathered.stream c.in-Gathered.next)).len
+    ((g.D.Store.view c.args.store.now).files (g.P.Places.files c.args.places.now (Extent c.in-Gathered.stream c.in-Gathered.next)).file) (form.Rows now.rows)
+    (g.D.Store.counts c.args.store.now) (g.D.Store.counts c.feed_extent.new.store) (now.read.spelled tells) now.taken) name others left

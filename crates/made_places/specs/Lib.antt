@@ -1,0 +1,4 @@
+pub mod Formed
+pub mod Marks
+pub mod Picking
+pub mod Examples
