@@ -1,12 +1,10 @@
 //! Results that are recorded on the way.
 ghost use Rattle.std.specs.Prelude.{◌≡◌, IfOk, OnOk};
-ghost use Rattle.plan_core.specs.PlainPlan.{plan_of};
-ghost use Rattle.growth_laws.specs.MadePlaces.{counts_below};
 ghost use Rattle.rewrite_core.specs.PlainRewriting.{rewriting_of, way_of};
 ghost use Rattle.evaluation.specs.Recording.{is_made, IsPlaceOf, HasPlaceOf, RecordsOne, RecordsOwn};
 
 use crate::recording::{MadePlace, Recording};
-use plan_core::Plan;
+use made_places::counts_below;
 use result_ops::{Made, MakeRefusal};
 use rewrite_core::{Rewriting, Way};
 use rows_core::Memory;
@@ -23,19 +21,6 @@ fn is_made(way: &Way) -> bool
         Way::Two(_, _) => true,
         Way::Read(_) => false,
         Way::Grown { hit: _, parts: _ } => true,
-    }
-}
-
-// Groups, joins, orders and distincts count below the root.
-fn counts_below(plan: &Plan) -> bool
-    ensures { result ≡ counts_below (plan_of plan.now) }
-{
-    match plan {
-        Plan::Distinct { .. } => true,
-        Plan::Group { .. } => true,
-        Plan::Join { .. } => true,
-        Plan::Order { .. } => true,
-        _ => false,
     }
 }
 

@@ -9,5 +9,6 @@ mod picking;
 pub mod place;
 mod sides;
 
+pub use counting::counts_below;
 pub use made::made_places;
 pub use place::Place;
