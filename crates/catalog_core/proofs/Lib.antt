@@ -1,6 +1,9 @@
 pub mod ByName
+pub mod Chains
 pub mod Growth
 pub mod Kept
 pub mod Nested
 pub mod Places
 pub mod Texts
+pub mod Typings
+pub mod Results

@@ -2,11 +2,14 @@
 #![tactic(auto)]
 
 pub mod catalog;
+mod chains;
 mod columns;
 pub mod laws;
 mod program;
 mod programs;
 pub mod refusal;
+mod results;
+mod schemas;
 mod snapshot;
 pub mod stream;
 

@@ -4,6 +4,7 @@ use Rattle.catalog_types.specs.declared.snapshot.StreamState.{StreamState}
 use Rattle.indexmap.specs.IndexSet.{insert_key}
 use Rattle.catalog_core.specs.declared.stream.CatalogStream.{CatalogStream}
 use Rattle.catalog_core.specs.Catalogs.{table_of}
+use Rattle.entry_table.specs.Tables.{kept_of}
 use Rattle.catalog_core.specs.IsTable.{IsTable}
 use Rattle.catalog_core.specs.Streams.{name_of, state_of, states_of}
 use Rattle.catalog_core.specs.Table.{table_with, extent_count, new_stream, with_tick}
@@ -25,7 +26,7 @@ invariant_of-self c =
           ∙ names-with-new t.names.keys t.streams.items c.new-2.result c.args.name t.named (absent-name (states_of t.streams.items) c.args.name c.requires.fits.absent) (ap (λ (s : StreamState). s.name) made)
           ∙ sym (ap (λ (streams : List CatalogStream). map name_of streams) c.push_reserved.ensures.items);
       counted = t.counted ∙ sym (no-extent-more (states_of t.streams.items) c.args.name c.args.columns) ∙ sym (ap extent_count states);
-      sound = subst (λ (streams : List StreamState). IsTable (table_with t.tick t.next_file t.next_id streams t.programs.items t.entries.items)) (sym states)
+      sound = subst (λ (streams : List StreamState). IsTable (table_with t.tick t.next_file (kept_of t.kept).next_id streams t.programs.items (kept_of t.kept).entries)) (sym states)
           (stream-keeps c.args.name c.args.columns (table_of t) c.requires.fits t.sound);
     }
 
@@ -36,4 +37,4 @@ returns c =
     c.new-2.ensures ∙ ap (λ (columns : List Column). new_stream c.args.name columns) (c.in-Ok.ensures.columns ∙ c.into_vec.ensures) in
     let states : states_of c.push_reserved.new.self.items ≡ states_of t.streams.items ++ new_stream c.args.name c.args.columns ∷ [] =
     ap states_of c.push_reserved.ensures.items ∙ states-push t.streams.items c.new-2.result ∙ ap (λ (s : StreamState). states_of t.streams.items ++ s ∷ []) made in
-    c.add_tick.ensures ∙ ap (λ (streams : List StreamState). with_tick (table_with t.tick t.next_file t.next_id streams t.programs.items t.entries.items)) states
+    c.add_tick.ensures ∙ ap (λ (streams : List StreamState). with_tick (table_with t.tick t.next_file (kept_of t.kept).next_id streams t.programs.items (kept_of t.kept).entries)) states
