@@ -1,5 +1,5 @@
 -- What is said of a value that may be there, in an answer that may be want of memory.
-use Rattle.std.proofs.Common.{◌≡◌, Option, None, Some, Result, Ok, Err, IfOk, IfSome, IfNone, subst}
+use Rattle.std.proofs.Common.{◌≡◌, Option, None, Some, Result, Ok, Err, IfOk, OnOk, IfSome, IfNone, subst}
 
 pub ok-some : {A E : Type 0} {P Q : A → Type 0} (r : Result (Option A) E) → ((x : A) → P x → Q x) → IfOk r (λ found. IfSome found P) → IfOk r (λ found. IfSome found Q)
 ok-some (Ok (Some x)) f given = f x given
@@ -21,3 +21,8 @@ some-at P None x e given = absurd (cc)
 pub none-at : {A : Type 0} (P : Type 0) (found : Option A) → found ≡ None → IfNone found P → P
 none-at P None e given = given
 none-at P (Some x) e given = absurd (cc)
+
+-- two facts of an answer, and one that holds anyway
+pub all-three : {A E : Type 0} {P Q R : Type 0} (r : Result A E) → P → OnOk r Q → OnOk r R → OnOk r (P × (Q × R))
+all-three (Ok x) p q r = (p, (q, r))
+all-three (Err e) p q r = tt
