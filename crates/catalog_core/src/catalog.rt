@@ -14,7 +14,9 @@ use crate::results::{are_over, make_room_for_results};
 use crate::schemas::with_stream;
 use crate::snapshot::copy_streams;
 use crate::stream::CatalogStream;
-use catalog_types::{Change, Entry, Extent, NewEntry, Program, Snapshot, copy_entries, copy_programs};
+use catalog_types::{
+    Change, Entry, Extent, NewEntry, Program, Snapshot, copy_entries, copy_programs,
+};
 use entry_table::EntryTable;
 use indexmap::IndexSet;
 use plan_core::Schemas;
