@@ -1,5 +1,5 @@
 -- Changes that fit keep what is true of every table.
-use Rattle.std.proofs.Common.{◌≡◌, ℕ, zero, suc, ◌+◌, ◌<◌, ◌≤◌, Bool, true, false, cond, not, nat_lt, ◌||◌, List, [], ◌∷◌, ◌++◌, length, bytes_eq, None, Some, refl, ap, ◌∙◌, arith, length-append}
+use Rattle.std.proofs.Common.{◌≡◌, ℕ, zero, suc, ◌+◌, ◌<◌, ◌≤◌, Bool, true, false, cond, not, nat_lt, ◌||◌, List, [], ◌∷◌, ◌++◌, length, bytes_eq, Option, None, Some, refl, ap, ◌∙◌, arith, length-append}
 use Rattle.std.specs.List.{AllByRecursion, list_any, position_or_len}
 use Rattle.std.specs.Cmp.Lexicographic.{nat_list_eq_equiv}
 use Rattle.std.proofs.lemmas.Bool.Decides.{nat_tests}
@@ -9,12 +9,14 @@ use Rattle.catalog_types.specs.declared.change.Change.{Change}
 use Rattle.catalog_types.specs.declared.change.Change.TheVariants as change
 use Rattle.catalog_types.specs.declared.extent.Extent.{Extent}
 use Rattle.catalog_types.specs.declared.program.Program.{Program}
+use Rattle.catalog_types.specs.PlainEntry.{PlainNewEntry}
 use Rattle.catalog_types.specs.declared.snapshot.StreamState.{StreamState}
 use Rattle.plan_binder.specs.Binding.{has_repeat, is_there}
-use Rattle.catalog_core.specs.Programs.{names_of, extents_at, with_program}
+use Rattle.catalog_core.specs.Programs.{names_of, extents_at, AreByName}
 use Rattle.catalog_core.specs.IsTable.{IsStream, IsTable}
 use Rattle.catalog_core.proofs.ByName.{by-name-kept}
-use Rattle.catalog_core.specs.Table.{Table, place_of, extent_count, new_stream, with_extent, updated, most_ticks, most_extents, most_rows, most_programs, Fits, FitsStream, FitsAppend, after, with_programs, with_tick}
+use Rattle.catalog_core.proofs.OverStreams.{over-stream, over-append, past-tick, work-keeps-table, collection-keeps-table}
+use Rattle.catalog_core.specs.Table.{Table, place_of, extent_count, new_stream, with_extent, updated, most_ticks, most_extents, most_rows, most_programs, Fits, FitsStream, FitsAppend, FitsProgram, FitsWork, FitsCollection, after, with_programs, with_stored, with_tick}
 
 -- ---- names that differ
 
@@ -81,6 +83,10 @@ stream-keeps name columns t fits is = record {
   few_extents = let n = sum_by-append (λ (s : StreamState). length s.extents) t.streams (new_stream name columns ∷ []) in omega (arith, n, is.few_extents);
   few_programs = is.few_programs;
   by_name = is.by_name;
+  kept = is.kept;
+  over = over-stream t.streams (new_stream name columns) t.entries is.over;
+  past = is.past;
+  ids = is.ids;
 }
   where
     untrue : (b : Bool) → not b ≡ true → b ≡ false
@@ -141,12 +147,20 @@ append-keeps place extent t fits is = record {
   few_extents = let n = extents-counted t.streams place extent fits.has_place.0 in omega (arith, n, fits.room_in_all);
   few_programs = is.few_programs;
   by_name = is.by_name;
+  kept = is.kept;
+  over = over-append t.streams place extent t.entries is.over;
+  past = is.past;
+  ids = omega (arith, is.ids);
 }
 
 -- ---- a program stored, and a tick
 
-pub program-keeps : (program : Program) (t : Table) → length (with_program program t.programs) ≤ most_programs → IsTable t → IsTable (with_programs (with_program program t.programs) t)
-program-keeps program t few is = record {
+stored-few : (program : Option Program) (t : Table) → FitsProgram program t → IsTable t → (length (with_stored program t.programs) ≤ most_programs) × AreByName (with_stored program t.programs)
+stored-few None t fits is = (is.few_programs, is.by_name)
+stored-few (Some program) t fits is = (fits.1, by-name-kept program t.programs is.by_name)
+
+pub program-keeps : (program : Option Program) (t : Table) → FitsProgram program t → IsTable t → IsTable (with_programs (with_stored program t.programs) t)
+program-keeps program t fits is = record {
   counted = is.counted;
   first_file = is.first_file;
   last_file = is.last_file;
@@ -154,8 +168,12 @@ program-keeps program t few is = record {
   are_streams = is.are_streams;
   few_streams = is.few_streams;
   few_extents = is.few_extents;
-  few_programs = few;
-  by_name = by-name-kept program t.programs is.by_name;
+  few_programs = (stored-few program t fits is).0;
+  by_name = (stored-few program t fits is).1;
+  kept = is.kept;
+  over = is.over;
+  past = is.past;
+  ids = is.ids;
 }
 
 pub tick-keeps : (t : Table) → t.tick < most_ticks → IsTable t → IsTable (with_tick t)
@@ -169,11 +187,32 @@ tick-keeps t low is = record {
   few_extents = is.few_extents;
   few_programs = is.few_programs;
   by_name = is.by_name;
+  kept = is.kept;
+  over = is.over;
+  past = past-tick t.tick t.entries is.past;
+  ids = is.ids;
 }
 
 -- a stream without an extent adds none
 pub no-extent-more : (streams : List StreamState) (name : List ℕ) (columns : List Column) → extent_count (streams ++ new_stream name columns ∷ []) ≡ extent_count streams
 no-extent-more streams name columns = let n = sum_by-append (λ (s : StreamState). length s.extents) streams (new_stream name columns ∷ []) in omega (arith, n)
+
+-- ---- kept results
+
+-- what fits before the tick and the program fits behind them
+pub work-keeps : (program : Option Program) (reads dropped : List ℕ) (kept : List PlainNewEntry) (t : Table) → FitsWork program reads dropped kept t → IsTable t
+    → IsTable (after (change.Work program reads dropped kept) t)
+work-keeps program reads dropped kept t fits is =
+    let ticked = tick-keeps t fits.counted is in
+    let stored = program-keeps program (with_tick t) (program-later program t fits.stored) ticked in
+    work-keeps-table reads dropped kept (with_programs (with_stored program t.programs) (with_tick t)) (record { over = fits.results.over; results = fits.results.results }) stored
+  where
+    program-later : (program : Option Program) (t : Table) → FitsProgram program t → FitsProgram program (with_tick t)
+    program-later None t fits = tt
+    program-later (Some program) t fits = fits
+
+pub collection-keeps : (ids : List ℕ) (t : Table) → FitsCollection ids t → IsTable t → IsTable (after (change.Collect ids) t)
+collection-keeps ids t fits is = collection-keeps-table ids (with_tick t) (tick-keeps t fits.counted is)
 
 -- ---- each change
 
@@ -181,7 +220,6 @@ pub change-keeps : (given : Change) (t : Table) → Fits given t → IsTable t �
 change-keeps (change.Stream name columns) t fits is = tick-keeps (record t { streams = t.streams ++ new_stream name columns ∷ [] }) fits.counted (stream-keeps name columns t fits is)
 change-keeps (change.Append place extent) t fits is =
     tick-keeps (record t { next_file = t.next_file + 1; streams = updated (with_extent extent) t.streams place }) fits.counted (append-keeps place extent t fits is)
-change-keeps (change.Work None reads dropped kept) t fits is = tick-keeps t fits.counted is
-change-keeps (change.Work (Some program) reads dropped kept) t fits is = tick-keeps (with_programs (with_program program t.programs) t) fits.counted (program-keeps program t fits.stored.1 is)
-change-keeps (change.Collect ids) t fits is = absurd fits
+change-keeps (change.Work program reads dropped kept) t fits is = work-keeps program reads dropped kept t fits is
+change-keeps (change.Collect ids) t fits is = collection-keeps ids t fits is
 change-keeps (change.Checkpoint whole) t fits is = absurd fits

@@ -1,6 +1,10 @@
 pub mod ByName
+pub mod ChainLemmas
 pub mod Growth
+pub mod IdleWork
 pub mod Kept
 pub mod Nested
+pub mod OverStreams
 pub mod Places
 pub mod Texts
+pub mod Typings

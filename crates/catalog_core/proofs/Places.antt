@@ -1,11 +1,11 @@
 -- The streams of a catalogue and of its table, and their names.
-use Rattle.std.proofs.Common.{◌≡◌, ℕ, suc, ◌+◌, not, nat_lt, cond, List, [], ◌∷◌, length, map, bytes_eq, Some, None, refl, ap, ◌∙◌, arith}
+use Rattle.std.proofs.Common.{◌≡◌, ℕ, suc, ◌+◌, not, nat_lt, cond, List, [], ◌∷◌, length, map, bytes_eq, Some, None, refl, sym, ap, subst, ◌∙◌, arith}
 use Rattle.std.specs.Prelude.{position}
 use Rattle.std.specs.List.{position_or_len}
 use Rattle.std.specs.List.Sorted.{IsStrictlySortedBy}
 use Rattle.std.specs.Cmp.Lexicographic.{nat_list_eq_equiv}
 use Rattle.rows_core.specs.declared.schema.Column.{Column}
-use Rattle.catalog_types.specs.PlainEntry.{PlainEntry}
+use Rattle.entry_table.specs.Work.{Kept, none_kept}
 use Rattle.catalog_types.specs.declared.program.Program.{Program}
 use Rattle.catalog_core.specs.declared.stream.CatalogStream.{CatalogStream}
 use Rattle.catalog_core.specs.IsTable.{IsTable}
@@ -43,18 +43,23 @@ unfolding IsStrictlySortedBy
 no-names = tt
 
 -- the first table
-pub first-table : (streams : List CatalogStream) (programs : List Program) (entries : List PlainEntry) → streams ≡ [] → programs ≡ []
-    → IsTable (table_with 0 1 1 (states_of streams) programs entries)
-first-table [] [] entries e f = record {
-  counted = omega arith;
-  first_file = omega arith;
-  last_file = omega arith;
-  names = refl;
-  are_streams = tt;
-  few_streams = omega arith;
-  few_extents = omega arith;
-  few_programs = omega arith;
-  by_name = no-names;
-}
-first-table (x ∷ xs) programs entries e f = absurd (cc)
-first-table [] (p ∷ ps) entries e f = absurd (cc)
+pub first-table : (streams : List CatalogStream) (programs : List Program) (k : Kept) → streams ≡ [] → programs ≡ [] → k ≡ none_kept
+    → IsTable (table_with 0 1 k.next_id (states_of streams) programs k.entries)
+first-table [] [] k e f same =
+    subst (λ (k : Kept). IsTable (table_with 0 1 k.next_id [] [] k.entries)) (sym same) (record {
+      counted = omega arith;
+      first_file = omega arith;
+      last_file = omega arith;
+      names = refl;
+      are_streams = tt;
+      few_streams = omega arith;
+      few_extents = omega arith;
+      few_programs = omega arith;
+      by_name = no-names;
+      kept = record { first = omega arith; ascend = refl; below = refl; few = omega arith; are_entries = tt; differ = tt };
+      over = tt;
+      past = tt;
+      ids = omega arith;
+    })
+first-table (x ∷ xs) programs k e f same = absurd (cc)
+first-table [] (p ∷ ps) k e f same = absurd (cc)

@@ -1,5 +1,5 @@
 -- What is true of every table that changes make of the empty one.
-use Rattle.std.specs.Prelude.{◌*◌, ◌<◌, ◌≤◌, not, List, length, IsTrue}
+use Rattle.std.specs.Prelude.{ℕ, ◌*◌, ◌<◌, ◌≤◌, not, List, [], ◌∷◌, length, IsTrue}
 use Rattle.std.specs.Coded.{Coded-set, coded_bool, le_prop}
 use Rattle.std.specs.List.{AllByRecursion, AllByRecursion-prop}
 use Rattle.std.specs.List.Sorted.{IsStrictlySortedBy-prop}
@@ -7,8 +7,13 @@ use Rattle.rows_core.specs.declared.schema.Column.{Column}
 use Rattle.rows_core.specs.Schema.{IsSchema}
 use Rattle.plan_binder.specs.Binding.{has_repeat}
 use Rattle.catalog_types.specs.declared.snapshot.StreamState.{StreamState}
-use Rattle.catalog_core.specs.Programs.{names_of, AreByName}
-use Rattle.catalog_core.specs.Table.{Table, most_ticks, file_end, most_streams, most_extents, most_extents_in_all, most_rows, most_programs, extent_count, row_count}
+use Rattle.entry_table.specs.AreKept.{AreKept, AreKept-prop, IsPast}
+use Rattle.catalog_types.specs.PlainEntry.{PlainEntry}
+use Rattle.plan_core.specs.PlainPlan.{PlainPlan, leaves}
+use Rattle.rows_core.specs.declared.cut.Cut.{Cut}
+use Rattle.catalog_core.specs.Programs.{names_of, AreByName, AreCuts}
+use Rattle.catalog_core.specs.Results.{IsOver, IsEntryOver}
+use Rattle.catalog_core.specs.Table.{Table, kept_of_table, most_ticks, file_end, most_streams, most_extents, most_extents_in_all, most_rows, most_programs, extent_count, row_count}
 
 -- its columns differ, and its extents are within their limit
 pub record IsStream (stream : StreamState) : Type 0 where
@@ -16,7 +21,8 @@ pub record IsStream (stream : StreamState) : Type 0 where
   pub extents : length stream.extents ≤ most_extents
   pub rows : row_count stream ≤ length stream.extents * most_rows
 
--- names differ, and the counts are within their limits
+-- Names differ, the counts are within their limits, and kept results are what they are to be: of plans and cuts over the
+-- streams, with ids that differ, no two alike, made and used at or before the tick. There are as many files as ids, or more.
 pub record IsTable (t : Table) : Type 0 where
   pub counted : t.tick ≤ most_ticks
   pub first_file : 0 < t.next_file
@@ -27,6 +33,10 @@ pub record IsTable (t : Table) : Type 0 where
   pub few_extents : extent_count t.streams ≤ most_extents_in_all
   pub few_programs : length t.programs ≤ most_programs
   pub by_name : AreByName t.programs
+  pub kept : AreKept (kept_of_table t)
+  pub over : AllByRecursion (IsEntryOver t.streams) t.entries
+  pub past : AllByRecursion (IsPast t.tick) t.entries
+  pub ids : t.next_id ≤ t.next_file
 
 -- ---- each of these facts has one proof, so that it may stand in a field
 
@@ -40,6 +50,22 @@ IsStream-prop stream x y = λ i. record {
   rows = le_prop x.rows y.rows i;
 }
 
+pub AreCuts-prop : (streams : List StreamState) (leaves : List ℕ) (cuts : List Cut) → IsProp (AreCuts streams leaves cuts)
+AreCuts-prop streams [] [] x y = λ i. tt
+AreCuts-prop streams [] (cut ∷ cuts) x y = absurd x
+AreCuts-prop streams (leaf ∷ leaves) [] x y = absurd x
+AreCuts-prop streams (leaf ∷ leaves) (cut ∷ cuts) x y = λ i.
+    ((le_prop x.0.0 y.0.0 i, le_prop x.0.1 y.0.1 i), AreCuts-prop streams leaves cuts x.1 y.1 i)
+
+pub IsOver-prop : (streams : List StreamState) (plan : PlainPlan) (cuts : List Cut) → IsProp (IsOver streams plan cuts)
+IsOver-prop streams plan cuts x y = λ i. record {
+  typed = Coded-set coded_bool _ _ x.typed y.typed i;
+  are_cuts = AreCuts-prop streams (leaves plan) cuts x.are_cuts y.are_cuts i;
+}
+
+pub IsPast-prop : (tick : ℕ) (e : PlainEntry) → IsProp (IsPast tick e)
+IsPast-prop tick e x y = λ i. (le_prop x.0 y.0 i, le_prop x.1 y.1 i)
+
 pub IsTable-prop : (t : Table) → IsProp (IsTable t)
 IsTable-prop t x y = λ i. record {
   counted = le_prop x.counted y.counted i;
@@ -51,4 +77,8 @@ IsTable-prop t x y = λ i. record {
   few_extents = le_prop x.few_extents y.few_extents i;
   few_programs = le_prop x.few_programs y.few_programs i;
   by_name = IsStrictlySortedBy-prop _ _ x.by_name y.by_name i;
+  kept = AreKept-prop (kept_of_table t) x.kept y.kept i;
+  over = AllByRecursion-prop (IsEntryOver t.streams) (λ e. IsOver-prop t.streams e.plan e.cuts) t.entries x.over y.over i;
+  past = AllByRecursion-prop (IsPast t.tick) (λ e. IsPast-prop t.tick e) t.entries x.past y.past i;
+  ids = le_prop x.ids y.ids i;
 }

@@ -1,4 +1,6 @@
 pub mod Programs
+pub mod Results
+pub mod Chains
 pub mod Table
 pub mod IsTable
 pub mod Streams

@@ -1,4 +1,4 @@
--- What the streams of a catalogue are as plain data.
+-- What the streams of a catalogue are as plain data, and the chains of their extents.
 use Rattle.std.specs.Prelude.{◌<◌, ℕ, List, map, vec_len, vec_capacity}
 use Rattle.rows_core.specs.declared.schema.Column.{Column}
 use Rattle.catalog_types.specs.declared.snapshot.StreamState.{StreamState}
@@ -18,4 +18,4 @@ states_of streams = map state_of streams
 
 -- room for one more extent, so that appending wants no memory
 abbrev pub HasRoomForExtent : CatalogStream → Type 0
-HasRoomForExtent stream = vec_len stream.extents < vec_capacity stream.extents
+HasRoomForExtent stream = (vec_len stream.extents < vec_capacity stream.extents) × (vec_len stream.chains < vec_capacity stream.chains)

@@ -1,5 +1,6 @@
 -- The table: all that the catalogue holds. What a change makes of it, and which changes fit.
 use Rattle.std.specs.Prelude.{◌≡◌, ℕ, zero, suc, ◌+◌, ◌<◌, ◌≤◌, List, [], ◌∷◌, ◌++◌, length, position, sum_by, bytes_eq, Option, Some, None}
+use Rattle.std.specs.List.{AllByRecursion}
 use Rattle.rows_core.specs.declared.schema.Column.{Column}
 use Rattle.rows_core.specs.Schema.{IsSchema}
 use Rattle.catalog_types.specs.PlainEntry.{PlainEntry, PlainNewEntry}
@@ -9,7 +10,11 @@ use Rattle.catalog_types.specs.declared.extent.Extent.{Extent}
 use Rattle.catalog_types.specs.declared.program.Program.{Program}
 use Rattle.catalog_types.specs.declared.snapshot.Snapshot.{Snapshot}
 use Rattle.catalog_types.specs.declared.snapshot.StreamState.{StreamState}
+pub use Rattle.entry_table.specs.Results.{file_end}
+use Rattle.entry_table.specs.Work as work
+use Rattle.entry_table.specs.Work.{Kept, kept_with}
 use Rattle.catalog_core.specs.Programs.{extents_at, IsProgram, with_program}
+use Rattle.catalog_core.specs.Results.{IsResultOver, digests_of}
 
 -- how many commands were recorded, the next numbers of files and of kept results, and what these are called by
 abbrev pub Table : Type 0
@@ -23,14 +28,14 @@ table_with tick next_file next_id streams programs entries =
 abbrev pub empty_table : Table
 empty_table = table_with 0 1 1 [] [] []
 
+-- the kept results of a table, and the id of the next one
+abbrev pub kept_of_table : Table → Kept
+kept_of_table t = kept_with t.next_id t.entries
+
 -- ---- limits
 
 abbrev pub most_ticks : ℕ
 most_ticks = 4294967295
-
--- the number behind the last file's
-abbrev pub file_end : ℕ
-file_end = 4294967296
 
 abbrev pub most_streams : ℕ
 most_streams = 1024
@@ -110,20 +115,27 @@ abbrev pub FitsProgram : Option Program → Table → Type 0
 FitsProgram None t = Unit {0}
 FitsProgram (Some program) t = IsProgram t.streams program × (length (with_program program t.programs) ≤ most_programs)
 
--- No result is kept yet: so there is none to read, to drop or to keep.
+-- The work fits the kept results, and each new one is of a plan and a cut over the table's streams.
+pub record FitsResults (reads dropped : List ℕ) (kept : List PlainNewEntry) (t : Table) : Type 0 where
+  pub over : AllByRecursion (IsResultOver t.streams) kept
+  pub results : work.FitsWork t.next_file reads dropped kept (kept_of_table t)
+
 pub record FitsWork (program : Option Program) (reads dropped : List ℕ) (kept : List PlainNewEntry) (t : Table) : Type 0 where
   pub counted : t.tick < most_ticks
+  pub results : FitsResults reads dropped kept t
   pub stored : FitsProgram program t
-  pub no_reads : reads ≡ []
-  pub no_dropped : dropped ≡ []
-  pub no_kept : kept ≡ []
 
--- The change may be made of this table. Collections and checkpoints don't fit yet.
+-- the ids are of kept results
+pub record FitsCollection (ids : List ℕ) (t : Table) : Type 0 where
+  pub counted : t.tick < most_ticks
+  pub there : work.FitsCollection ids (kept_of_table t)
+
+-- The change may be made of this table. Checkpoints don't fit yet.
 abbrev pub Fits : Change → Table → Type 0
 Fits (Stream name columns) t = FitsStream name columns t
 Fits (Append place extent) t = FitsAppend place extent t
 Fits (Work program reads dropped kept) t = FitsWork program reads dropped kept t
-Fits (Collect ids) t = ⊥
+Fits (Collect ids) t = FitsCollection ids t
 Fits (Checkpoint whole) t = ⊥
 
 -- ---- the table after a change
@@ -138,11 +150,22 @@ with_programs programs t = record t { programs = programs }
 abbrev pub with_tick : Table → Table
 with_tick t = record t { tick = t.tick + 1 }
 
--- each change but the checkpoint is a tick; of a change of kept results only what fits is said yet
+-- the table with these kept results
+abbrev pub with_kept : Kept → Table → Table
+with_kept k t = record t { next_id = k.next_id; entries = k.entries }
+
+-- the table after a piece of work at this tick, whose new results take the next files
+abbrev pub with_work : List ℕ → List ℕ → List PlainNewEntry → Table → Table
+with_work reads dropped kept t =
+    with_kept (work.after_work (digests_of t.streams) t.tick reads dropped kept (kept_of_table t))
+    (record t { next_file = t.next_file + length kept })
+
+-- each change but the checkpoint is a tick
 abbrev pub after : Change → Table → Table
 after (Stream name columns) t = with_tick (record t { streams = t.streams ++ new_stream name columns ∷ [] })
 after (Append place extent) t =
     with_tick (record t { next_file = t.next_file + 1; streams = updated (with_extent extent) t.streams place })
-after (Work program reads dropped kept) t = with_tick (with_programs (with_stored program t.programs) t)
-after (Collect ids) t = with_tick t
+after (Work program reads dropped kept) t =
+    with_work reads dropped kept (with_programs (with_stored program t.programs) (with_tick t))
+after (Collect ids) t = with_kept (work.after_collection ids (kept_of_table t)) (with_tick t)
 after (Checkpoint whole) t = whole

@@ -1,17 +1,25 @@
 //! The table in memory.
-ghost use Rattle.std.specs.Prelude.{◌≡◌, ◌↔◌, map, not, [], IsTrue};
+ghost use Rattle.std.specs.Prelude.{◌≡◌, ◌↔◌, map, IsTrue};
+ghost use Rattle.entry_table.specs.Tables.{kept_of};
 ghost use Rattle.catalog_core.specs.IsTable.{IsTable, IsTable-prop};
+ghost use Rattle.catalog_core.specs.Programs.{kinds_of_streams};
 ghost use Rattle.catalog_core.specs.Streams.{name_of, states_of};
 ghost use Rattle.catalog_core.specs.Table.{table_with, extent_count};
 
 use crate::columns::are_schema;
 use crate::program::is_program;
-use crate::programs::{has_room_for, store};
+use crate::programs::{has_room_for, make_room_to_store, store_any};
 use crate::refusal::CatalogRefusal;
+use crate::results::{are_over, make_room_for_results};
+use crate::schemas::with_stream;
 use crate::snapshot::copy_streams;
 use crate::stream::CatalogStream;
-use catalog_types::{Change, Entry, Extent, Program, Snapshot, copy_entries, copy_programs};
+use catalog_types::{
+    Change, Entry, Extent, NewEntry, Program, Snapshot, copy_entries, copy_programs,
+};
+use entry_table::EntryTable;
 use indexmap::IndexSet;
+use plan_core::Schemas;
 use rows_core::{Column, Memory, Name, Schema, Seq};
 use std::alloc::Global;
 use std::mem;
@@ -39,37 +47,44 @@ const MAX_EXTENT_BYTES: u64 = 16_777_216;
 pub struct Catalog {
     tick: u32,
     next_file: u64,
-    next_id: u64,
     /// In the order of making.
     streams: Vec<CatalogStream>,
     /// The names of the streams, in the same order.
     names: IndexSet<Name>,
+    /// The kinds of the columns of each stream, in the same order.
+    schemas: Schemas,
     /// The extents of all streams.
     extents: usize,
     /// In the byte order of names.
     programs: Vec<Program>,
-    /// By their ids. There are none yet.
-    entries: Vec<Entry>,
+    /// The kept results.
+    kept: EntryTable,
     /// The name of the stream that is to be made next, for `names`.
     spare_name: Option<Name>,
+    /// The kinds with those of that stream, for `schemas`.
+    spare_schemas: Option<Schemas>,
     alloc: Global,
     ghost named: { names.keys ≡ map name_of streams.items },
+    ghost kinds: { schemas.kinds ≡ kinds_of_streams (states_of streams.items) },
     ghost counted: { extents ≡ extent_count (states_of streams.items) },
-    ghost sound: { IsTable (table_with tick next_file next_id (states_of streams.items)
-        programs.items entries.items) } by { IsTable-prop (table_with tick next_file next_id
-            (states_of streams.items) programs.items entries.items) },
+    ghost sound: { IsTable (table_with tick next_file (kept_of kept).next_id
+        (states_of streams.items) programs.items (kept_of kept).entries) } by { IsTable-prop
+            (table_with tick next_file (kept_of kept).next_id
+            (states_of streams.items) programs.items (kept_of kept).entries) },
 }
 
 impl Catalog {
-    ghost use Rattle.std.specs.Prelude.{◌<◌, ◌≤◌, IfSome, IfOk, OnOk, IsErrOf, length, vec_len, vec_capacity};
+    ghost use Rattle.std.specs.Prelude.{◌<◌, IfSome, IfOk, OnOk, IsErrOf, length, option_copied, ◌==◌};
+    ghost use Rattle.std.specs.List.{AllByRecursion, find};
+    ghost use Rattle.plan_spelling.specs.Spelling.{HasPlanSpelling};
     ghost use Rattle.catalog_types.specs.declared.change.Change.TheVariants as change;
     ghost use Rattle.catalog_core.specs.Catalogs.{table_of, HasRoom, HasRoomForStream, HasRoomAt};
-    ghost use Rattle.catalog_core.specs.Catalogs.{HasRoomForProgram, IsReady};
-    ghost use Rattle.catalog_core.specs.Programs.{names_of, columns_of, with_program};
+    ghost use Rattle.catalog_core.specs.Catalogs.{HasRoomForWork, AreSpelled, IsReady};
+    ghost use Rattle.catalog_core.specs.Programs.{names_of, columns_of};
     ghost use Rattle.catalog_core.specs.Streams as stream;
     ghost use Rattle.catalog_core.specs.Table.{empty_table, place_of, most_ticks, Fits, FitsStream};
     ghost use Rattle.catalog_core.specs.Table.{FitsAppend, IsNextExtent, HasPlaceForExtent, FitsProgram};
-    ghost use Rattle.catalog_core.specs.Table.{after, with_tick, with_programs, with_stored, most_programs};
+    ghost use Rattle.catalog_core.specs.Table.{FitsResults, FitsWork, FitsCollection, after, with_tick};
 
     /// The empty table.
     pub fn new(alloc: Global) -> Catalog
@@ -78,13 +93,16 @@ impl Catalog {
         Catalog {
             tick: 0,
             next_file: 1,
-            next_id: 1,
             streams: Vec::new(alloc),
             names: IndexSet::new(alloc),
+            schemas: Schemas {
+                kinds: Seq::new(Vec::new(alloc)),
+            },
             extents: 0,
             programs: Vec::new(alloc),
-            entries: Vec::new(alloc),
+            kept: EntryTable::new(alloc),
             spare_name: None,
+            spare_schemas: None,
             alloc,
         }
     }
@@ -107,7 +125,7 @@ impl Catalog {
     pub fn next_id(&self) -> u64
         ensures { result ≡ (table_of self.now).next_id }
     {
-        self.next_id
+        self.kept.next_id()
     }
 
     /// The streams in the order of making.
@@ -136,9 +154,24 @@ impl Catalog {
 
     /// The kept results by their ids.
     pub fn entries(&self) -> &[Entry]
-        ensures { result.now ≡ (table_of self.now).entries }
+        ensures entries { result.now ≡ (table_of self.now).entries }
+        ensures table { IsTable (table_of self.now) }
     {
-        self.entries.as_slice()
+        self.kept.entries()
+    }
+
+    /// The kept result with this id, which is found by a binary search.
+    pub fn entry(&self, id: u32) -> Option<&Entry>
+        ensures { option_copied result ≡ find (λ e. e.id == id) (table_of self.now).entries }
+    {
+        self.kept.find(id)
+    }
+
+    /// The kinds of the columns of each stream. They are kept as streams come, and not made anew.
+    pub fn schemas(&self) -> &Schemas
+        ensures { result.now.kinds ≡ kinds_of_streams (table_of self.now).streams }
+    {
+        &self.schemas
     }
 
     /// The place of the stream with this name, which is found by an index of the names.
@@ -156,10 +189,10 @@ impl Catalog {
         Ok(Snapshot {
             tick: self.tick,
             next_file: self.next_file,
-            next_id: self.next_id,
+            next_id: self.kept.next_id(),
             streams: copy_streams(alloc, self.streams.as_slice())?,
             programs: copy_programs(alloc, self.programs.as_slice())?,
-            entries: copy_entries(alloc, self.entries.as_slice())?,
+            entries: copy_entries(alloc, self.kept.entries())?,
         })
     }
 
@@ -178,9 +211,10 @@ impl Catalog {
         Ok(())
     }
 
-    // Whether the change fits.
+    // Whether the change fits. The plans of the results of work that fits have spellings.
     fn fits(&self, change: &Change) -> Result<bool, Memory>
-        ensures { IfOk result (λ fits. IsTrue fits ↔ Fits change.now (table_of self.now)) }
+        ensures fits { IfOk result (λ fits. IsTrue fits ↔ Fits change.now (table_of self.now)) }
+        ensures spelled { IfOk result (λ fits. IsTrue fits → AreSpelled change.now) }
     {
         match change {
             Change::Stream { name, columns } => Ok(self.fits_stream(name, columns.items())),
@@ -190,13 +224,9 @@ impl Catalog {
                 reads,
                 dropped,
                 kept,
-            } => {
-                let has_results = has_any(reads.items())
-                    || has_any(dropped.items())
-                    || has_any(kept.items());
-                Ok(!has_results && self.tick < MAX_TICKS && self.fits_program(program)?)
-            }
-            Change::Collect { .. } | Change::Checkpoint { .. } => Ok(false),
+            } => self.fits_work(program, reads.items(), dropped.items(), kept.items()),
+            Change::Collect { ids } => Ok(self.fits_collection(ids.items())),
+            Change::Checkpoint { .. } => Ok(false),
         }
     }
 
@@ -238,6 +268,42 @@ impl Catalog {
         }
     }
 
+    fn fits_work(
+        &self,
+        program: &Option<Program>,
+        reads: &[u32],
+        dropped: &[u32],
+        kept: &[NewEntry],
+    ) -> Result<bool, Memory>
+        ensures fits { IfOk result (λ fits. IsTrue fits
+            ↔ FitsWork program.now reads.now dropped.now kept.now (table_of self.now)) }
+        ensures spelled { IfOk result (λ fits. IsTrue fits
+            → AllByRecursion (λ new. HasPlanSpelling new.plan) kept.now) }
+    {
+        if self.tick == MAX_TICKS || !self.fits_results(reads, dropped, kept)? {
+            return Ok(false);
+        }
+        self.fits_program(program)
+    }
+
+    // Whether the results of a piece of work fit.
+    fn fits_results(
+        &self,
+        reads: &[u32],
+        dropped: &[u32],
+        kept: &[NewEntry],
+    ) -> Result<bool, Memory>
+        ensures fits { IfOk result (λ fits. IsTrue fits
+            ↔ FitsResults reads.now dropped.now kept.now (table_of self.now)) }
+        ensures spelled { IfOk result (λ fits. IsTrue fits
+            → AllByRecursion (λ new. HasPlanSpelling new.plan) kept.now) }
+    {
+        if !are_over(self.alloc, self.streams.as_slice(), &self.schemas, kept)? {
+            return Ok(false);
+        }
+        self.kept.fits_work(self.next_file, reads, dropped, kept)
+    }
+
     // Whether the program is one over the streams, and there are few enough of them.
     fn fits_program(&self, program: &Option<Program>) -> Result<bool, Memory>
         ensures { IfOk result (λ fits. IsTrue fits ↔ FitsProgram program.now (table_of self.now)) }
@@ -245,34 +311,43 @@ impl Catalog {
         match program {
             Some(program) => Ok(
                 has_room_for(self.programs.as_slice(), program)
-                    && is_program(self.alloc, self.streams.as_slice(), program)?,
+                    && is_program(self.alloc, self.streams.as_slice(), &self.schemas, program)?,
             ),
             None => Ok(true),
         }
     }
 
+    fn fits_collection(&self, ids: &[u32]) -> bool
+        ensures { IsTrue result ↔ FitsCollection ids.now (table_of self.now) }
+    {
+        self.tick < MAX_TICKS && self.kept.fits_collection(ids)
+    }
+
     // Takes the memory for a change that fits.
     fn make_room(&mut self, change: &Change) -> Result<(), Memory>
-        requires { Fits change.now (table_of self.old) }
+        requires fits { Fits change.now (table_of self.old) }
+        requires spelled { AreSpelled change.now }
         ensures same { table_of self.new ≡ table_of self.old }
         ensures room { OnOk result (HasRoom change.now self.new) }
     {
         match change {
-            Change::Stream { name, .. } => self.make_room_for_stream(name),
+            Change::Stream { name, columns } => self.make_room_for_stream(name, columns.items()),
             Change::Append { stream, .. } => self.make_room_at(*stream),
-            Change::Work { program, .. } => self.make_room_for_program(program),
+            Change::Work { program, kept, .. } => self.make_room_for_work(program, kept.items()),
             Change::Collect { .. } | Change::Checkpoint { .. } => Ok(()),
         }
     }
 
-    fn make_room_for_stream(&mut self, name: &Name) -> Result<(), Memory>
+    fn make_room_for_stream(&mut self, name: &Name, columns: &[Column]) -> Result<(), Memory>
         ensures same { table_of self.new ≡ table_of self.old }
-        ensures room { OnOk result (HasRoomForStream name.now self.new) }
+        ensures room { OnOk result (HasRoomForStream name.now columns.now self.new) }
     {
         let name = name.try_copy(self.alloc)?;
+        let schemas = with_stream(self.alloc, &self.schemas, columns)?;
         self.names.reserve(1)?;
         self.streams.reserve(1)?;
         self.spare_name = Some(name);
+        self.spare_schemas = Some(schemas);
         Ok(())
     }
 
@@ -284,14 +359,17 @@ impl Catalog {
         self.streams[place as usize].make_room()
     }
 
-    fn make_room_for_program(&mut self, program: &Option<Program>) -> Result<(), Memory>
+    fn make_room_for_work(
+        &mut self,
+        program: &Option<Program>,
+        kept: &[NewEntry],
+    ) -> Result<(), Memory>
+        requires { AllByRecursion (λ new. HasPlanSpelling new.plan) kept.now }
         ensures same { table_of self.new ≡ table_of self.old }
-        ensures room { OnOk result (HasRoomForProgram program.now self.new) }
+        ensures room { OnOk result (HasRoomForWork program.now kept.now self.new) }
     {
-        if program.is_some() {
-            self.programs.reserve(1)?;
-        }
-        Ok(())
+        make_room_to_store(&mut self.programs, program)?;
+        make_room_for_results(self.streams.as_slice(), &mut self.kept, kept)
     }
 
     /// Makes the change that it was prepared for. It takes no memory.
@@ -302,14 +380,20 @@ impl Catalog {
         match change {
             Change::Stream { name, columns } => self.add_stream(name, columns),
             Change::Append { stream, extent } => self.add_extent(stream, extent),
-            Change::Work { program, .. } => self.add_work(program),
-            Change::Collect { .. } | Change::Checkpoint { .. } => unreachable!(),
+            Change::Work {
+                program,
+                reads,
+                dropped,
+                kept,
+            } => self.add_work(program, reads.items(), dropped.items(), kept),
+            Change::Collect { ids } => self.collect(ids.items()),
+            Change::Checkpoint { .. } => unreachable!(),
         }
     }
 
     fn add_stream(&mut self, name: Name, columns: Seq<Column>)
         requires fits { FitsStream name columns (table_of self.old) }
-        requires room { HasRoomForStream name self.old }
+        requires room { HasRoomForStream name columns self.old }
         ensures { table_of self.new ≡ after (change.Stream name columns) (table_of self.old) }
     {
         let schema = match Schema::new(columns.into_vec()) {
@@ -321,6 +405,10 @@ impl Catalog {
                 Ok(_) => {}
                 Err(_) => unreachable!(),
             },
+            None => unreachable!(),
+        }
+        match mem::replace(&mut self.spare_schemas, None) {
+            Some(schemas) => self.schemas = schemas,
             None => unreachable!(),
         }
         self.streams
@@ -339,27 +427,31 @@ impl Catalog {
         self.add_tick();
     }
 
-    fn add_work(&mut self, program: Option<Program>)
-        requires counted { (table_of self.old).tick < most_ticks }
-        requires fits { FitsProgram program (table_of self.old) }
-        requires room { HasRoomForProgram program self.old }
-        ensures { table_of self.new ≡ with_tick (with_programs (with_stored program
-            (table_of self.old).programs)
-            (table_of self.old)) }
+    fn add_work(
+        &mut self,
+        program: Option<Program>,
+        reads: &[u32],
+        dropped: &[u32],
+        kept: Seq<NewEntry>,
+    )
+        requires fits { FitsWork program reads.now dropped.now kept (table_of self.old) }
+        requires room { HasRoomForWork program kept self.old }
+        ensures { table_of self.new
+            ≡ after (change.Work program reads.now dropped.now kept) (table_of self.old) }
     {
-        if let Some(program) = program {
-            self.add_program(program);
-        }
-        self.add_tick();
+        let count = kept.items().len() as u64;
+        self.tick += 1;
+        store_any(&mut self.programs, program);
+        self.kept.apply_work(self.tick, reads, dropped, kept);
+        self.next_file += count;
     }
 
-    fn add_program(&mut self, program: Program)
-        requires few { length (with_program program (table_of self.old).programs) ≤ most_programs }
-        requires room { vec_len self.old.programs < vec_capacity self.old.programs }
-        ensures { table_of self.new ≡ with_programs (with_program program (table_of self.old).programs)
-            (table_of self.old) }
+    fn collect(&mut self, ids: &[u32])
+        requires { FitsCollection ids.now (table_of self.old) }
+        ensures { table_of self.new ≡ after (change.Collect ids.now) (table_of self.old) }
     {
-        store(&mut self.programs, program);
+        self.tick += 1;
+        self.kept.apply_collection(ids);
     }
 
     fn add_tick(&mut self)
@@ -368,10 +460,4 @@ impl Catalog {
     {
         self.tick += 1;
     }
-}
-
-fn has_any<T>(items: &[T]) -> bool
-    ensures { IsTrue (not result) ↔ (items.now ≡ []) }
-{
-    !items.is_empty()
 }

@@ -2,15 +2,18 @@
 #![tactic(auto)]
 
 pub mod catalog;
+mod chains;
 mod columns;
 pub mod laws;
 mod program;
 mod programs;
 pub mod refusal;
+mod results;
+mod schemas;
 mod snapshot;
 pub mod stream;
 
 pub use catalog::Catalog;
-pub use laws::tables_stay_tables;
+pub use laws::{idle_work, tables_stay_tables};
 pub use refusal::CatalogRefusal;
 pub use stream::CatalogStream;

@@ -1,6 +1,5 @@
 //! Which programs are of the streams.
 ghost use Rattle.std.specs.Prelude.{◌≡◌, ◌↔◌, Ok, IfOk, IfSome, IfNone, IsTrue, length};
-ghost use Rattle.rows_core.specs.Schema as schema;
 ghost use Rattle.plan_core.specs.PlainPlan.{PlainPlan, leaves, plan_of};
 ghost use Rattle.plan_core.specs.PlanTyping.{Kinds, plan_typing};
 ghost use Rattle.plan_grammar.specs.PlainNamed.{PlainTree};
@@ -8,7 +7,7 @@ ghost use Rattle.plan_printer.specs.Canonical.{canonical_text};
 ghost use Rattle.plan_binder.specs.Binding.{Binds, binding};
 ghost use Rattle.catalog_core.specs.Programs.{names_of, columns_of, kinds_of_streams, extents_at};
 ghost use Rattle.catalog_core.specs.Programs.{IsCanonical, IsPlanOf, IsCut, AreCuts, IsProgram};
-ghost use Rattle.catalog_core.specs.Streams.{state_of, states_of};
+ghost use Rattle.catalog_core.specs.Streams.{states_of};
 
 use crate::stream::CatalogStream;
 use catalog_types::Program;
@@ -16,7 +15,7 @@ use plan_core::{Plan, PlanRefusal, Schemas, Typed, type_plan};
 use plan_text::{
     BindRefusal, NamedPlan, Stream, TextRefusal, bind, parse_plan, plan_laws, print_plan,
 };
-use rows_core::{Cut, Kind, Memory, Seq};
+use rows_core::{Cut, Memory};
 use std::alloc::Global;
 
 /// The most bytes of a program's text.
@@ -27,15 +26,17 @@ const MAX_TEXT_BYTES: usize = 65_536;
 pub(crate) fn is_program(
     alloc: Global,
     streams: &[CatalogStream],
+    schemas: &Schemas,
     program: &Program,
 ) -> Result<bool, Memory>
+    requires { schemas.now.kinds ≡ kinds_of_streams (states_of streams.now) }
     ensures { IfOk result (λ is. IsTrue is ↔ IsProgram (states_of streams.now) program.now) }
 {
     let text = program.text.items();
     if text.len() > MAX_TEXT_BYTES {
         return Ok(false);
     }
-    match plan_of_text(alloc, streams, text) {
+    match plan_of_text(alloc, streams, schemas, text) {
         Ok(Some(typed)) => Ok(are_cuts(streams, typed.leaves(), program.cuts.items())),
         Ok(None) => Ok(false),
         Err(Memory) => Err(Memory),
@@ -46,8 +47,10 @@ pub(crate) fn is_program(
 fn plan_of_text(
     alloc: Global,
     streams: &[CatalogStream],
+    schemas: &Schemas,
     text: &[u8],
 ) -> Result<Option<Typed>, Memory>
+    requires { schemas.now.kinds ≡ kinds_of_streams (states_of streams.now) }
     ensures found { IfOk result (λ found. IfSome found
         (λ typed. IsPlanOf (states_of streams.now) text.now typed.plan
         × (typed.leaves ≡ leaves typed.plan))) }
@@ -57,7 +60,7 @@ fn plan_of_text(
         ((plan : PlainPlan) → IsPlanOf (states_of streams.now) text.now plan → ⊥)) }
 {
     match canonical_plan(alloc, text) {
-        Ok(Some(plan)) => typed_plan(alloc, streams, &plan),
+        Ok(Some(plan)) => typed_plan(alloc, streams, schemas, &plan),
         Ok(None) => Ok(None),
         Err(Memory) => Err(Memory),
     }
@@ -98,8 +101,10 @@ fn if_canonical(alloc: Global, plan: NamedPlan, text: &[u8]) -> Result<Option<Na
 fn typed_plan(
     alloc: Global,
     streams: &[CatalogStream],
+    schemas: &Schemas,
     plan: &NamedPlan,
 ) -> Result<Option<Typed>, Memory>
+    requires { schemas.now.kinds ≡ kinds_of_streams (states_of streams.now) }
     ensures found { IfOk result (λ found. IfSome found (λ typed.
         (binding (names_of (states_of streams.now)) (columns_of (states_of streams.now)) plan.now
         ≡ Ok typed.plan) × (plan_typing (kinds_of_streams (states_of streams.now)) typed.plan
@@ -109,7 +114,7 @@ fn typed_plan(
         ≡ Ok bound → plan_typing (kinds_of_streams (states_of streams.now)) bound ≡ Ok kinds → ⊥)) }
 {
     match bind_over(alloc, plan, streams) {
-        Ok(bound) => typed_bound(alloc, streams, bound),
+        Ok(bound) => typed_over(alloc, schemas, bound),
         Err(BindRefusal::Unknown(_)) => Ok(None),
         Err(BindRefusal::IllTyped) => Ok(None),
         Err(BindRefusal::Memory) => Err(Memory),
@@ -128,26 +133,12 @@ fn bind_over(
     bind(alloc, plan, streams)
 }
 
-// The typing of a plan over the streams.
-fn typed_bound(
+/// The typing of a plan over streams of these kinds.
+pub(crate) fn typed_over(
     alloc: Global,
-    streams: &[CatalogStream],
+    schemas: &Schemas,
     plan: Plan,
 ) -> Result<Option<Typed>, Memory>
-    ensures found { IfOk result (λ found. IfSome found (λ typed. (typed.plan ≡ plan_of plan)
-        × (plan_typing (kinds_of_streams (states_of streams.now)) (plan_of plan) ≡ Ok typed.kinds)
-        × (typed.leaves ≡ leaves (plan_of plan)))) }
-    ensures none { IfOk result (λ found. IfNone found ((kinds : Kinds) →
-        plan_typing (kinds_of_streams (states_of streams.now)) (plan_of plan) ≡ Ok kinds → ⊥)) }
-{
-    match schemas_of(alloc, streams) {
-        Ok(schemas) => typed_over(alloc, &schemas, plan),
-        Err(Memory) => Err(Memory),
-    }
-}
-
-// The typing of a plan over streams of these kinds.
-fn typed_over(alloc: Global, schemas: &Schemas, plan: Plan) -> Result<Option<Typed>, Memory>
     ensures found { IfOk result (λ found. IfSome found (λ typed. (typed.plan ≡ plan_of plan)
         × (plan_typing schemas.now.kinds (plan_of plan) ≡ Ok typed.kinds)
         × (typed.leaves ≡ leaves (plan_of plan)))) }
@@ -163,32 +154,8 @@ fn typed_over(alloc: Global, schemas: &Schemas, plan: Plan) -> Result<Option<Typ
     }
 }
 
-// The kinds of the columns of each stream.
-fn schemas_of(alloc: Global, streams: &[CatalogStream]) -> Result<Schemas, Memory>
-    ensures { IfOk result (λ schemas. schemas.kinds ≡ kinds_of_streams (states_of streams.now)) }
-{
-    let mut kinds = Vec::with_capacity(alloc, streams.len())?;
-    for stream in streams {
-        kinds.push(kinds_of(alloc, stream)?)?;
-    }
-    Ok(Schemas {
-        kinds: Seq::new(kinds),
-    })
-}
-
-fn kinds_of(alloc: Global, stream: &CatalogStream) -> Result<Seq<Kind>, Memory>
-    ensures { IfOk result (λ kinds. kinds ≡ schema.kinds_of (state_of stream.now).columns) }
-{
-    let columns = stream.schema().columns();
-    let mut kinds = Vec::with_capacity(alloc, columns.len())?;
-    for column in columns {
-        kinds.push(column.kind)?;
-    }
-    Ok(Seq::new(kinds))
-}
-
-// Whether there is one interval for each leaf, up to the present extents of its stream at most.
-fn are_cuts(streams: &[CatalogStream], leaves: &[u32], cuts: &[Cut]) -> bool
+/// Whether there is one interval for each leaf, up to the present extents of its stream at most.
+pub(crate) fn are_cuts(streams: &[CatalogStream], leaves: &[u32], cuts: &[Cut]) -> bool
     ensures { IsTrue result ↔ AreCuts (states_of streams.now) leaves.now cuts.now }
 {
     let [leaf, leaves @ ..] = leaves else {

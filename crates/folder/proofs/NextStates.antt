@@ -15,6 +15,7 @@ use Rattle.catalog_types.specs.declared.extent.Extent as of_table
 use Rattle.catalog_types.specs.declared.program.Program.{Program}
 use Rattle.catalog_types.specs.declared.snapshot.StreamState.{StreamState}
 use Rattle.catalog_core.specs.Table.{updated, with_extent, after}
+use Rattle.catalog_core.proofs.IdleWork.{idle-after}
 use Rattle.folder.specs.State.{Extent, Stream, State, HasExtent, Names, IsValid, extent_of, stream_of, table, ref_of, file_bytes, empty_state}
 use Rattle.folder.specs.Next.{with_stream, with_rows, with_run, new_extent, grown, AreRowsOf}
 
@@ -69,7 +70,7 @@ table-with_rows s place rows =
     (map-updated stream_of (grown new) (with_extent (extent_of new)) (stream_of-grown new) s.streams place)
 
 pub table-with_run : (s : State) (program : Option Program) → table (with_run s program) ≡ after (change.Work program [] [] []) (table s)
-table-with_run s program = refl
+table-with_run s program = sym (idle-after program (table s))
 
 -- ---- extents
 

@@ -40,8 +40,8 @@ module _ (care : Care) (u v : View) (t : Table) (journal : Journal) (s : State) 
 given_after : (c : Change) (t : Table) → Fits c t → 0 < t.next_file → 0 < (after c t).next_file
 given_after (change.Stream name columns) t fits low = low
 given_after (change.Append stream extent) t fits low = omega (arith, low)
-given_after (change.Work program reads dropped kept) t fits low = low
-given_after (change.Collect ids) t fits low = absurd fits
+given_after (change.Work program reads dropped kept) t fits low = omega (arith, low)
+given_after (change.Collect ids) t fits low = low
 given_after (change.Checkpoint whole) t fits low = absurd fits
 
 given_in : (due : Bool) (t t' : Table) (bodies : List (List ℕ)) → Replays due t bodies t' → 0 < t.next_file → 0 < t'.next_file
