@@ -1,5 +1,5 @@
 -- What a checked read of a state's extent gives.
-use Rattle.std.proofs.Common.{◌≡◌, ℕ, List, take, refl, sym, ap, ◌∙◌, subst}
+use Rattle.std.proofs.Common.{◌≡◌, inl, ℕ, List, take, refl, sym, ap, ◌∙◌, subst}
 use Rattle.rows_core.specs.declared.file_ref.FileRef.{FileRef}
 use Rattle.rows_core.specs.declared.schema.Column.{Column}
 use Rattle.rows_core.specs.declared.value.Value.{Value}
@@ -20,7 +20,7 @@ holds_read Shown at bytes file read holds is digest = is ∙ holds (ap digest_of
 
 module _ (care : Care) (files : ℕ → List ℕ) (columns : List Column) (at : of_table.Extent) (rows : List (List Value)) (have : HaveRows care files columns at rows) where
   names : Names have.state have.extent.file (file_bytes have.extent.rows)
-  names = record { stream = have.stream; extent = have.extent; has = have.has; at_is = refl; bytes_are = refl }
+  names = inl (record { stream = have.stream; extent = have.extent; has = have.has; at_is = refl; bytes_are = refl })
 
   file_is : at.file ≡ have.extent.file
   file_is = ap (λ (e : of_table.Extent). e.file) have.at_is

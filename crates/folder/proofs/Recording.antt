@@ -48,7 +48,7 @@ pub ticks_left : (c : Change) (t : Table) → is_checkpoint c ≡ false → Fits
 ticks_left (change.Stream name columns) t plain fits = fits.counted
 ticks_left (change.Append stream extent) t plain fits = fits.counted
 ticks_left (change.Work program reads dropped kept) t plain fits = fits.counted
-ticks_left (change.Collect ids) t plain fits = absurd fits
+ticks_left (change.Collect ids) t plain fits = fits.counted
 ticks_left (change.Checkpoint whole) t plain fits = absurd fits
 
 module _ (care : Care) (u v : View) (t : Table) (journal : Journal) (s s' : State) (c : Change) (body : List ℕ)

@@ -4,6 +4,8 @@ ghost use Rattle.outside_traits.specs.View.{View, Now, Only};
 ghost use Rattle.outside_traits.specs.Runs.{Narrows};
 ghost use Rattle.rows_core.specs.declared.schema.Column.{Column};
 ghost use Rattle.rows_core.specs.declared.value.Value.{Value};
+ghost use Rattle.std.specs.List.{AllByRecursion};
+ghost use Rattle.catalog_types.specs.PlainEntry.{PlainNewEntry};
 ghost use Rattle.catalog_types.specs.declared.change.Change.{Change};
 ghost use Rattle.catalog_types.specs.declared.program.Program.{Program};
 ghost use Rattle.catalog_core.specs.Table.{Table, Fits};
@@ -12,7 +14,8 @@ ghost use Rattle.folder.specs.Replay.{ReadsAs, StopsReading};
 ghost use Rattle.folder.specs.Sound.{Care, IsSound};
 ghost use Rattle.folder.specs.Left.{IsLeft, IsSettled, Since};
 ghost use Rattle.folder.specs.Standing.{Stands, Means, IsNext};
-ghost use Rattle.folder.specs.Next.{with_stream, with_rows, with_run, new_extent, AreRowsOf};
+ghost use Rattle.folder.specs.Next.{with_stream, with_rows, with_run, with_work, with_collection};
+ghost use Rattle.folder.specs.Next.{new_extent, AreRowsOf, IsReadyResult};
 ghost use Rattle.journal_store.specs.declared.journal.Journal.{Journal};
 
 use outside_traits::Store;
@@ -51,7 +54,10 @@ pub fn left_stores<D: Store>()
 {}
 
 /// The states that follow from one, where the change fits its table: with one more stream; with one more
-/// extent, where the next file has the bytes of its rows after each crash now; with what a run leaves.
+/// extent, where the next file has the bytes of its rows after each crash now; with what a run leaves; with
+/// what a piece of work leaves, where the new results are of their plans and their files have the bytes of
+/// their forms after each crash now; and without the kept results that are collected. A run is a piece of
+/// work that reads, drops and keeps nothing.
 pub fn next_states<D: Store>()
     ensures stream { (care : Care) (store : D) (s : State) (name : List ℕ) (columns : List Column)
         → IsSettled care (D.view store) s → IsValid s → Fits (Change.Stream name columns) (table s)
@@ -65,4 +71,15 @@ pub fn next_states<D: Store>()
     ensures run { (care : Care) (store : D) (s : State) (program : Option Program)
         → IsSettled care (D.view store) s → IsValid s → Fits (Change.Work program [] [] []) (table s)
         → IsNext care (D.view store) s (Change.Work program [] [] []) (with_run s program) }
+    ensures work { (care : Care) (store : D) (s : State) (program : Option Program)
+        (reads dropped : List ℕ) (kept : List PlainNewEntry) → IsSettled care (D.view store) s → IsValid s
+        → Fits (Change.Work program reads dropped kept) (table s)
+        → AllByRecursion (IsReadyResult (D.view store) s.streams) kept
+        → IsNext care (D.view store) s (Change.Work program reads dropped kept)
+        (with_work s program reads dropped kept) }
+    ensures collection { (care : Care) (store : D) (s : State) (ids : List ℕ)
+        → IsSettled care (D.view store) s → IsValid s → Fits (Change.Collect ids) (table s)
+        → IsNext care (D.view store) s (Change.Collect ids) (with_collection s ids) }
+    ensures nothing_kept { (s : State) (program : Option Program)
+        → with_work s program [] [] [] ≡ with_run s program }
 {}
