@@ -15,7 +15,7 @@ use Rattle.plan_binder.specs.Binding.{has_repeat, is_there}
 use Rattle.catalog_core.specs.Programs.{names_of, extents_at, AreByName}
 use Rattle.catalog_core.specs.IsTable.{IsStream, IsTable}
 use Rattle.catalog_core.proofs.ByName.{by-name-kept}
-use Rattle.catalog_core.proofs.Results.{over-stream, over-append, past-tick, work-keeps-table, collection-keeps-table}
+use Rattle.catalog_core.proofs.OverStreams.{over-stream, over-append, past-tick, work-keeps-table, collection-keeps-table}
 use Rattle.catalog_core.specs.Table.{Table, place_of, extent_count, new_stream, with_extent, updated, most_ticks, most_extents, most_rows, most_programs, Fits, FitsStream, FitsAppend, FitsProgram, FitsWork, FitsCollection, after, with_programs, with_stored, with_tick}
 
 -- ---- names that differ

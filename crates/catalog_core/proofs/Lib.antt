@@ -1,9 +1,10 @@
 pub mod ByName
-pub mod Chains
+pub mod ChainLemmas
 pub mod Growth
+pub mod IdleWork
 pub mod Kept
 pub mod Nested
+pub mod OverStreams
 pub mod Places
 pub mod Texts
 pub mod Typings
-pub mod Results

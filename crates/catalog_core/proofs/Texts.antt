@@ -1,5 +1,5 @@
 -- The plan of a canonical text over streams: there is one at most.
-use Rattle.std.proofs.Common.{◌≡◌, ◌∙◌, ◌≤◌, ◌↔◌, sym, ap, subst, ℕ, Bool, false, IsTrue, List, length, Ok, arith}
+use Rattle.std.proofs.Common.{◌≡◌, ◌∙◌, ◌≤◌, ◌↔◌, sym, ap, subst, ℕ, Bool, false, IsTrue, List, length, Result, Ok, arith}
 use Rattle.plan_core.specs.PlainPlan.{PlainPlan, leaves}
 use Rattle.plan_core.specs.TypedPlan.{TypedPlan}
 use Rattle.catalog_types.specs.declared.program.Program.{Program}
@@ -60,3 +60,7 @@ program-is streams program typed are short is at only cuts = (
 
 pub no-program : (streams : List StreamState) (program : Program) → ((plan : PlainPlan) → IsPlanOf streams program.text plan → ⊥) → IsTrue false ↔ IsProgram streams program
 no-program streams program none = (λ e. absurd (cc), λ given. absurd (none given.plan given.is_plan))
+
+-- a plan with names is bound to one plan
+pub same-plan : {E : Type 0} {r : Result PlainPlan E} {plan other : PlainPlan} → r ≡ Ok plan → r ≡ Ok other → plan ≡ other
+same-plan e f = cc

@@ -14,6 +14,6 @@ mod snapshot;
 pub mod stream;
 
 pub use catalog::Catalog;
-pub use laws::tables_stay_tables;
+pub use laws::{idle_work, tables_stay_tables};
 pub use refusal::CatalogRefusal;
 pub use stream::CatalogStream;

@@ -68,9 +68,11 @@ impl CatalogStream {
         ensures { result
             ≡ chain_of chain_start (take count (extent_digests (state_of self.now).extents)) }
     {
-        match count.min(self.chains.len()) {
-            0 => chain_start(),
-            place => self.chains[place - 1],
+        let place = count.min(self.chains.len());
+        if place == 0 {
+            chain_start()
+        } else {
+            self.chains[place - 1]
         }
     }
 

@@ -1,10 +1,11 @@
 -- Kept results stay over the streams as these grow, and work and collections make others that are over them.
-use Rattle.std.proofs.Common.{◌≡◌, refl, sym, ap, subst, ℕ, zero, suc, ◌+◌, ◌≤◌, List, [], ◌∷◌, ◌++◌, length, map, IsOk, le_refl, length-append, arith}
+use Rattle.std.proofs.Common.{◌≡◌, ◌↔◌, refl, sym, ap, subst, ◌∙◌, ℕ, zero, suc, ◌+◌, ◌≤◌, Bool, true, false, IsTrue, List, [], ◌∷◌, ◌++◌, length, map, Result, Ok, Err, IsOk, is_ok, le_refl, length-append, arith}
 use Rattle.std.specs.List.{AllByRecursion}
 use Rattle.std.proofs.lemmas.List.{length-map}
 use Rattle.rows_core.specs.declared.cut.Cut.{Cut}
 use Rattle.rows_core.specs.Schema.{kinds_of}
-use Rattle.plan_core.specs.PlainPlan.{PlainPlan}
+use Rattle.plan_core.specs.PlainPlan.{PlainPlan, leaves}
+use Rattle.plan_core.specs.declared.refusal.PlanRefusal.{PlanRefusal}
 use Rattle.plan_core.specs.PlanTyping.{Kinds, plan_typing}
 use Rattle.catalog_types.specs.PlainEntry.{PlainEntry, PlainNewEntry}
 use Rattle.catalog_types.specs.declared.extent.Extent.{Extent}
@@ -18,7 +19,7 @@ use Rattle.entry_table.proofs.Files.{files-fit}
 use Rattle.entry_table.proofs.Growth.{all-map, all-append, all-without, all-used, work-keeps, worked-is, collection-keeps}
 use Rattle.entry_table.proofs.Past.{past-work, past-collection}
 use Rattle.catalog_core.specs.Programs.{kinds_of_streams, extents_at, AreCuts}
-use Rattle.catalog_core.specs.Results.{IsEntryOver, IsResultOver, digests_of}
+use Rattle.catalog_core.specs.Results.{IsOver, IsEntryOver, IsResultOver, digests_of}
 use Rattle.catalog_core.specs.IsTable.{IsTable}
 use Rattle.catalog_core.specs.Table.{Table, kept_of_table, updated, with_extent, new_stream, with_kept, with_work, file_end, FitsResults}
 use Rattle.catalog_core.proofs.Typings.{typed_still}
@@ -135,3 +136,23 @@ collection-keeps-table ids t is = record {
   past = past-collection t.tick t.tick ids (kept_of_table t) le_refl is.past;
   ids = is.ids;
 }
+
+-- ---- whether a result is over the streams
+
+has-kinds : (r : Result Kinds PlanRefusal) → IsOk r → (kinds : Kinds) × (r ≡ Ok kinds)
+has-kinds (Ok kinds) is = (kinds, refl)
+has-kinds (Err e) is = absurd cc
+
+pub over-decided : (streams : List StreamState) (schemas : List Kinds) (plan : PlainPlan) (cuts : List Cut) (kinds : Kinds) (ls : List ℕ) (are : Bool) → schemas ≡ kinds_of_streams streams
+    → plan_typing schemas plan ≡ Ok kinds → ls ≡ leaves plan → IsTrue are ↔ AreCuts streams ls cuts → IsTrue are ↔ IsOver streams plan cuts
+over-decided streams schemas plan cuts kinds ls are same typed at decided = (
+  λ e. record { typed = ap is_ok (ap (λ ks. plan_typing ks plan) (sym same) ∙ typed); are_cuts = subst (λ (ns : List ℕ). AreCuts streams ns cuts) at (decided.0 e) },
+  λ over. decided.1 (subst (λ (ns : List ℕ). AreCuts streams ns cuts) (sym at) over.are_cuts),
+)
+
+pub not-over : (streams : List StreamState) (schemas : List Kinds) (plan : PlainPlan) (cuts : List Cut) → schemas ≡ kinds_of_streams streams
+    → ((kinds : Kinds) → plan_typing schemas plan ≡ Ok kinds → ⊥) → IsTrue false ↔ IsOver streams plan cuts
+not-over streams schemas plan cuts same none = (
+  λ e. absurd cc,
+  λ over. (let typing = has-kinds (plan_typing (kinds_of_streams streams) plan) over.typed in absurd (none typing.0 (ap (λ ks. plan_typing ks plan) same ∙ typing.1))),
+)
