@@ -46,7 +46,7 @@ range-stays xs ys a b order within =
 abbrev pub Grow : List Stream → List Stream → Type 0
 Grow old new = (leaf : ℕ) → (more : List Rows) × (extents_of (extents_in new) leaf ≡ extents_of (extents_in old) leaf ++ more)
 
-as-long : (streams : List Stream) (leaf : ℕ) → length (extents_at (states_of streams) leaf) ≡ length (extents_of (extents_in streams) leaf)
+pub as-long : (streams : List Stream) (leaf : ℕ) → length (extents_at (states_of streams) leaf) ≡ length (extents_of (extents_in streams) leaf)
 as-long [] leaf = refl
 as-long (x ∷ xs) zero = length-map x.extents extent_of ∙ sym (length-map x.extents (λ (e : Extent). e.rows))
 as-long (x ∷ xs) (suc leaf) = as-long xs leaf

@@ -7,6 +7,8 @@ pub mod Narrowing
 pub mod GrownStreams
 pub mod NextStates
 pub mod ResultStates
+pub mod PieceLemmas
+pub mod HeldForms
 pub mod Steps
 pub mod LoadLemmas
 pub mod Recording

@@ -14,7 +14,7 @@ use Rattle.folder.specs.Sound.{Care, Shown, Whole, Holds}
 use Rattle.folder.specs.Reads.{HaveRows, SpellRows}
 
 -- bytes of the kept digest, read of a file that holds its bytes, are these
-holds_read : (care : Care) (at : FileRef) (bytes file read : List ℕ) → Holds care at bytes file → read ≡ take at.len file → digest_of read ≡ at.digest → read ≡ bytes
+pub holds_read : (care : Care) (at : FileRef) (bytes file read : List ℕ) → Holds care at bytes file → read ≡ take at.len file → digest_of read ≡ at.digest → read ≡ bytes
 holds_read Whole at bytes file read holds is digest = is ∙ holds
 holds_read Shown at bytes file read holds is digest = is ∙ holds (ap digest_of (sym is) ∙ digest)
 

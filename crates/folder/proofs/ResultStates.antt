@@ -1,5 +1,5 @@
 -- The states that follow from one by a piece of work or a collection: their files, and that they are valid.
-use Rattle.std.proofs.Common.{◌≡◌, ◌⊎◌, inl, inr, ℕ, zero, suc, ◌+◌, ◌<◌, ◌≤◌, append-nil, List, [], ◌∷◌, ◌++◌, length, Option, Result, Ok, refl, sym, ap, ◌∙◌, subst, arith}
+use Rattle.std.proofs.Common.{◌≡◌, ◌⊎◌, inl, inr, ℕ, zero, suc, ◌+◌, ◌<◌, ◌≤◌, List, [], ◌∷◌, ◌++◌, length, Option, Result, Ok, refl, sym, ap, ◌∙◌, subst, arith}
 use Rattle.std.specs.List.{Contains, AllByRecursion}
 use Rattle.outside_traits.specs.View.{View}
 use Rattle.rows_core.specs.declared.cut.Cut.{Cut}
@@ -21,6 +21,7 @@ use Rattle.entry_table.proofs.Files.{files-fit}
 use Rattle.entry_table.proofs.Growth.{all-append, all-without, all-used}
 use Rattle.catalog_core.specs.Results.{digests_of}
 use Rattle.catalog_core.specs.Table.{Fits}
+use Rattle.catalog_core.proofs.IdleWork.{idle-after}
 use Rattle.folder.specs.State.{Stream, State, Names, IsEntryOf, IsValid, lists_in, states_of, ref_of, table}
 use Rattle.folder.specs.Next.{with_run, with_work, with_collection, worked, IsReadyResult}
 use Rattle.folder.proofs.GrownStreams.{all-at}
@@ -179,16 +180,9 @@ module _ (v : View) (s : State) (valid : IsValid s) where
     last = valid.last;
   }
 
--- ---- work without kept results
+-- ---- work without kept results is a run
 
-nothing-used : (tick : ℕ) (es : List PlainEntry) → with_uses tick [] (without [] es) ≡ es
-nothing-used tick [] = refl
-nothing-used tick (e ∷ es) = ap (λ (l : List PlainEntry). e ∷ l) (nothing-used tick es)
-
--- is a run
 pub work-is-run : (s : State) (program : Option Program) → with_work s program [] [] [] ≡ with_run s program
 work-is-run s program =
-    let file : s.next_file + 0 ≡ s.next_file = omega arith in
-    let id : s.next_id + 0 ≡ s.next_id = omega arith in
-    let entries : with_uses (s.tick + 1) [] (without [] s.entries) ++ [] ≡ s.entries = append-nil (with_uses (s.tick + 1) [] (without [] s.entries)) ∙ nothing-used (s.tick + 1) s.entries in
-    λ i. record (with_run s program) { next_file = file i; next_id = id i; entries = entries i }
+    let same = idle-after program (table s) in
+    λ i. record (with_run s program) { next_file = (same i).next_file; next_id = (same i).next_id; entries = (same i).entries }

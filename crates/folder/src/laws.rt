@@ -1,15 +1,29 @@
 //! Stores that are left, and states that follow.
-ghost use Rattle.std.specs.Prelude.{◌≡◌, ℕ, List, [], Option};
+ghost use Rattle.std.specs.Prelude.{◌≡◌, ℕ, List, [], Option, Some, slice_get};
 ghost use Rattle.outside_traits.specs.View.{View, Now, Only};
 ghost use Rattle.outside_traits.specs.Runs.{Narrows};
 ghost use Rattle.rows_core.specs.declared.schema.Column.{Column};
 ghost use Rattle.rows_core.specs.declared.value.Value.{Value};
-ghost use Rattle.std.specs.List.{AllByRecursion};
-ghost use Rattle.catalog_types.specs.PlainEntry.{PlainNewEntry};
+ghost use Rattle.std.specs.List.{AllByRecursion, Contains};
+ghost use Rattle.plan_core.specs.PlainPlan.{PlainPlan, Scan, leaves};
+ghost use Rattle.plan_laws.specs.PlanShape.{plan_shape};
+ghost use Rattle.estimator.specs.Cuts.{Cuts};
+ghost use Rattle.rewrite_core.specs.IsRewriting.{IsRewriting, among};
+ghost use Rattle.rewrite_core.specs.PlainRewriting.{PlainRewriting};
+ghost use Rattle.growth_laws.specs.KeptResults.{AreKept as AreResults};
+ghost use Rattle.growth_laws.specs.Pieces.{pieces_of};
+ghost use Rattle.row_blob.specs.declared.kept.Kept.TheVariants as form;
+ghost use Rattle.cache_index.specs.Asked.{asked};
+ghost use Rattle.entry_table.specs.AreKept.{AreKept};
+ghost use Rattle.entry_table.specs.Work.{kept_with};
+ghost use Rattle.catalog_types.specs.PlainEntry.{PlainEntry, PlainNewEntry};
 ghost use Rattle.catalog_types.specs.declared.change.Change.{Change};
 ghost use Rattle.catalog_types.specs.declared.program.Program.{Program};
+ghost use Rattle.catalog_core.specs.Programs.{AreCuts};
 ghost use Rattle.catalog_core.specs.Table.{Table, Fits};
-ghost use Rattle.folder.specs.State.{State, IsValid, extent_of, empty_state, table, file_bytes};
+ghost use Rattle.folder.specs.State.{State, Stream, Extent, IsValid, extent_of, empty_state, table, file_bytes};
+ghost use Rattle.folder.specs.State.{states_of, kinds_in, extents_in};
+ghost use Rattle.folder.specs.Files.{results_in, extent_rows, IsPieceIn, SpellsOnly};
 ghost use Rattle.folder.specs.Replay.{ReadsAs, StopsReading};
 ghost use Rattle.folder.specs.Sound.{Care, IsSound};
 ghost use Rattle.folder.specs.Left.{IsLeft, IsSettled, Since};
@@ -19,6 +33,7 @@ ghost use Rattle.folder.specs.Next.{new_extent, AreRowsOf, IsReadyResult};
 ghost use Rattle.journal_store.specs.declared.journal.Journal.{Journal};
 
 use outside_traits::Store;
+use row_blob::one_spelling;
 
 /// Files read as one table, or reading them stops at one place, and never both.
 pub fn one_table()
@@ -83,3 +98,27 @@ pub fn next_states<D: Store>()
     ensures nothing_kept { (s : State) (program : Option Program)
         → with_work s program [] [] [] ≡ with_run s program }
 {}
+
+/// What the files hold that rewritings over the kept results of a state name, but for those whose ids are left
+/// out. Each piece of such a rewriting, at a cut that ends within the extents, is a kept result of the state
+/// with its plan, or extents of one stream that are there. Where the files are a state's, no form may be
+/// read of an extent's file but its rows, and none of a kept result's but that of its plan's result at its
+/// cut, whose machine time is kept beside it.
+pub fn files_of_states()
+    ensures kept { (s : State) (left_out : List ℕ) → IsValid s → AreKept (kept_with s.next_id s.entries)
+        → AreResults (extents_in s.streams) (results_in s) (asked left_out s.entries) }
+    ensures pieces { (s : State) (left_out : List ℕ) (plan : PlainPlan) (cuts : Cuts) (r : PlainRewriting)
+        → IsValid s → IsRewriting (among (asked left_out s.entries)) plan cuts r
+        → AreCuts (states_of s.streams) (leaves plan) cuts → AllByRecursion (IsPieceIn s) (pieces_of r) }
+    ensures extents { (care : Care) (files : ℕ → List ℕ) (s : State) (place number : ℕ) (stream : Stream)
+        (extent : Extent) → IsSound care files s → slice_get s.streams place ≡ Some stream
+        → slice_get stream.extents number ≡ Some extent
+        → SpellsOnly (plan_shape (kinds_in s.streams) (Scan place)) extent.file (files extent.file.file)
+        (form.Rows (extent_rows s place number)) }
+    ensures results { (care : Care) (files : ℕ → List ℕ) (s : State) (e : PlainEntry) → IsSound care files s
+        → AreKept (kept_with s.next_id s.entries) → Contains s.entries e
+        → SpellsOnly (plan_shape (kinds_in s.streams) e.plan) e.file (files e.file.file)
+        (results_in s e.id).form × (e.machine ≡ (results_in s e.id).machine) }
+{
+    one_spelling();
+}
