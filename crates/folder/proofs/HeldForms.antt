@@ -1,7 +1,8 @@
 -- The forms that the files of a state hold, and the kept results by their ids.
-use Rattle.std.proofs.Common.{◌≡◌, inl, inr, refl, sym, ap, ◌∙◌, subst, ℕ, ◌<◌, ◌==◌, nat_lt, ◌&&◌, Bool, true, false, cond, List, [], ◌∷◌, map, take, slice_get, Option, None, Some, Ok, unwrap_or, arith}
+use Rattle.std.proofs.Common.{◌≡◌, inl, inr, refl, sym, ap, ◌∙◌, subst, ℕ, zero, suc, ◌<◌, ◌==◌, nat_lt, ◌&&◌, Bool, true, false, cond, List, [], ◌∷◌, length, take, slice_get, Option, None, Some, Ok, unwrap_or, arith}
 use Rattle.std.specs.List.{Contains, AllByRecursion, find}
 use Rattle.std.specs.Option.{option_map}
+use Rattle.std.proofs.lemmas.List.{length-map}
 use Rattle.std.proofs.lemmas.Option.{slice_get-map}
 use Rattle.std.proofs.lemmas.Bool.{ltb-true, eqb-true, eq-eqb}
 use Rattle.rows_core.specs.declared.file_ref.FileRef.{FileRef}
@@ -21,6 +22,7 @@ use Rattle.plan_laws.specs.PlanShape.{plan_shape}
 use Rattle.rewrite_core.specs.Entries.{Entry}
 use Rattle.growth_laws.specs.KeptResults as growth
 use Rattle.growth_laws.specs.KeptResults.{KeptResult, IsResultOf}
+use Rattle.growth_laws.specs.Lists.{extents_of}
 use Rattle.cache_index.specs.Asked.{asked}
 use Rattle.catalog_types.specs.PlainEntry.{PlainEntry}
 use Rattle.catalog_types.specs.declared.snapshot.StreamState.{StreamState}
@@ -31,7 +33,7 @@ use Rattle.entry_table.proofs.Growth.{all-map}
 use Rattle.entry_table.proofs.Places.{both}
 use Rattle.folder.specs.State.{Stream, Extent, State, HasExtent, Names, IsValid, stream_of, states_of, kinds_in, rows_in, extents_in, lists_in, file_bytes}
 use Rattle.folder.specs.Sound.{Care, IsSound}
-use Rattle.folder.specs.Files.{form_of, result_of, no_result, results_in, extent_rows, SpellsOnly}
+use Rattle.folder.specs.Files.{form_of, result_of, no_result, results_in, extent_rows, SpellsOnly, HoldsExtent, HoldsResult}
 use Rattle.folder.proofs.GrownStreams.{all-at, entry-in}
 use Rattle.folder.proofs.NextStates.{Contains-cons_cases}
 use Rattle.folder.proofs.PieceLemmas.{asked-is}
@@ -94,6 +96,20 @@ shape-there streams stream x is =
         slice_get-map (λ (y : StreamState). kinds_of y.columns) (states_of streams) stream ∙ ap (option_map (λ (y : StreamState). kinds_of y.columns)) state in
     ap (λ (o : Option Kinds). shape.Rows (unwrap_or o [])) kinds
 
+got : {A : Type 0} (xs : List A) (n : ℕ) → n < length xs → (x : A) × (slice_get xs n ≡ Some x)
+got [] n low = absurd (omega (arith, low))
+got (x ∷ xs) zero low = (x, refl)
+got (x ∷ xs) (suc n) low = got xs n (omega (arith, low))
+
+extent-at : (streams : List Stream) (place number : ℕ) → number < length (extents_of (extents_in streams) place)
+    → (x : Stream) × (e : Extent) × (slice_get streams place ≡ Some x) × (slice_get x.extents number ≡ Some e)
+extent-at [] place number low = absurd (omega (arith, low))
+extent-at (x ∷ xs) zero number low =
+    let long = length-map x.extents (λ (e : Extent). e.rows) in
+    let e = got x.extents number (omega (arith, low, long)) in
+    (x, e.0, refl, e.1)
+extent-at (x ∷ xs) (suc place) number low = extent-at xs place number low
+
 -- ---- what the files hold
 
 module _ (one : (shape : Shape) (a b : Kept) → IsKept shape a → IsKept shape b → kept_spelling a ≡ kept_spelling b → a ≡ b)
@@ -102,10 +118,10 @@ module _ (one : (shape : Shape) (a b : Kept) → IsKept shape a → IsKept shape
   named-only at bytes of form names is kept read spells digest =
       one of read form spells.0 kept (holds_read care at bytes (files at.file) (kept_spelling read) (sound.holds at bytes names) (sym spells.1) digest ∙ is)
 
-  pub holds-extent : (stream number : ℕ) (x : Stream) (e : Extent) → slice_get s.streams stream ≡ Some x → slice_get x.extents number ≡ Some e
+  extent-only : (stream number : ℕ) (x : Stream) (e : Extent) → slice_get s.streams stream ≡ Some x → slice_get x.extents number ≡ Some e
       → SpellsOnly (plan_shape (kinds_in s.streams) (Scan stream)) e.file (files e.file.file) (kept.Rows (extent_rows s stream number))
   unfolding file_bytes
-  holds-extent stream number x e is has =
+  extent-only stream number x e is has =
       let there : HasExtent s x e = (slice_has s.streams stream x is, slice_has x.extents number e has) in
       let rows = rows-there s stream number x e is has in
       named-only e.file (file_bytes e.rows) (plan_shape (kinds_in s.streams) (Scan stream)) (kept.Rows (extent_rows s stream number))
@@ -113,12 +129,19 @@ module _ (one : (shape : Shape) (a b : Kept) → IsKept shape a → IsKept shape
       (subst (λ (k : Kept). IsKept (plan_shape (kinds_in s.streams) (Scan stream)) k) (ap kept.Rows (sym rows))
       (subst (λ (of : Shape). IsKept of (kept.Rows e.rows)) (sym (shape-there s.streams stream x is)) (sound.valid.rows x e there)))
 
-  pub holds-result : (e : PlainEntry) → AreKept (kept_with s.next_id s.entries) → Contains s.entries e
-      → SpellsOnly (plan_shape (kinds_in s.streams) e.plan) e.file (files e.file.file) (results_in s e.id).form × (e.machine ≡ (results_in s e.id).machine)
+  pub holds-extent : (place number : ℕ) → number < length (extents_of (extents_in s.streams) place) → HoldsExtent files s place number
+  holds-extent place number low =
+      let at = extent-at s.streams place number low in
+      record { stream = at.0; extent = at.1; at_place = at.2; numbered = at.3; only = extent-only place number at.0 at.1 at.2 at.3 }
+
+  pub holds-result : (e : PlainEntry) → AreKept (kept_with s.next_id s.entries) → Contains s.entries e → HoldsResult files s e
   holds-result e are has =
       let is = entry-in s e sound.valid has in
       let same : results_in s e.id ≡ result_of s.streams e = result-with s e are has in
       let form : is.0 ≡ (results_in s e.id).form = sym (ap form_of is.1.result.form) ∙ sym (ap (λ (r : KeptResult). r.form) same) in
-      (subst (λ (k : Kept). SpellsOnly (plan_shape (kinds_in s.streams) e.plan) e.file (files e.file.file) k) form
-      (named-only e.file (kept_spelling is.0) (plan_shape (kinds_in s.streams) e.plan) is.0
-      (inr (record { entry = e; has = has; form = is.0; form_is = is.1.result.form; at_is = refl; bytes_are = refl })) refl is.1.of_shape), sym (ap (λ (r : KeptResult). r.machine) same))
+      record {
+        only = subst (λ (k : Kept). SpellsOnly (plan_shape (kinds_in s.streams) e.plan) e.file (files e.file.file) k) form
+            (named-only e.file (kept_spelling is.0) (plan_shape (kinds_in s.streams) e.plan) is.0
+            (inr (record { entry = e; has = has; form = is.0; form_is = is.1.result.form; at_is = refl; bytes_are = refl })) refl is.1.of_shape);
+        machine = sym (ap (λ (r : KeptResult). r.machine) same);
+      }

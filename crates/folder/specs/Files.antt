@@ -1,5 +1,5 @@
 -- What the files hold that rewritings over a state's kept results name.
-use Rattle.std.specs.Prelude.{◌≡◌, ℕ, ◌==◌, ◌≤◌, List, [], ◌∷◌, length, map, take, slice_get, unwrap_or, Result, Ok, Err}
+use Rattle.std.specs.Prelude.{◌≡◌, ℕ, ◌==◌, ◌≤◌, List, [], ◌∷◌, length, take, slice_get, unwrap_or, Some, Result, Ok, Err}
 use Rattle.std.specs.List.{Contains, find}
 use Rattle.std.specs.Option.{option_map}
 use Rattle.rows_core.specs.declared.cut.Cut.{Cut}
@@ -12,13 +12,14 @@ use Rattle.row_blob.specs.declared.shape.Shape.{Shape}
 use Rattle.extent_files.specs.Files.{digest_of}
 use Rattle.kept_files.specs.Reads.{Spells}
 use Rattle.plan_core.specs.Columns.{Rows}
-use Rattle.plan_core.specs.PlainPlan.{leaves}
+use Rattle.plan_core.specs.PlainPlan.{Scan, leaves}
 use Rattle.plan_laws.specs.KeptForm.{kept_form}
+use Rattle.plan_laws.specs.PlanShape.{plan_shape}
 use Rattle.growth_laws.specs.KeptResults.{KeptResult, KeptResults}
 use Rattle.growth_laws.specs.Lists.{extents_of}
 use Rattle.growth_laws.specs.Pieces.{Piece, Entry, Gathered}
 use Rattle.catalog_types.specs.PlainEntry.{PlainEntry}
-use Rattle.folder.specs.State.{Stream, State, extents_in, lists_in}
+use Rattle.folder.specs.State.{Extent, Stream, State, kinds_in, extents_in, lists_in}
 
 -- ---- the kept results by their ids
 
@@ -55,3 +56,16 @@ extent_rows s stream number = unwrap_or (slice_get (extents_of (extents_in s.str
 abbrev pub SpellsOnly : Shape → FileRef → List ℕ → Kept → Type 0
 SpellsOnly shape at file form =
     (read : Kept) → Spells shape (take at.len file) read → digest_of (kept_spelling read) ≡ at.digest → read ≡ form
+
+-- the file of a stream's extent holds its rows
+pub record HoldsExtent (files : ℕ → List ℕ) (s : State) (place number : ℕ) : Type 0 where
+  pub stream : Stream
+  pub extent : Extent
+  pub at_place : slice_get s.streams place ≡ Some stream
+  pub numbered : slice_get stream.extents number ≡ Some extent
+  pub only : SpellsOnly (plan_shape (kinds_in s.streams) (Scan place)) extent.file (files extent.file.file) (kept.Rows (extent_rows s place number))
+
+-- the file of a kept result holds its form, and its machine time is kept beside it
+pub record HoldsResult (files : ℕ → List ℕ) (s : State) (e : PlainEntry) : Type 0 where
+  pub only : SpellsOnly (plan_shape (kinds_in s.streams) e.plan) e.file (files e.file.file) (results_in s e.id).form
+  pub machine : e.machine ≡ (results_in s e.id).machine

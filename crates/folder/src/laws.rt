@@ -1,18 +1,17 @@
 //! Stores that are left, and states that follow.
-ghost use Rattle.std.specs.Prelude.{◌≡◌, ℕ, List, [], Option, Some, slice_get};
+ghost use Rattle.std.specs.Prelude.{◌≡◌, ℕ, List, [], Option, length, ◌<◌};
 ghost use Rattle.outside_traits.specs.View.{View, Now, Only};
 ghost use Rattle.outside_traits.specs.Runs.{Narrows};
 ghost use Rattle.rows_core.specs.declared.schema.Column.{Column};
 ghost use Rattle.rows_core.specs.declared.value.Value.{Value};
 ghost use Rattle.std.specs.List.{AllByRecursion, Contains};
-ghost use Rattle.plan_core.specs.PlainPlan.{PlainPlan, Scan, leaves};
-ghost use Rattle.plan_laws.specs.PlanShape.{plan_shape};
+ghost use Rattle.plan_core.specs.PlainPlan.{PlainPlan, leaves};
 ghost use Rattle.estimator.specs.Cuts.{Cuts};
 ghost use Rattle.rewrite_core.specs.IsRewriting.{IsRewriting, among};
 ghost use Rattle.rewrite_core.specs.PlainRewriting.{PlainRewriting};
 ghost use Rattle.growth_laws.specs.KeptResults.{AreKept as AreResults};
+ghost use Rattle.growth_laws.specs.Lists.{extents_of};
 ghost use Rattle.growth_laws.specs.Pieces.{pieces_of};
-ghost use Rattle.row_blob.specs.declared.kept.Kept.TheVariants as form;
 ghost use Rattle.cache_index.specs.Asked.{asked};
 ghost use Rattle.entry_table.specs.AreKept.{AreKept};
 ghost use Rattle.entry_table.specs.Work.{kept_with};
@@ -21,9 +20,9 @@ ghost use Rattle.catalog_types.specs.declared.change.Change.{Change};
 ghost use Rattle.catalog_types.specs.declared.program.Program.{Program};
 ghost use Rattle.catalog_core.specs.Programs.{AreCuts};
 ghost use Rattle.catalog_core.specs.Table.{Table, Fits};
-ghost use Rattle.folder.specs.State.{State, Stream, Extent, IsValid, extent_of, empty_state, table, file_bytes};
-ghost use Rattle.folder.specs.State.{states_of, kinds_in, extents_in};
-ghost use Rattle.folder.specs.Files.{results_in, extent_rows, IsPieceIn, SpellsOnly};
+ghost use Rattle.folder.specs.State.{State, IsValid, extent_of, empty_state, table, file_bytes};
+ghost use Rattle.folder.specs.State.{states_of, extents_in};
+ghost use Rattle.folder.specs.Files.{results_in, IsPieceIn, HoldsExtent, HoldsResult};
 ghost use Rattle.folder.specs.Replay.{ReadsAs, StopsReading};
 ghost use Rattle.folder.specs.Sound.{Care, IsSound};
 ghost use Rattle.folder.specs.Left.{IsLeft, IsSettled, Since};
@@ -110,15 +109,11 @@ pub fn files_of_states()
     ensures pieces { (s : State) (left_out : List ℕ) (plan : PlainPlan) (cuts : Cuts) (r : PlainRewriting)
         → IsValid s → IsRewriting (among (asked left_out s.entries)) plan cuts r
         → AreCuts (states_of s.streams) (leaves plan) cuts → AllByRecursion (IsPieceIn s) (pieces_of r) }
-    ensures extents { (care : Care) (files : ℕ → List ℕ) (s : State) (place number : ℕ) (stream : Stream)
-        (extent : Extent) → IsSound care files s → slice_get s.streams place ≡ Some stream
-        → slice_get stream.extents number ≡ Some extent
-        → SpellsOnly (plan_shape (kinds_in s.streams) (Scan place)) extent.file (files extent.file.file)
-        (form.Rows (extent_rows s place number)) }
+    ensures extents { (care : Care) (files : ℕ → List ℕ) (s : State) (place number : ℕ)
+        → IsSound care files s → number < length (extents_of (extents_in s.streams) place)
+        → HoldsExtent files s place number }
     ensures results { (care : Care) (files : ℕ → List ℕ) (s : State) (e : PlainEntry) → IsSound care files s
-        → AreKept (kept_with s.next_id s.entries) → Contains s.entries e
-        → SpellsOnly (plan_shape (kinds_in s.streams) e.plan) e.file (files e.file.file)
-        (results_in s e.id).form × (e.machine ≡ (results_in s e.id).machine) }
+        → AreKept (kept_with s.next_id s.entries) → Contains s.entries e → HoldsResult files s e }
 {
     one_spelling();
 }

@@ -58,8 +58,8 @@ module _ (folder : Folder) where
   pub writes_log : (u v : View) → ChangesOnly (generation_file (generation_of (journal_of folder))) u v → WritesAtMost folder u v
   writes_log u v run = spans_of (generation_file (generation_of (journal_of folder))) (λ x. Unit {0}) (IsWritten folder) (λ image. Unit {0}) u v run (inl refl) (λ image here others. tt)
 
-  pub writes_file : (u v : View) → ChangesOnly (table_in folder).next_file u v → WritesAtMost folder u v
-  writes_file u v run = spans_of (table_in folder).next_file (λ x. Unit {0}) (IsWritten folder) (λ image. Unit {0}) u v run (inr refl) (λ image here others. tt)
+  pub writes_file : (u v : View) → ChangesOnly ((table_in folder).next_file + 0) u v → WritesAtMost folder u v
+  writes_file u v run = spans_of ((table_in folder).next_file + 0) (λ x. Unit {0}) (IsWritten folder) (λ image. Unit {0}) u v run (inr (none_ahead (table_in folder).next_file)) (λ image here others. tt)
 
 -- a session that is the same but for the memory that it has taken
 pub writes_prepared : (u v : View) (session session' : Session) → table_in (folder_of session') ≡ table_in (folder_of session) → journal_of (folder_of session') ≡ journal_of (folder_of session)
