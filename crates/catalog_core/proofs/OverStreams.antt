@@ -44,7 +44,7 @@ over-stay streams others grow typed es all =
 
 -- ---- a stream more
 
-kinds-added : (streams : List StreamState) (s : StreamState) → kinds_of_streams (streams ++ s ∷ []) ≡ kinds_of_streams streams ++ kinds_of s.columns ∷ []
+pub kinds-added : (streams : List StreamState) (s : StreamState) → kinds_of_streams (streams ++ s ∷ []) ≡ kinds_of_streams streams ++ kinds_of s.columns ∷ []
 kinds-added [] s = refl
 kinds-added (x ∷ xs) s = ap (λ (ks : List Kinds). kinds_of x.columns ∷ ks) (kinds-added xs s)
 
@@ -102,7 +102,7 @@ work-keeps-table reads dropped kept t fits is =
     record {
       counted = is.counted;
       first_file = omega (arith, is.first_file);
-      last_file = files-fit t.next_file t.next_file kept le_refl is.last_file fits.results.kept.files;
+      last_file = files-fit t.next_file t.next_file kept (le_refl t.next_file) is.last_file fits.results.kept.files;
       names = is.names;
       are_streams = is.are_streams;
       few_streams = is.few_streams;
@@ -114,7 +114,7 @@ work-keeps-table reads dropped kept t fits is =
       over = all-append (IsEntryOver t.streams) (with_uses t.tick reads (without dropped t.entries)) (new_entries digests t.tick t.next_id kept)
           (all-used (IsEntryOver t.streams) (IsEntryOver t.streams) t.tick reads (λ e over. use-over t.streams t.tick e over) (without dropped t.entries) (all-without (IsEntryOver t.streams) dropped t.entries is.over))
           (over-new t.streams digests t.tick t.next_id kept fits.over);
-      past = past-work digests t.tick t.tick reads dropped kept k le_refl is.past;
+      past = past-work digests t.tick t.tick reads dropped kept k (le_refl t.tick) is.past;
       ids = omega (arith, is.ids);
     }
 
@@ -133,7 +133,7 @@ collection-keeps-table ids t is = record {
   by_name = is.by_name;
   kept = collection-keeps ids (kept_of_table t) is.kept;
   over = all-without (IsEntryOver t.streams) ids t.entries is.over;
-  past = past-collection t.tick t.tick ids (kept_of_table t) le_refl is.past;
+  past = past-collection t.tick t.tick ids (kept_of_table t) (le_refl t.tick) is.past;
   ids = is.ids;
 }
 

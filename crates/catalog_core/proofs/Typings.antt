@@ -58,19 +58,20 @@ there_still (x ∷ xs) ys (suc i) low = there_still xs ys i (omega (arith, low))
 -- none of these is past the end
 present : (n : ℕ) (streams : List ℕ) → find (λ stream. nat_le n stream) streams ≡ None → AllByRecursion (λ stream. stream < n) streams
 present n [] none = tt
-present n (s ∷ streams) none = by (nat_le n s) refl none
+present n (s ∷ streams) none = by (nat_le n s) refl none (present n streams)
   where
-    by : (b : Bool) → nat_le n s ≡ b → cond b (Some s) (find (λ stream. nat_le n stream) streams) ≡ None → AllByRecursion (λ stream. stream < n) (s ∷ streams)
-    by true e none = absurd cc
-    by false e none = (grind (arith, nat_tests), present n streams none)
+    by : (b : Bool) → nat_le n s ≡ b → cond b (Some s) (find (λ stream. nat_le n stream) streams) ≡ None
+        → (find (λ stream. nat_le n stream) streams ≡ None → AllByRecursion (λ stream. stream < n) streams) → AllByRecursion (λ stream. stream < n) (s ∷ streams)
+    by true e none rest = absurd cc
+    by false e none rest = (grind (arith, nat_tests), rest none)
 
 still_present : (n m : ℕ) (streams : List ℕ) → n ≤ m → AllByRecursion (λ stream. stream < n) streams → find (λ stream. nat_le m stream) streams ≡ None
 still_present n m [] more all = refl
-still_present n m (s ∷ streams) more all = by (nat_le m s) refl
+still_present n m (s ∷ streams) more all = by (nat_le m s) refl (still_present n m streams more all.1)
   where
-    by : (b : Bool) → nat_le m s ≡ b → cond b (Some s) (find (λ stream. nat_le m stream) streams) ≡ None
-    by true e = absurd (let low = all.0 in grind (arith, nat_tests))
-    by false e = still_present n m streams more all.1
+    by : (b : Bool) → nat_le m s ≡ b → find (λ stream. nat_le m stream) streams ≡ None → cond b (Some s) (find (λ stream. nat_le m stream) streams) ≡ None
+    by true e rest = absurd (let low = all.0 in grind (arith, nat_tests))
+    by false e rest = rest
 
 all_still : (xs ys : List Kinds) (streams : List ℕ) → AllByRecursion (λ stream. stream < length xs) streams
     → AllByRecursion (λ stream. slice_get (xs ++ ys) stream ≡ slice_get xs stream) streams

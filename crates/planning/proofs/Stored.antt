@@ -19,7 +19,8 @@ use Rattle.catalog_types.specs.declared.program.Program.{Program}
 use Rattle.catalog_types.specs.declared.snapshot.StreamState.{StreamState}
 use Rattle.catalog_core.specs.IsTable.{IsTable, IsStream}
 use Rattle.catalog_core.specs.Programs.{extents_at, AreCuts, with_program, is_below, below, above}
-use Rattle.catalog_core.specs.Table.{Table, Fits, FitsWork, most_ticks, most_programs}
+use Rattle.catalog_core.specs.Table.{Table, Fits, most_ticks, most_programs}
+use Rattle.catalog_core.proofs.IdleWork.{idle-fits}
 use Rattle.record_codec.specs.Spelling.{change_spelling, HasChangeSpelling, HasProgramSpelling, IsCut}
 use Rattle.planning.specs.Appending.{columns_at}
 use Rattle.planning.specs.Recorded.{IsRecordOf}
@@ -77,28 +78,23 @@ pub record IsStored (t : Table) (program : Program) : Type 0 where
   pub counted : t.tick < most_ticks
 
 module _ (t : Table) (tree : PlainTree) (plan : PlainPlan) (within : IsWithinLimits tree) (bound : bound_plan t.streams tree ≡ Ok plan) (kinds : Kinds) (typed : typing_of t.streams plan ≡ Ok kinds) where
-  fits_work : (program : Program) → program.text ≡ canonical_text tree → SpellsText tree program.text → program.cuts ≡ cuts_of t.streams plan → IsStored t program → FitsWork (Some program) [] [] [] t
-  fits_work program text spells cuts stored = record {
-    counted = stored.counted;
-    stored = (
-      record {
-        plan = plan;
-        is_plan = record { tree = tree; canonical = (spells, within, text); bound = bound; kinds = kinds; typed = typed };
-        are_cuts = subst (AreCuts t.streams (leaves plan)) (sym cuts) (are_cuts t.streams (leaves plan));
-        short = stored.text;
-      },
-      stored.programs,
-    );
-    no_reads = refl;
-    no_dropped = refl;
-    no_kept = refl;
-  }
+  fits_work : (program : Program) → program.text ≡ canonical_text tree → SpellsText tree program.text → program.cuts ≡ cuts_of t.streams plan → IsStored t program → IsTable t → Fits (Work (Some program) [] [] []) t
+  fits_work program text spells cuts stored is =
+      idle-fits (Some program) t is stored.counted (
+        record {
+          plan = plan;
+          is_plan = record { tree = tree; canonical = (spells, within, text); bound = bound; kinds = kinds; typed = typed };
+          are_cuts = subst (AreCuts t.streams (leaves plan)) (sym cuts) (are_cuts t.streams (leaves plan));
+          short = stored.text;
+        },
+        stored.programs,
+      )
 
-  pub is_record : (program : Program) → program.text ≡ canonical_text tree → SpellsText tree program.text → program.cuts ≡ cuts_of t.streams plan → IsStored t program
+  pub is_record : (program : Program) → program.text ≡ canonical_text tree → SpellsText tree program.text → program.cuts ≡ cuts_of t.streams plan → IsStored t program → IsTable t
       → length (leaves plan) ≤ 9 → (change : Change) (body : List ℕ) → change ≡ Work (Some program) [] [] [] → HasChangeSpelling change → body ≡ change_spelling change
       → ((p : Program) → HasProgramSpelling p → length (change_spelling (Work (Some p) [] [] [])) ≤ 84 + length p.text + 8 * length p.cuts) → IsRecordOf t change body
-  is_record program text spells cuts stored few change body is spelled body_is law = record {
-    fits = subst (λ c. Fits c t) (sym is) (fits_work program text spells cuts stored);
+  is_record program text spells cuts stored sound few change body is spelled body_is law = record {
+    fits = subst (λ c. Fits c t) (sym is) (fits_work program text spells cuts stored sound);
     spelled = spelled;
     is_body = body_is;
     short =

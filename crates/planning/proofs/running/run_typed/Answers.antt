@@ -24,6 +24,7 @@ returns-in-Ok-store_program-clause-recorded c =
     is_record (table_of c.args.catalog.now) c.args.plan.now c.args.typed.plan c.requires.limits c.requires.bound c.args.typed.kinds c.requires.typed c.in-Ok.program c.in-Ok.ensures.text c.in-Ok.ensures.spells
     (c.in-Ok.ensures.cuts ∙ same_cuts (states_of c.streams-streams.result.now) (table_of c.args.catalog.now).streams c.leaves-2.result.now (leaves c.args.typed.plan) c.streams-streams.ensures.states (c.leaves-2.ensures.leaves ∙ c.leaves-2.ensures.typed.1))
     (record { text = c.in-Ok-store_program.ensures.text; programs = c.in-Ok-store_program.ensures.programs; counted = c.in-Ok-store_program.ensures.counted })
+    c.streams-streams.ensures.table
     (c.counts_are_of_the_written_plan.ensures.limits _ _ c.args.plan.now c.args.typed.plan c.requires.bound c.requires.limits).2
     c.in-Ok-store_program.recording.change c.in-Ok-store_program.recording.body.items c.in-Ok-store_program.ensures.change c.in-Ok-store_program.ensures.spelled c.in-Ok-store_program.ensures.body
     c.small_changes.ensures.program
