@@ -76,6 +76,7 @@ module _ (old new : List Stream) (grow : Grow old new) where
           over = over;
           of_shape = subst (λ (s : Shape). IsKept s is.0) (sym shape) is.1.of_shape;
           result = record { form = ap (kept_form e.plan) same ∙ is.1.result.form; machine = is.1.result.machine ∙ ap (machine_time e.plan) (sym same) };
+          within = is.1.within;
         },
       )
 

@@ -9,6 +9,7 @@ pub mod NextStates
 pub mod ResultStates
 pub mod PieceLemmas
 pub mod HeldForms
+pub mod ValidLists
 pub mod Steps
 pub mod LoadLemmas
 pub mod Recording

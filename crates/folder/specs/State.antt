@@ -94,12 +94,14 @@ abbrev pub lists_in : List Stream → PlainPlan → Cuts → List (List (List Va
 lists_in streams plan cuts = plan_lists (extents_in streams) plan cuts
 
 -- The form and the machine time are those of this plan's result at this cut of the streams: the plan is normal and has a
--- typing, the cut ends within the extents, and the form is one that its file is read back as.
+-- typing, the cut ends within the extents, and the form is one that its file is read back as; the machine time is kept in
+-- 32 bits.
 pub record IsResultIn (streams : List Stream) (plan : PlainPlan) (cuts : Cuts) (form : Kept) (machine : ℕ) : Type 0 where
   pub normal : IsNormal (kinds_in streams) plan
   pub over : IsOver (states_of streams) plan cuts
   pub of_shape : IsKept (plan_shape (kinds_in streams) plan) form
   pub result : IsResultOf (extents_in streams) plan cuts (record { form = form; machine = machine })
+  pub within : machine ≤ 4294967295
 
 -- so it is with a kept result
 abbrev pub IsEntryOf : List Stream → PlainEntry → Type 0

@@ -1,11 +1,13 @@
 //! Stores that are left, and states that follow.
-ghost use Rattle.std.specs.Prelude.{◌≡◌, ℕ, List, [], Option, length, ◌<◌};
+ghost use Rattle.std.specs.Prelude.{◌≡◌, ℕ, List, [], Option, length, ◌<◌, ◌≤◌};
 ghost use Rattle.outside_traits.specs.View.{View, Now, Only};
 ghost use Rattle.outside_traits.specs.Runs.{Narrows};
 ghost use Rattle.rows_core.specs.declared.schema.Column.{Column};
 ghost use Rattle.rows_core.specs.declared.value.Value.{Value};
 ghost use Rattle.std.specs.List.{AllByRecursion, Contains};
 ghost use Rattle.plan_core.specs.PlainPlan.{PlainPlan, leaves};
+ghost use Rattle.plan_core.specs.TypedRows.{AreOfStreams};
+ghost use Rattle.plan_laws.specs.ValidRows.{AreValidRows};
 ghost use Rattle.estimator.specs.Cuts.{Cuts};
 ghost use Rattle.rewrite_core.specs.IsRewriting.{IsRewriting, among};
 ghost use Rattle.rewrite_core.specs.PlainRewriting.{PlainRewriting};
@@ -21,7 +23,7 @@ ghost use Rattle.catalog_types.specs.declared.program.Program.{Program};
 ghost use Rattle.catalog_core.specs.Programs.{AreCuts};
 ghost use Rattle.catalog_core.specs.Table.{Table, Fits};
 ghost use Rattle.folder.specs.State.{State, IsValid, extent_of, empty_state, table, file_bytes};
-ghost use Rattle.folder.specs.State.{states_of, extents_in};
+ghost use Rattle.folder.specs.State.{states_of, kinds_in, extents_in, lists_in};
 ghost use Rattle.folder.specs.Files.{results_in, IsPieceIn, HoldsExtent, HoldsResult};
 ghost use Rattle.folder.specs.Replay.{ReadsAs, StopsReading};
 ghost use Rattle.folder.specs.Sound.{Care, IsSound};
@@ -117,3 +119,15 @@ pub fn files_of_states()
 {
     one_spelling();
 }
+
+/// The rows of a valid state have values in i64 and texts of at most 1,000 bytes, and at a cut that ends within
+/// the extents each leaf has a list of rows of its stream's kinds. The machine times of kept results are in 32
+/// bits.
+pub fn rows_of_states()
+    ensures valid { (s : State) → IsValid s → AllByRecursion (AllByRecursion AreValidRows)
+        (extents_in s.streams) }
+    ensures typed { (s : State) (plan : PlainPlan) (cuts : Cuts) → IsValid s
+        → AreCuts (states_of s.streams) (leaves plan) cuts
+        → AreOfStreams (kinds_in s.streams) (leaves plan) (lists_in s.streams plan cuts) }
+    ensures machines { (s : State) → IsValid s → (id : ℕ) → (results_in s id).machine ≤ 4294967295 }
+{}

@@ -1,5 +1,5 @@
 -- What a command leaves as it was.
-use Rattle.std.proofs.Common.{◌≡◌, ◌∙◌, ℕ, Ok, Err, Result, IfOk, IfErr, OnOk, OnErr, ◌⊎◌, refl, sym, subst, inl, inr}
+use Rattle.std.proofs.Common.{◌≡◌, ◌∙◌, ℕ, ◌+◌, Ok, Err, Result, IfOk, IfErr, OnOk, OnErr, ◌⊎◌, refl, sym, subst, inl, inr}
 use Rattle.outside_traits.specs.View.{View, Counts}
 use Rattle.outside_traits.specs.Runs.{Narrows, ChangesOnly}
 use Rattle.outside_traits.specs.declared.failed.Failed.{Failed}
@@ -19,6 +19,7 @@ use Rattle.folder.specs.declared.refusal.ReadRefusal.{ReadRefusal}
 use Rattle.folder.specs.declared.refusal.ReadRefusal.TheVariants as reading
 use Rattle.session.specs.declared.session.Session.{Session}
 use Rattle.session.specs.ReadEvents.{refusal_of}
+use Rattle.session.proofs.FileLemmas.{none_ahead}
 use Rattle.session.specs.Standing.{LeavesWhereRefused, IsWritten, WritesAtMost, folder_of}
 
 -- the answer is this one
