@@ -1,12 +1,10 @@
 -- Streams that grow: the rows at a cut that ends within their extents stay, and so do the kept results.
-use Rattle.std.proofs.Common.{◌≡◌, refl, sym, ap, ◌∙◌, subst, ℕ, zero, suc, ◌-◌, ◌≤◌, List, [], ◌∷◌, ◌++◌, length, map, take, drop, length-drop, append-nil, Option, None, Some, Result, Ok, IsOk, arith}
+use Rattle.std.proofs.Common.{◌≡◌, refl, sym, ap, ◌∙◌, subst, ℕ, zero, suc, ◌-◌, ◌≤◌, List, [], ◌∷◌, ◌++◌, length, map, take, drop, length-drop, Option, None, Some, Result, Ok, IsOk, arith}
 use Rattle.std.specs.Prelude.{slice_range, unwrap_or}
 use Rattle.std.specs.List.{Contains, AllByRecursion, flat_map}
-use Rattle.std.proofs.lemmas.List.{length-map, map-append, take-append-le}
+use Rattle.std.proofs.lemmas.List.{length-map, take-append-le}
 use Rattle.std.proofs.lemmas.List.Elements.{All-contains, All-from_recursion}
 use Rattle.rows_core.specs.declared.cut.Cut.{Cut}
-use Rattle.rows_core.specs.declared.schema.Column.{Column}
-use Rattle.rows_core.specs.Schema.{kinds_of}
 use Rattle.row_blob.specs.Kept.{IsKept}
 use Rattle.row_blob.specs.declared.kept.Kept.{Kept}
 use Rattle.row_blob.specs.declared.shape.Shape.{Shape}
@@ -15,20 +13,18 @@ use Rattle.plan_core.specs.Columns.{Rows}
 use Rattle.plan_core.specs.MachineTime.{machine_time}
 use Rattle.plan_core.specs.declared.refusal.PlanRefusal.{PlanRefusal}
 use Rattle.plan_core.specs.PlainPlan.{PlainPlan, Scan, Filter, Project, Distinct, Group, Join, Concat, Order, leaves}
-use Rattle.plan_core.specs.PlanTyping.{Kinds, plan_kinds, plan_typing, absent_stream, has_too_many, present_or, typed_or, group_kinds, join_kinds}
+use Rattle.plan_core.specs.PlanTyping.{Kinds, plan_kinds, plan_typing, absent_stream, present_or, typed_or, group_kinds, join_kinds}
 use Rattle.plan_canon.specs.PlanRules.{plan_step}
-use Rattle.plan_canon.proofs.Later.{kinds_still, step_still}
+use Rattle.plan_canon.proofs.Later.{kinds_still}
 use Rattle.plan_canon.proofs.SameValues.{then_some, both_some}
 use Rattle.plan_laws.specs.KeptForm.{kept_form}
 use Rattle.plan_laws.specs.PlanShape.{kinds_given, kind_at, acc_kind_of, plan_shape}
 use Rattle.estimator.specs.Cuts.{Cuts}
 use Rattle.growth_laws.specs.Lists.{extents_of, interval_rows, lists_at}
 use Rattle.catalog_types.specs.PlainEntry.{PlainEntry}
-use Rattle.catalog_types.specs.declared.extent.Extent as of_table
-use Rattle.catalog_types.specs.declared.snapshot.StreamState.{StreamState}
-use Rattle.catalog_core.specs.Programs.{extents_at, AreCuts, kinds_of_streams}
+use Rattle.catalog_core.specs.Programs.{extents_at, AreCuts}
 use Rattle.catalog_core.specs.Results.{IsOver}
-use Rattle.folder.specs.State.{Extent, Stream, State, IsEntryOf, IsResultIn, IsValid, extent_of, stream_of, states_of, kinds_in, rows_in, extents_in, lists_in}
+use Rattle.folder.specs.State.{Extent, Stream, State, IsEntryOf, IsValid, extent_of, states_of, kinds_in, extents_in, lists_in}
 
 -- ---- the rows at a cut
 

@@ -1,5 +1,5 @@
 -- The forms that the files of a state hold, and the kept results by their ids.
-use Rattle.std.proofs.Common.{◌≡◌, inl, inr, refl, sym, ap, ◌∙◌, subst, ℕ, zero, suc, ◌<◌, ◌==◌, nat_lt, ◌&&◌, Bool, true, false, cond, List, [], ◌∷◌, length, take, slice_get, Option, None, Some, Ok, unwrap_or, arith}
+use Rattle.std.proofs.Common.{◌≡◌, inl, inr, refl, sym, ap, ◌∙◌, subst, ℕ, zero, suc, ◌<◌, ◌==◌, nat_lt, Bool, true, false, cond, List, [], ◌∷◌, length, slice_get, Option, Some, Ok, unwrap_or, arith}
 use Rattle.std.specs.List.{Contains, AllByRecursion, find}
 use Rattle.std.specs.Option.{option_map}
 use Rattle.std.proofs.lemmas.List.{length-map}
@@ -13,8 +13,6 @@ use Rattle.row_blob.specs.declared.kept.Kept.{Kept}
 use Rattle.row_blob.specs.declared.kept.Kept.TheVariants as kept
 use Rattle.row_blob.specs.declared.shape.Shape.{Shape}
 use Rattle.row_blob.specs.declared.shape.Shape.TheVariants as shape
-use Rattle.extent_files.specs.Files.{digest_of}
-use Rattle.kept_files.specs.Reads.{Spells}
 use Rattle.plan_core.specs.PlainPlan.{Scan}
 use Rattle.plan_core.specs.PlanTyping.{Kinds}
 use Rattle.plan_laws.specs.KeptForm.{kept_form}
@@ -93,7 +91,7 @@ shape-there : (streams : List Stream) (stream : ℕ) (x : Stream) → slice_get 
 shape-there streams stream x is =
     let state : slice_get (states_of streams) stream ≡ Some (stream_of x) = slice_get-map stream_of streams stream ∙ ap (option_map stream_of) is in
     let kinds : slice_get (kinds_in streams) stream ≡ Some (kinds_of x.columns) =
-        slice_get-map (λ (y : StreamState). kinds_of y.columns) (states_of streams) stream ∙ ap (option_map (λ (y : StreamState). kinds_of y.columns)) state in
+    slice_get-map (λ (y : StreamState). kinds_of y.columns) (states_of streams) stream ∙ ap (option_map (λ (y : StreamState). kinds_of y.columns)) state in
     ap (λ (o : Option Kinds). shape.Rows (unwrap_or o [])) kinds
 
 got : {A : Type 0} (xs : List A) (n : ℕ) → n < length xs → (x : A) × (slice_get xs n ≡ Some x)

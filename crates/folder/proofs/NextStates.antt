@@ -1,7 +1,7 @@
 -- The states that follow from one by a new stream or new rows: their tables, their files, and that they are valid.
 use Rattle.std.proofs.Common.{◌≡◌, ◌⊎◌, inl, inr, ℕ, zero, suc, ◌+◌, ◌<◌, List, [], ◌∷◌, ◌++◌, length, map, slice_get, append-nil, Option, Some, IfSome, refl, sym, ap, ◌∙◌, subst, arith}
 use Rattle.std.proofs.lemmas.List.{map-append}
-use Rattle.std.specs.List.{Contains, AllByRecursion}
+use Rattle.std.specs.List.{Contains}
 use Rattle.std.proofs.lemmas.List.Elements.{Contains-push_cases}
 use Rattle.rows_core.specs.declared.file_ref.FileRef.{FileRef}
 use Rattle.rows_core.specs.declared.schema.Column.{Column}
@@ -15,7 +15,6 @@ use Rattle.catalog_types.specs.declared.change.Change.TheVariants as change
 use Rattle.catalog_types.specs.declared.extent.Extent as of_table
 use Rattle.catalog_types.specs.declared.program.Program.{Program}
 use Rattle.catalog_types.specs.declared.snapshot.StreamState.{StreamState}
-use Rattle.plan_core.specs.PlainPlan.{PlainPlan}
 use Rattle.plan_core.specs.PlanTyping.{Kinds}
 use Rattle.plan_canon.proofs.Later.{step_still}
 use Rattle.plan_canon.specs.PlanRules.{plan_step}
@@ -165,7 +164,7 @@ entry-stream xs name columns e is =
     let k = kinds-of-typed (kinds_in xs) e.plan is.1.over.typed in
     let kinds : kinds_in ys ≡ kinds_in xs ++ more = kinds-stream xs name columns in
     let over : IsOver (states_of xs ++ record { name = name; columns = columns; extents = [] } ∷ []) e.plan e.cuts =
-        (over-stream (states_of xs) (record { name = name; columns = columns; extents = [] }) (e ∷ []) (is.1.over, tt)).0 in
+    (over-stream (states_of xs) (record { name = name; columns = columns; extents = [] }) (e ∷ []) (is.1.over, tt)).0 in
     entry-stays xs ys (grow-stream xs name columns) e
     (ap (λ (ks : List Kinds). plan_step ks e.plan) kinds ∙ step_still (kinds_in xs) more e.plan k.0 k.1)
     (ap (λ (ks : List Kinds). plan_shape ks e.plan) kinds ∙ shape-still (kinds_in xs) more e.plan k.0 k.1)

@@ -1,5 +1,5 @@
 -- The pieces of a rewriting over a state's kept results, at a cut that ends within the extents.
-use Rattle.std.proofs.Common.{◌≡◌, inl, inr, refl, sym, ap, ◌∙◌, subst, ℕ, zero, suc, ◌≤◌, Bool, true, false, cond, List, [], ◌∷◌, ◌++◌, length, map, take, drop, arith}
+use Rattle.std.proofs.Common.{◌≡◌, inl, inr, refl, sym, ap, ◌∙◌, subst, ℕ, Bool, true, false, cond, List, [], ◌∷◌, ◌++◌, length, map, take, drop, arith}
 use Rattle.std.specs.List.{Contains, AllByRecursion, filter}
 use Rattle.std.proofs.lemmas.Bool.{false≢true}
 use Rattle.rows_core.specs.declared.cut.Cut.{Cut}
@@ -16,7 +16,7 @@ use Rattle.cache_index.specs.Asked.{entry, is_asked, asked}
 use Rattle.catalog_types.specs.PlainEntry.{PlainEntry}
 use Rattle.catalog_types.specs.declared.snapshot.StreamState.{StreamState}
 use Rattle.catalog_core.specs.Programs.{AreCuts, IsCut}
-use Rattle.folder.specs.State.{Stream, State, IsValid, states_of, extents_in}
+use Rattle.folder.specs.State.{State, IsValid, states_of}
 use Rattle.folder.specs.Files.{IsPieceIn}
 use Rattle.folder.proofs.GrownStreams.{as-long, entry-in}
 use Rattle.folder.proofs.NextStates.{Contains-cons_cases, Contains-first, Contains-behind}
@@ -212,28 +212,34 @@ module _ (s : State) (valid : IsValid s) (without : List ℕ) where
         (piece-of p q hit e hit_is.0, delta_pieces d of.0 of.1 of.2 of.3 of.4 of.5)
     way_pieces p (LeftGrew hit d r) q c e is within =
         let hit_is = named q hit is.0.candidate.kept in
-        let of = two_sides q is.1 in
-        (piece-of p q hit e hit_is.0, all-append (IsPieceIn s) (pieces_of_delta d) (pieces_of r)
-        (delta_pieces d of.0 (lefts of.0 hit.cuts) (lefts of.0 c) of.2.1 (left-in q of.0 of.1 hit.cuts of.3 hit_is.1) (left-in q of.0 of.1 c of.3 within))
-        (pieces_are r of.1 (rights of.0 c) of.2.2 (right-in q of.0 of.1 c of.3 within)))
+        let of = two_sides q is.1 in (
+          piece-of p q hit e hit_is.0,
+          all-append (IsPieceIn s) (pieces_of_delta d) (pieces_of r)
+              (delta_pieces d of.0 (lefts of.0 hit.cuts) (lefts of.0 c) of.2.1 (left-in q of.0 of.1 hit.cuts of.3 hit_is.1) (left-in q of.0 of.1 c of.3 within))
+              (pieces_are r of.1 (rights of.0 c) of.2.2 (right-in q of.0 of.1 c of.3 within)),
+        )
     way_pieces p (RightGrew hit l d) q c e is within =
         let hit_is = named q hit is.0.candidate.kept in
-        let of = two_sides q is.1 in
-        (piece-of p q hit e hit_is.0, all-append (IsPieceIn s) (pieces_of l) (pieces_of_delta d)
-        (pieces_are l of.0 (lefts of.0 c) of.2.1 (left-in q of.0 of.1 c of.3 within))
-        (delta_pieces d of.1 (rights of.0 hit.cuts) (rights of.0 c) of.2.2 (right-in q of.0 of.1 hit.cuts of.3 hit_is.1) (right-in q of.0 of.1 c of.3 within)))
+        let of = two_sides q is.1 in (
+          piece-of p q hit e hit_is.0,
+          all-append (IsPieceIn s) (pieces_of l) (pieces_of_delta d)
+              (pieces_are l of.0 (lefts of.0 c) of.2.1 (left-in q of.0 of.1 c of.3 within))
+              (delta_pieces d of.1 (rights of.0 hit.cuts) (rights of.0 c) of.2.2 (right-in q of.0 of.1 hit.cuts of.3 hit_is.1) (right-in q of.0 of.1 c of.3 within)),
+        )
     way_pieces p (BothGrew hit l rd ld r) q c e is within =
         let hit_is = named q hit is.0.candidate.kept in
         let of = two_sides q is.1 in
         let old_left = left-in q of.0 of.1 hit.cuts of.3 hit_is.1 in
         let old_right = right-in q of.0 of.1 hit.cuts of.3 hit_is.1 in
         let new_left = left-in q of.0 of.1 c of.3 within in
-        let new_right = right-in q of.0 of.1 c of.3 within in
-        (piece-of p q hit e hit_is.0, all-append (IsPieceIn s) (pieces_of l ++ pieces_of_delta rd ++ pieces_of_delta ld) (pieces_of r)
-        (all-append (IsPieceIn s) (pieces_of l ++ pieces_of_delta rd) (pieces_of_delta ld)
-        (all-append (IsPieceIn s) (pieces_of l) (pieces_of_delta rd) (pieces_are l of.0 (lefts of.0 hit.cuts) of.2.2 old_left)
-        (delta_pieces rd of.1 (rights of.0 hit.cuts) (rights of.0 c) of.2.3 old_right new_right))
-        (delta_pieces ld of.0 (lefts of.0 hit.cuts) (lefts of.0 c) of.2.4 old_left new_left)) (pieces_are r of.1 (rights of.0 c) of.2.5 new_right))
+        let new_right = right-in q of.0 of.1 c of.3 within in (
+          piece-of p q hit e hit_is.0,
+          all-append (IsPieceIn s) (pieces_of l ++ pieces_of_delta rd ++ pieces_of_delta ld) (pieces_of r)
+              (all-append (IsPieceIn s) (pieces_of l ++ pieces_of_delta rd) (pieces_of_delta ld)
+              (all-append (IsPieceIn s) (pieces_of l) (pieces_of_delta rd) (pieces_are l of.0 (lefts of.0 hit.cuts) of.2.2 old_left)
+              (delta_pieces rd of.1 (rights of.0 hit.cuts) (rights of.0 c) of.2.3 old_right new_right))
+              (delta_pieces ld of.0 (lefts of.0 hit.cuts) (lefts of.0 c) of.2.4 old_left new_left)) (pieces_are r of.1 (rights of.0 c) of.2.5 new_right),
+        )
 
     delta_pieces : (d : PlainDelta) (q : PlainPlan) (old new : Cuts) → IsDelta names q old new d → IsIn q old → IsIn q new → Are (pieces_of_delta d)
     delta_pieces (Change p o n way) q old new (e, f, g, is) a b =

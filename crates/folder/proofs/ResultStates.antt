@@ -1,8 +1,7 @@
 -- The states that follow from one by a piece of work or a collection: their files, and that they are valid.
-use Rattle.std.proofs.Common.{◌≡◌, ◌⊎◌, inl, inr, ℕ, zero, suc, ◌+◌, ◌<◌, ◌≤◌, List, [], ◌∷◌, ◌++◌, length, Option, Result, Ok, refl, sym, ap, ◌∙◌, subst, arith}
+use Rattle.std.proofs.Common.{◌≡◌, ◌⊎◌, inl, inr, ℕ, ◌+◌, ◌<◌, ◌≤◌, List, [], ◌∷◌, length, Option, Result, Ok, refl, sym, ap, ◌∙◌, subst, arith}
 use Rattle.std.specs.List.{Contains, AllByRecursion}
 use Rattle.outside_traits.specs.View.{View}
-use Rattle.rows_core.specs.declared.cut.Cut.{Cut}
 use Rattle.rows_core.specs.declared.file_ref.FileRef.{FileRef}
 use Rattle.row_blob.specs.Spelling.{kept_spelling}
 use Rattle.row_blob.specs.declared.kept.Kept.{Kept}
@@ -13,10 +12,10 @@ use Rattle.estimator.specs.Cuts.{Cuts}
 use Rattle.catalog_types.specs.PlainEntry.{PlainEntry, PlainNewEntry}
 use Rattle.catalog_types.specs.declared.change.Change.TheVariants as change
 use Rattle.catalog_types.specs.declared.program.Program.{Program}
-use Rattle.entry_table.specs.Ids.{without, is_among}
+use Rattle.entry_table.specs.Ids.{without}
 use Rattle.entry_table.specs.Keyed.{Digests, keys_of}
 use Rattle.entry_table.specs.Results.{HaveNextFiles}
-use Rattle.entry_table.specs.Work.{with_use, with_uses, new_entry, new_entries}
+use Rattle.entry_table.specs.Work.{with_uses, new_entry, new_entries}
 use Rattle.entry_table.proofs.Files.{files-fit}
 use Rattle.entry_table.proofs.Growth.{all-append, all-without, all-used}
 use Rattle.catalog_core.specs.Results.{digests_of}
@@ -157,7 +156,7 @@ module _ (v : View) (s : State) (valid : IsValid s) where
               let first : 0 < s.next_file = valid.first in
               let at_file : at.file ≡ new.new.file.file = ap (λ (r : FileRef). r.file) new.at_is in
               let between = all-at (λ (n : PlainNewEntry). (s.next_file ≤ n.file.file) × (n.file.file < s.next_file + length kept)) kept new.new
-                  (files-given s.next_file s.next_file (s.next_file + length kept) kept (omega arith) (omega arith) files) new.has in
+              (files-given s.next_file s.next_file (s.next_file + length kept) kept (omega arith) (omega arith) files) new.has in
               let low : s.next_file ≤ new.new.file.file = between.0 in
               let high : new.new.file.file < s.next_file + length kept = between.1 in
               (omega (arith, first, at_file, low), omega (arith, at_file, high))

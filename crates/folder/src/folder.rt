@@ -111,10 +111,15 @@ impl Folder {
         self.catalog.prepare(change)
     }
 
-    /// Writes the file that comes so many behind the next one, which no state names yet. Each crash leaves the
-    /// state as it was, and what any other file holds. `Failed` comes only where the store failed. It takes no
-    /// memory.
-    pub fn write_next<D: Store>(&self, store: &mut D, ahead: u64, bytes: &[u8]) -> Result<(), Failed>
+    /// Writes the file that comes so many behind the next one, which no state names yet. Each crash leaves
+    /// the state as it was, and what any other file holds. `Failed` comes only where the store failed. It
+    /// takes no memory.
+    pub fn write_next<D: Store>(
+        &self,
+        store: &mut D,
+        ahead: u64,
+        bytes: &[u8],
+    ) -> Result<(), Failed>
         requires { (table_in self.now).next_file + ahead < 2 ^ 32 }
         ensures stays { IsTrue D.tells → (care : Care) (s : State)
             → FolderMeans care (D.view store.old) self.now s

@@ -1,4 +1,4 @@
-//! Stores that are left, and states that follow.
+//! Stores that are left, states that follow, and what the files of a state hold.
 ghost use Rattle.std.specs.Prelude.{◌≡◌, ℕ, List, [], Option, length, ◌<◌, ◌≤◌};
 ghost use Rattle.outside_traits.specs.View.{View, Now, Only};
 ghost use Rattle.outside_traits.specs.Runs.{Narrows};
@@ -100,11 +100,11 @@ pub fn next_states<D: Store>()
         → with_work s program [] [] [] ≡ with_run s program }
 {}
 
-/// What the files hold that rewritings over the kept results of a state name, but for those whose ids are left
-/// out. Each piece of such a rewriting, at a cut that ends within the extents, is a kept result of the state
-/// with its plan, or extents of one stream that are there. Where the files are a state's, no form may be
-/// read of an extent's file but its rows, and none of a kept result's but that of its plan's result at its
-/// cut, whose machine time is kept beside it.
+/// What the files hold that rewritings over the kept results of a state name, but for those whose ids are
+/// left out. Each piece of such a rewriting, at a cut that ends within the extents, is a kept result of the
+/// state with its plan, or extents of one stream that are there. Where the files are a state's, no form may
+/// be read of an extent's file but its rows, and none of a kept result's but that of its plan's result at
+/// its cut, whose machine time is kept beside it.
 pub fn files_of_states()
     ensures kept { (s : State) (left_out : List ℕ) → IsValid s → AreKept (kept_with s.next_id s.entries)
         → AreResults (extents_in s.streams) (results_in s) (asked left_out s.entries) }
@@ -120,9 +120,9 @@ pub fn files_of_states()
     one_spelling();
 }
 
-/// The rows of a valid state have values in i64 and texts of at most 1,000 bytes, and at a cut that ends within
-/// the extents each leaf has a list of rows of its stream's kinds. The machine times of kept results are in 32
-/// bits.
+/// The rows of a valid state have values in i64 and texts of at most 1,000 bytes, and at a cut that ends
+/// within the extents each leaf has a list of rows of its stream's kinds. The machine times of kept results
+/// are in 32 bits.
 pub fn rows_of_states()
     ensures valid { (s : State) → IsValid s → AllByRecursion (AllByRecursion AreValidRows)
         (extents_in s.streams) }

@@ -24,7 +24,7 @@ returns-in-Ok-clause-ok g c = λ told care s a stands are change_is bytes_is.
     let fits = subst (λ x. Fits x (table s)) is (subst (λ (t : Table). Fits c.args.plan.recording.change t) same c.requires.record.fits) in
     let bytes = c.deref.ensures.value ∙ bytes_is ∙ file_is a.rows in
     let only = subst (λ n. Only (file_bytes a.rows) (Now (g.D.Store.view c.write_next.new.store) n)) (none_ahead (table_in (folder_of c.args.self)).next_file ∙ ap (λ (t : Table). t.next_file) same)
-        (subst (λ b. Only b (Now (g.D.Store.view c.write_next.new.store) ((table_in (folder_of c.args.self)).next_file + 0))) bytes (c.in-Ok.ensures.stable told)) in
+    (subst (λ b. Only b (Now (g.D.Store.view c.write_next.new.store) ((table_in (folder_of c.args.self)).next_file + 0))) bytes (c.in-Ok.ensures.stable told)) in
     let next = c.next_states.ensures.rows care c.write_next.new.store s a.place a.rows means.settled means.valid fits are only in
     records_behind care _ _ _ s (with_rows s a.place a.rows) (c.write_next.ensures.stays told care s stands.means) _
     (c.record.ensures.ok told care s _ stands' (subst (λ x. IsNext care (g.D.Store.view c.write_next.new.store) s x (with_rows s a.place a.rows)) (sym is) next))
@@ -38,7 +38,7 @@ returns-in-Ok-clause-err g c = λ told care s a stands are change_is bytes_is.
     let fits = subst (λ x. Fits x (table s)) is (subst (λ (t : Table). Fits c.args.plan.recording.change t) same c.requires.record.fits) in
     let bytes = c.deref.ensures.value ∙ bytes_is ∙ file_is a.rows in
     let only = subst (λ n. Only (file_bytes a.rows) (Now (g.D.Store.view c.write_next.new.store) n)) (none_ahead (table_in (folder_of c.args.self)).next_file ∙ ap (λ (t : Table). t.next_file) same)
-        (subst (λ b. Only b (Now (g.D.Store.view c.write_next.new.store) ((table_in (folder_of c.args.self)).next_file + 0))) bytes (c.in-Ok.ensures.stable told)) in
+    (subst (λ b. Only b (Now (g.D.Store.view c.write_next.new.store) ((table_in (folder_of c.args.self)).next_file + 0))) bytes (c.in-Ok.ensures.stable told)) in
     let next = c.next_states.ensures.rows care c.write_next.new.store s a.place a.rows means.settled means.valid fits are only in
     breaks_behind care _ _ _ s (with_rows s a.place a.rows) (c.write_next.ensures.stays told care s stands.means) _
     (c.record.ensures.err told care s _ stands' (subst (λ x. IsNext care (g.D.Store.view c.write_next.new.store) s x (with_rows s a.place a.rows)) (sym is) next))
