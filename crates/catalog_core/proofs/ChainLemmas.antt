@@ -33,8 +33,8 @@ pub chain-of-first : (start : Digest) (ds : List Digest) (count place : ℕ) (x 
 chain-of-first start ds count place x is = elim (cases_lt count (length ds)) [
   | inl less ↦ (let same : suc place ≡ count = omega (arith, is, less) in chain-there start ds place x (omega (arith, same, less)) ∙ ap (λ (n : ℕ). chain_of start (take n ds)) same)
   | inr most ↦ (
-    let same : suc place ≡ length ds = omega (arith, is, most) in
-    chain-there start ds place x (omega (arith, same)) ∙ ap (chain_of start) (take-all ds (suc place) (omega (arith, same)) ∙ sym (take-all ds count most)))
+      let same : suc place ≡ length ds = omega (arith, is, most) in
+      chain-there start ds place x (omega (arith, same)) ∙ ap (chain_of start) (take-all ds (suc place) (omega (arith, same)) ∙ sym (take-all ds count most)))
 ]
 
 pub chain-of-none : (start : Digest) (ds : List Digest) (count : ℕ) → min count (length ds) ≡ 0 → chain_of start (take count ds) ≡ start

@@ -8,13 +8,15 @@ ghost use Rattle.catalog_core.specs.Table.{table_with, extent_count};
 
 use crate::columns::are_schema;
 use crate::program::is_program;
-use crate::programs::{has_room_for, store_any};
+use crate::programs::{has_room_for, make_room_to_store, store_any};
 use crate::refusal::CatalogRefusal;
 use crate::results::{are_over, make_room_for_results};
 use crate::schemas::with_stream;
 use crate::snapshot::copy_streams;
 use crate::stream::CatalogStream;
-use catalog_types::{Change, Entry, Extent, NewEntry, Program, Snapshot, copy_entries, copy_programs};
+use catalog_types::{
+    Change, Entry, Extent, NewEntry, Program, Snapshot, copy_entries, copy_programs,
+};
 use entry_table::EntryTable;
 use indexmap::IndexSet;
 use plan_core::Schemas;
@@ -366,9 +368,7 @@ impl Catalog {
         ensures same { table_of self.new ≡ table_of self.old }
         ensures room { OnOk result (HasRoomForWork program.now kept.now self.new) }
     {
-        if program.is_some() {
-            self.programs.reserve(1)?;
-        }
+        make_room_to_store(&mut self.programs, program)?;
         make_room_for_results(self.streams.as_slice(), &mut self.kept, kept)
     }
 

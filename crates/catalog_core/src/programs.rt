@@ -1,12 +1,12 @@
 //! The programs in the byte order of their names.
 ghost use Rattle.std.specs.Prelude.{◌≡◌, ◌↔◌, ◌<◌, ◌≤◌, List, length, slice_get, IsTrue, Some};
-ghost use Rattle.std.specs.Prelude.{vec_len, vec_capacity, IfSome};
+ghost use Rattle.std.specs.Prelude.{vec_len, vec_capacity, IfSome, OnOk};
 ghost use Rattle.catalog_types.specs.declared.program.Program as plain;
 ghost use Rattle.catalog_core.specs.Programs.{AreByName, is_below, below, with_program};
 ghost use Rattle.catalog_core.specs.Table.{most_programs, with_stored};
 
 use catalog_types::Program;
-use rows_core::Name;
+use rows_core::{Memory, Name};
 
 /// The most programs.
 const MAX_PROGRAMS: usize = 1_024;
@@ -19,6 +19,21 @@ pub(crate) fn has_room_for(programs: &[Program], program: &Program) -> bool
 {
     let name = &program.name;
     programs.len() < MAX_PROGRAMS || has_name_at(programs, count_below(programs, name), name)
+}
+
+/// Takes the memory for one more program, if there is one to store. The programs stay.
+pub(crate) fn make_room_to_store(
+    programs: &mut Vec<Program>,
+    program: &Option<Program>,
+) -> Result<(), Memory>
+    ensures same { programs.new.items ≡ programs.old.items }
+    ensures room { OnOk result
+        (IfSome program.now (λ _. vec_len programs.new < vec_capacity programs.new)) }
+{
+    if program.is_some() {
+        programs.reserve(1)?;
+    }
+    Ok(())
 }
 
 /// Stores the program, if there is one. It takes no memory.

@@ -93,8 +93,7 @@ impl CatalogStream {
         ensures { state_of self.new ≡ with_extent extent (state_of self.old) }
     {
         let last = self.chain(self.extents.len());
-        self.chains
-            .push_reserved(chain(&last, &extent.file.digest));
+        self.chains.push_reserved(chain(&last, &extent.file.digest));
         self.extents.push_reserved(extent);
         self.rows += u64::from(extent.rows);
     }

@@ -21,7 +21,7 @@ pub invariant_of-self : goal.invariant_of-self
 invariant_of-self c =
     let t = c.args.self.now in
     let states = states_of t.streams.items in
-    let count : c.len-count.result ≡ length c.args.kept = c.len-count.ensures ∙ ap length c.items.ensures in
+    let count : length c.items.result.now ≡ length c.args.kept = ap length c.items.ensures in
     let worked = c.apply_work.ensures (digests_of states) c.requires.room.1.1 in
     record {
       named = t.named;
@@ -35,6 +35,6 @@ pub returns : goal.returns
 returns c =
     let t = c.args.self.now in
     let states = states_of t.streams.items in
-    let count : c.len-count.result ≡ length c.args.kept = c.len-count.ensures ∙ ap length c.items.ensures in
+    let count : length c.items.result.now ≡ length c.args.kept = ap length c.items.ensures in
     let worked = c.apply_work.ensures (digests_of states) c.requires.room.1.1 in
     λ i. table_with (t.tick + 1) (t.next_file + count i) (worked i).next_id states (c.store_any.ensures i) (worked i).entries
