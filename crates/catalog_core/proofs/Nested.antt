@@ -23,9 +23,9 @@ none-at P None e given = given
 none-at P (Some x) e given = absurd (cc)
 
 -- two facts of an answer, and one that holds anyway
-pub all-three : {A E : Type 0} {P Q R : Type 0} (r : Result A E) → P → OnOk r Q → OnOk r R → OnOk r (P × (Q × R))
-all-three (Ok x) p q r = (p, (q, r))
-all-three (Err e) p q r = tt
+pub all-three : {A E : Type 0} (P Q R : Type 0) (r : Result A E) → P → OnOk r Q → OnOk r R → OnOk r (P × (Q × R))
+all-three P Q R (Ok x) p q r = (p, (q, r))
+all-three P Q R (Err e) p q r = tt
 
 -- ---- tests that may be want of memory
 

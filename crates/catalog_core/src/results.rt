@@ -1,10 +1,11 @@
 //! Kept results over the streams.
 ghost use Rattle.std.specs.Prelude.{◌≡◌, ◌↔◌, IsTrue, IfOk, OnOk};
 ghost use Rattle.std.specs.List.{AllByRecursion};
+ghost use Rattle.plan_core.specs.PlainPlan.{plan_of};
 ghost use Rattle.plan_spelling.specs.Spelling.{HasPlanSpelling};
 ghost use Rattle.entry_table.specs.Tables.{kept_of, HasRoom, HasKeys};
 ghost use Rattle.catalog_core.specs.Programs.{kinds_of_streams};
-ghost use Rattle.catalog_core.specs.Results.{IsResultOver, digests_of};
+ghost use Rattle.catalog_core.specs.Results.{IsOver, IsResultOver, digests_of};
 ghost use Rattle.catalog_core.specs.Streams.{states_of};
 
 use crate::chains::StreamChains;
@@ -12,9 +13,9 @@ use crate::program::{are_cuts, typed_over};
 use crate::stream::CatalogStream;
 use catalog_types::NewEntry;
 use entry_table::EntryTable;
-use plan_core::Schemas;
+use plan_core::{Plan, Schemas};
 use plan_spelling::typed_plan_has_spelling;
-use rows_core::Memory;
+use rows_core::{Cut, Memory};
 use std::alloc::Global;
 
 /// Whether each of these results is of a plan that has a typing over the streams, and of one interval for
@@ -34,7 +35,7 @@ pub(crate) fn are_over(
     let [new, others @ ..] = kept else {
         return Ok(true);
     };
-    if is_over(alloc, streams, schemas, new)? {
+    if is_over(alloc, streams, schemas, &new.plan, new.cuts.items())? {
         are_over(alloc, streams, schemas, others)
     } else {
         Ok(false)
@@ -45,17 +46,19 @@ fn is_over(
     alloc: Global,
     streams: &[CatalogStream],
     schemas: &Schemas,
-    new: &NewEntry,
+    plan: &Plan,
+    cuts: &[Cut],
 ) -> Result<bool, Memory>
     requires { schemas.now.kinds ≡ kinds_of_streams (states_of streams.now) }
-    ensures over { IfOk result (λ is. IsTrue is ↔ IsResultOver (states_of streams.now) new.now) }
-    ensures spelled { IfOk result (λ is. IsTrue is → HasPlanSpelling new.now.plan) }
+    ensures over { IfOk result (λ is. IsTrue is
+        ↔ IsOver (states_of streams.now) (plan_of plan.now) cuts.now) }
+    ensures spelled { IfOk result (λ is. IsTrue is → HasPlanSpelling (plan_of plan.now)) }
 {
-    let plan = new.plan.try_copy(alloc)?;
-    match typed_over(alloc, schemas, plan) {
+    let copy = plan.try_copy(alloc)?;
+    match typed_over(alloc, schemas, copy) {
         Ok(Some(typed)) => {
             typed_plan_has_spelling(&typed);
-            Ok(are_cuts(streams, typed.leaves(), new.cuts.items()))
+            Ok(are_cuts(streams, typed.leaves(), cuts))
         }
         Ok(None) => Ok(false),
         Err(Memory) => Err(Memory),

@@ -15,26 +15,25 @@ returns-in-Ok-Some-clause-over c =
     let streams = states_of c.args.streams.now in
     let schemas = c.args.schemas.now.kinds in
     let typed : TypedPlan = c.in-Ok-Some.typed in
-    let plan = plan_of c.in_ok-plan.plan in
+    let plan = plan_of c.in_ok-copy.copy in
     let found = some-at (λ (t : TypedPlan). (t.plan ≡ plan) × (plan_typing schemas plan ≡ Ok t.kinds) × (t.leaves ≡ leaves plan)) c.in-Ok-Some.field-0 typed c.in-Ok-Some.field-0-is c.in-Ok-Some.ensures.found in
-    let same : plan ≡ c.args.new.now.plan = c.in_ok-plan.ensures in
-    over-decided streams schemas c.args.new.now.plan c.args.new.now.cuts typed.kinds typed.leaves c.are_cuts.result c.requires
+    let same : plan ≡ (plan_of c.args.plan.now) = c.in_ok-copy.ensures in
+    over-decided streams schemas (plan_of c.args.plan.now) c.args.cuts.now typed.kinds typed.leaves c.are_cuts.result c.requires
     (ap (plan_typing schemas) (sym same) ∙ found.1)
     (found.2 ∙ ap leaves same)
-    (subst (λ (cuts : List Cut). IsTrue c.are_cuts.result ↔ AreCuts streams typed.leaves cuts) c.items.ensures
-    (subst (λ (ns : List ℕ). IsTrue c.are_cuts.result ↔ AreCuts streams ns c.items.result.now) c.leaves.ensures.leaves c.are_cuts.ensures))
+    (subst (λ (ns : List ℕ). IsTrue c.are_cuts.result ↔ AreCuts streams ns c.args.cuts.now) c.leaves.ensures.leaves c.are_cuts.ensures)
 
 pub returns-in-Ok-Some-clause-spelled : goal.returns-in-Ok-Some-clause-spelled
 returns-in-Ok-Some-clause-spelled c =
     let schemas = c.args.schemas.now.kinds in
     let typed : TypedPlan = c.in-Ok-Some.typed in
-    let plan = plan_of c.in_ok-plan.plan in
+    let plan = plan_of c.in_ok-copy.copy in
     let found = some-at (λ (t : TypedPlan). (t.plan ≡ plan) × (plan_typing schemas plan ≡ Ok t.kinds) × (t.leaves ≡ leaves plan)) c.in-Ok-Some.field-0 typed c.in-Ok-Some.field-0-is c.in-Ok-Some.ensures.found in
-    λ _. subst HasPlanSpelling (found.0 ∙ c.in_ok-plan.ensures) c.typed_plan_has_spelling.ensures
+    λ _. subst HasPlanSpelling (found.0 ∙ c.in_ok-copy.ensures) c.typed_plan_has_spelling.ensures
 
 pub returns-in-Ok-None-clause-over : goal.returns-in-Ok-None-clause-over
 returns-in-Ok-None-clause-over c =
     let schemas = c.args.schemas.now.kinds in
-    let plan = plan_of c.in_ok-plan.plan in
-    not-over (states_of c.args.streams.now) schemas c.args.new.now.plan c.args.new.now.cuts c.requires
-    (λ kinds typed. none-at ((kinds : Kinds) → plan_typing schemas plan ≡ Ok kinds → ⊥) c.in-Ok-None.field-0 c.in-Ok-None.field-0-is c.in-Ok-None.ensures.none kinds (ap (plan_typing schemas) c.in_ok-plan.ensures ∙ typed))
+    let plan = plan_of c.in_ok-copy.copy in
+    not-over (states_of c.args.streams.now) schemas (plan_of c.args.plan.now) c.args.cuts.now c.requires
+    (λ kinds typed. none-at ((kinds : Kinds) → plan_typing schemas plan ≡ Ok kinds → ⊥) c.in-Ok-None.field-0 c.in-Ok-None.field-0-is c.in-Ok-None.ensures.none kinds (ap (plan_typing schemas) c.in_ok-copy.ensures ∙ typed))
