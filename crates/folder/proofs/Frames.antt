@@ -27,7 +27,7 @@ log_is_journal g = generation_is_high g
 pub no_journal_file : (n : ℕ) → 0 < n → n < 4294967296 → is_journal_file n ≡ false
 no_journal_file n low high = grind (arith, nat_tests)
 
--- a file that a state names is no log, and neither is the next one
+-- a file that a state names is no log, and neither are the next ones
 pub named_is_no_journal : (s : State) (at : FileRef) (bytes : List ℕ) → IsValid s → Names s at bytes → IsJournalFile at.file → ⊥
 named_is_no_journal s at bytes valid names is =
     let given = valid.given at bytes names in
@@ -36,14 +36,14 @@ named_is_no_journal s at bytes valid names is =
     let last : s.next_file ≤ 4294967296 = valid.last in
     both_ways (is_journal_file at.file) (no_journal_file at.file low (omega (arith, high, last))) is
 
-pub next_is_no_journal : (s : State) → IsValid s → s.next_file < 4294967296 → IsJournalFile s.next_file → ⊥
-next_is_no_journal s valid room is =
+pub later_is_no_journal : (s : State) (file : ℕ) → IsValid s → s.next_file ≤ file → file < 4294967296 → IsJournalFile file → ⊥
+later_is_no_journal s file valid later room is =
     let first : 0 < s.next_file = valid.first in
-    both_ways (is_journal_file s.next_file) (no_journal_file s.next_file first room) is
+    both_ways (is_journal_file file) (no_journal_file file (omega (arith, first, later)) room) is
 
--- a state doesn't name the next file
-pub next_is_not_named : (s : State) (at : FileRef) (bytes : List ℕ) → IsValid s → Names s at bytes → s.next_file ≢ at.file
-next_is_not_named s at bytes valid names is = let high : at.file < s.next_file = (valid.given at bytes names).1 in absurd (omega (arith, high, is))
+-- a state doesn't name the next files
+pub later_is_not_named : (s : State) (file : ℕ) (at : FileRef) (bytes : List ℕ) → IsValid s → s.next_file ≤ file → Names s at bytes → file ≢ at.file
+later_is_not_named s file at bytes valid later names is = let high : at.file < s.next_file = (valid.given at bytes names).1 in absurd (omega (arith, high, later, is))
 
 pub reads_same : (a b : ℕ → List ℕ) (t : Table) → ((g : ℕ) → IsJournalFile g → b g ≡ a g) → ReadsAs a t → ReadsAs b t
 reads_same a b t same reading = record {

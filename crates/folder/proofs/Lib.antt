@@ -4,7 +4,12 @@ pub mod Frames
 pub mod Crash
 pub mod Loading
 pub mod Narrowing
+pub mod GrownStreams
 pub mod NextStates
+pub mod ResultStates
+pub mod PieceLemmas
+pub mod HeldForms
+pub mod ValidLists
 pub mod Steps
 pub mod LoadLemmas
 pub mod Recording

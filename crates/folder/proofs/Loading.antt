@@ -5,6 +5,7 @@ use Rattle.outside_traits.specs.View.{View, IsImageAt}
 use Rattle.outside_traits.specs.Runs.{Spans}
 use Rattle.outside_traits.proofs.RunLemmas.{spans_wider, image_has}
 use Rattle.rows_core.specs.declared.file_ref.FileRef.{FileRef}
+use Rattle.catalog_types.specs.PlainEntry.{PlainEntry}
 use Rattle.catalog_types.specs.declared.change.Change.{Change}
 use Rattle.catalog_types.specs.declared.change.Change.TheVariants as change
 use Rattle.catalog_core.specs.Table.{Table, empty_table, after}
@@ -82,9 +83,14 @@ none_in : (x : Stream) (xs : List Stream) → map stream_of xs ≡ [] → Contai
 none_in x [] is has = absurd (omega (arith, has.1))
 none_in x (y ∷ ys) is has = absurd (cc)
 
+no_entry : (entries : List PlainEntry) (e : PlainEntry) → entries ≡ [] → Contains entries e → ⊥
+no_entry [] e is has = absurd (omega (arith, has.1))
+no_entry (x ∷ xs) e is has = absurd (cc)
+
 -- a state with the empty table names no file
 pub empty_names_none : (s : State) (at : FileRef) (bytes : List ℕ) → table s ≡ empty_table → Names s at bytes → ⊥
-empty_names_none s at bytes is names = none_in names.stream s.streams (ap (λ (t : Table). t.streams) is) names.has.0
+empty_names_none s at bytes is (inl names) = none_in names.stream s.streams (ap (λ (t : Table). t.streams) is) names.has.0
+empty_names_none s at bytes is (inr names) = no_entry s.entries names.entry (ap (λ (t : Table). t.entries) is) names.has
 
 module _ (care : Care) (u v : View) (a b : State) (left : IsLeft care u a b) (loading : Spans IsJournalFile (IsLoading u) u v) where
   loading_one : (image : ℕ → List ℕ) → IsLoading u image → IsSoundForOneOf care a b image

@@ -1,5 +1,5 @@
--- The states that follow from one: their tables, their files, and that they are valid.
-use Rattle.std.proofs.Common.{◌≡◌, ◌⊎◌, inl, inr, ℕ, zero, suc, ◌+◌, ◌<◌, List, [], ◌∷◌, length, map, slice_get, Option, Some, IfSome, refl, sym, ap, ◌∙◌, subst, arith}
+-- The states that follow from one by a new stream or new rows: their tables, their files, and that they are valid.
+use Rattle.std.proofs.Common.{◌≡◌, ◌⊎◌, inl, inr, ℕ, zero, suc, ◌+◌, ◌<◌, List, [], ◌∷◌, ◌++◌, length, map, slice_get, append-nil, Option, Some, IfSome, refl, sym, ap, ◌∙◌, subst, arith}
 use Rattle.std.proofs.lemmas.List.{map-append}
 use Rattle.std.specs.List.{Contains}
 use Rattle.std.proofs.lemmas.List.Elements.{Contains-push_cases}
@@ -10,30 +10,40 @@ use Rattle.rows_core.specs.Schema.{kinds_of}
 use Rattle.row_blob.specs.Kept.{IsKept}
 use Rattle.row_blob.specs.declared.kept.Kept.TheVariants as kept
 use Rattle.row_blob.specs.declared.shape.Shape.TheVariants as shape
+use Rattle.catalog_types.specs.PlainEntry.{PlainEntry, PlainNewEntry}
 use Rattle.catalog_types.specs.declared.change.Change.TheVariants as change
 use Rattle.catalog_types.specs.declared.extent.Extent as of_table
 use Rattle.catalog_types.specs.declared.program.Program.{Program}
 use Rattle.catalog_types.specs.declared.snapshot.StreamState.{StreamState}
+use Rattle.plan_core.specs.PlanTyping.{Kinds}
+use Rattle.plan_canon.proofs.Later.{step_still}
+use Rattle.plan_canon.specs.PlanRules.{plan_step}
+use Rattle.plan_laws.specs.PlanShape.{plan_shape}
+use Rattle.growth_laws.specs.Lists.{extents_of}
+use Rattle.entry_table.proofs.Growth.{all-map}
+use Rattle.catalog_core.specs.Programs.{kinds_of_streams}
+use Rattle.catalog_core.specs.Results.{IsOver}
 use Rattle.catalog_core.specs.Table.{updated, with_extent, after}
-use Rattle.catalog_core.proofs.IdleWork.{idle-after}
-use Rattle.folder.specs.State.{Extent, Stream, State, HasExtent, Names, IsValid, extent_of, stream_of, table, ref_of, file_bytes, empty_state}
-use Rattle.folder.specs.Next.{with_stream, with_rows, with_run, new_extent, grown, AreRowsOf}
+use Rattle.catalog_core.proofs.OverStreams.{over-stream, over-append, kinds-grown}
+use Rattle.folder.specs.State.{Extent, Stream, State, HasExtent, Names, IsEntryOf, IsValid, extent_of, stream_of, states_of, kinds_in, rows_in, extents_in, table, ref_of, file_bytes, empty_state}
+use Rattle.folder.specs.Next.{with_stream, with_rows, with_work, with_collection, new_extent, grown, AreRowsOf}
+use Rattle.folder.proofs.GrownStreams.{Grow, entry-stays, form-before, entry-in, kinds-of-typed, shape-still}
 
 -- ---- lists with one item changed
 
-map-updated : {A B : Type 0} (h : A → B) (f : A → A) (g : B → B) → ((x : A) → h (f x) ≡ g (h x)) → (xs : List A) (n : ℕ) → map h (updated f xs n) ≡ updated g (map h xs) n
+pub map-updated : {A B : Type 0} (h : A → B) (f : A → A) (g : B → B) → ((x : A) → h (f x) ≡ g (h x)) → (xs : List A) (n : ℕ) → map h (updated f xs n) ≡ updated g (map h xs) n
 map-updated h f g same [] n = refl
 map-updated h f g same (x ∷ xs) zero = ap (λ y. y ∷ map h xs) (same x)
 map-updated h f g same (x ∷ xs) (suc n) = ap (λ ys. h x ∷ ys) (map-updated h f g same xs n)
 
-Contains-cons_cases : {A : Type 0} (x : A) (xs : List A) (y : A) → Contains (x ∷ xs) y → (x ≡ y) ⊎ Contains xs y
+pub Contains-cons_cases : {A : Type 0} (x : A) (xs : List A) (y : A) → Contains (x ∷ xs) y → (x ≡ y) ⊎ Contains xs y
 Contains-cons_cases x xs y (zero, low, is) = inl is
 Contains-cons_cases x xs y (suc k, low, is) = inr (k, omega (arith, low), is)
 
-Contains-first : {A : Type 0} (x : A) (xs : List A) → Contains (x ∷ xs) x
+pub Contains-first : {A : Type 0} (x : A) (xs : List A) → Contains (x ∷ xs) x
 Contains-first x xs = (0, omega arith, refl)
 
-Contains-behind : {A : Type 0} (x : A) (xs : List A) (y : A) → Contains xs y → Contains (x ∷ xs) y
+pub Contains-behind : {A : Type 0} (x : A) (xs : List A) (y : A) → Contains xs y → Contains (x ∷ xs) y
 Contains-behind x xs y has = (suc has.0, (let low : has.0 < length xs = has.1 in omega (arith, low)), has.2)
 
 -- an item of the changed list is one of the list, or what the one at the place becomes
@@ -69,8 +79,12 @@ table-with_rows s place rows =
     ap (λ (streams : List StreamState). record { tick = s.tick + 1; next_file = s.next_file + 1; next_id = s.next_id; streams = streams; programs = s.programs; entries = s.entries })
     (map-updated stream_of (grown new) (with_extent (extent_of new)) (stream_of-grown new) s.streams place)
 
-pub table-with_run : (s : State) (program : Option Program) → table (with_run s program) ≡ after (change.Work program [] [] []) (table s)
-table-with_run s program = sym (idle-after program (table s))
+pub table-with_work : (s : State) (program : Option Program) (reads dropped : List ℕ) (kept : List PlainNewEntry)
+    → table (with_work s program reads dropped kept) ≡ after (change.Work program reads dropped kept) (table s)
+table-with_work s program reads dropped kept = refl
+
+pub table-with_collection : (s : State) (ids : List ℕ) → table (with_collection s ids) ≡ after (change.Collect ids) (table s)
+table-with_collection s ids = refl
 
 -- ---- extents
 
@@ -110,66 +124,122 @@ has-with_rows s place rows x e has =
       }
     ]
 
+-- ---- the streams grow
+
+pub grow-stream : (xs : List Stream) (name : List ℕ) (columns : List Column) → Grow xs (xs ++ record { name = name; columns = columns; extents = [] } ∷ [])
+grow-stream [] name columns zero = ([], refl)
+grow-stream [] name columns (suc leaf) = ([], refl)
+grow-stream (x ∷ xs) name columns zero = ([], sym (append-nil (rows_in x)))
+grow-stream (x ∷ xs) name columns (suc leaf) = grow-stream xs name columns leaf
+
+pub grow-rows : (e : Extent) (xs : List Stream) (place : ℕ) → Grow xs (updated (grown e) xs place)
+grow-rows e [] place leaf = ([], refl)
+grow-rows e (x ∷ xs) zero zero = (e.rows ∷ [], map-append (λ (e : Extent). e.rows) x.extents (e ∷ []))
+grow-rows e (x ∷ xs) zero (suc leaf) = ([], sym (append-nil (extents_of (extents_in xs) leaf)))
+grow-rows e (x ∷ xs) (suc n) zero = ([], sym (append-nil (rows_in x)))
+grow-rows e (x ∷ xs) (suc n) (suc leaf) = grow-rows e xs n leaf
+
+states-stream : (xs : List Stream) (name : List ℕ) (columns : List Column)
+    → states_of (xs ++ record { name = name; columns = columns; extents = [] } ∷ []) ≡ states_of xs ++ record { name = name; columns = columns; extents = [] } ∷ []
+states-stream xs name columns = map-append stream_of xs (record { name = name; columns = columns; extents = [] } ∷ [])
+
+kinds-stream : (xs : List Stream) (name : List ℕ) (columns : List Column)
+    → kinds_in (xs ++ record { name = name; columns = columns; extents = [] } ∷ []) ≡ kinds_in xs ++ kinds_of columns ∷ []
+kinds-stream xs name columns =
+    ap kinds_of_streams (states-stream xs name columns)
+    ∙ map-append (λ (x : StreamState). kinds_of x.columns) (states_of xs) (record { name = name; columns = columns; extents = [] } ∷ [])
+
+states-rows : (e : Extent) (xs : List Stream) (place : ℕ) → states_of (updated (grown e) xs place) ≡ updated (with_extent (extent_of e)) (states_of xs) place
+states-rows e xs place = map-updated stream_of (grown e) (with_extent (extent_of e)) (stream_of-grown e) xs place
+
+kinds-rows : (e : Extent) (xs : List Stream) (place : ℕ) → kinds_in (updated (grown e) xs place) ≡ kinds_in xs
+kinds-rows e xs place = ap kinds_of_streams (states-rows e xs place) ∙ kinds-grown (states_of xs) place (extent_of e)
+
+-- ---- the kept results stay
+
+entry-stream : (xs : List Stream) (name : List ℕ) (columns : List Column) (e : PlainEntry) → IsEntryOf xs e → IsEntryOf (xs ++ record { name = name; columns = columns; extents = [] } ∷ []) e
+entry-stream xs name columns e is =
+    let ys : List Stream = xs ++ record { name = name; columns = columns; extents = [] } ∷ [] in
+    let more : List Kinds = kinds_of columns ∷ [] in
+    let k = kinds-of-typed (kinds_in xs) e.plan is.1.over.typed in
+    let kinds : kinds_in ys ≡ kinds_in xs ++ more = kinds-stream xs name columns in
+    let over : IsOver (states_of xs ++ record { name = name; columns = columns; extents = [] } ∷ []) e.plan e.cuts =
+    (over-stream (states_of xs) (record { name = name; columns = columns; extents = [] }) (e ∷ []) (is.1.over, tt)).0 in
+    entry-stays xs ys (grow-stream xs name columns) e
+    (ap (λ (ks : List Kinds). plan_step ks e.plan) kinds ∙ step_still (kinds_in xs) more e.plan k.0 k.1)
+    (ap (λ (ks : List Kinds). plan_shape ks e.plan) kinds ∙ shape-still (kinds_in xs) more e.plan k.0 k.1)
+    (subst (λ (l : List StreamState). IsOver l e.plan e.cuts) (sym (states-stream xs name columns)) over) is
+
+entry-rows : (new : Extent) (xs : List Stream) (place : ℕ) (e : PlainEntry) → IsEntryOf xs e → IsEntryOf (updated (grown new) xs place) e
+entry-rows new xs place e is =
+    let ys : List Stream = updated (grown new) xs place in
+    let kinds : kinds_in ys ≡ kinds_in xs = kinds-rows new xs place in
+    let over : IsOver (updated (with_extent (extent_of new)) (states_of xs) place) e.plan e.cuts = (over-append (states_of xs) place (extent_of new) (e ∷ []) (is.1.over, tt)).0 in
+    entry-stays xs ys (grow-rows new xs place) e (ap (λ (ks : List Kinds). plan_step ks e.plan) kinds) (ap (λ (ks : List Kinds). plan_shape ks e.plan) kinds)
+    (subst (λ (l : List StreamState). IsOver l e.plan e.cuts) (sym (states-rows new xs place)) over) is
+
 -- ---- the files that they name
 
-pub names-with_stream : (s : State) (name : List ℕ) (columns : List Column) (at : FileRef) (bytes : List ℕ) → Names (with_stream s name columns) at bytes → Names s at bytes
-names-with_stream s name columns at bytes names = record {
+pub names-with_stream : (s : State) (name : List ℕ) (columns : List Column) → IsValid s → (at : FileRef) (bytes : List ℕ) → Names (with_stream s name columns) at bytes → Names s at bytes
+names-with_stream s name columns valid at bytes (inl names) = inl (record {
   stream = names.stream;
   extent = names.extent;
   has = has-with_stream s name columns names.stream names.extent names.has;
   at_is = names.at_is;
   bytes_are = names.bytes_are;
-}
-
-pub names-with_run : (s : State) (program : Option Program) (at : FileRef) (bytes : List ℕ) → Names (with_run s program) at bytes → Names s at bytes
-names-with_run s program at bytes names = record {
-  stream = names.stream;
-  extent = names.extent;
+})
+names-with_stream s name columns valid at bytes (inr names) = inr (record {
+  entry = names.entry;
   has = names.has;
+  form = names.form;
+  form_is = form-before s.streams (with_stream s name columns).streams (grow-stream s.streams name columns) names.entry names.form (entry-in s names.entry valid names.has).1.over names.form_is;
   at_is = names.at_is;
   bytes_are = names.bytes_are;
-}
+})
 
 -- appending names one file more: the next one, for the rows
-pub names-with_rows : (s : State) (place : ℕ) (rows : List (List Value)) (at : FileRef) (bytes : List ℕ) → Names (with_rows s place rows) at bytes
+pub names-with_rows : (s : State) (place : ℕ) (rows : List (List Value)) → IsValid s → (at : FileRef) (bytes : List ℕ) → Names (with_rows s place rows) at bytes
     → Names s at bytes ⊎ ((at ≡ ref_of s.next_file (file_bytes rows)) × (bytes ≡ file_bytes rows))
-names-with_rows s place rows at bytes names =
+names-with_rows s place rows valid at bytes (inl names) =
     let from = has-with_rows s place rows names.stream names.extent names.has in
     elim from.case [
-      | inl had ↦ inl (record { stream = from.stream; extent = names.extent; has = had; at_is = names.at_is; bytes_are = names.bytes_are })
+      | inl had ↦ inl (inl (record { stream = from.stream; extent = names.extent; has = had; at_is = names.at_is; bytes_are = names.bytes_are }))
       | inr new ↦ inr (names.at_is ∙ ap (λ (e : Extent). e.file) (sym new.1), names.bytes_are ∙ ap (λ (e : Extent). file_bytes e.rows) (sym new.1))
     ]
+names-with_rows s place rows valid at bytes (inr names) = inl (inr (record {
+  entry = names.entry;
+  has = names.has;
+  form = names.form;
+  form_is = form-before s.streams (with_rows s place rows).streams (grow-rows (new_extent s.next_file rows) s.streams place) names.entry names.form
+      (entry-in s names.entry valid names.has).1.over names.form_is;
+  at_is = names.at_is;
+  bytes_are = names.bytes_are;
+}))
 
 -- ---- they are valid
 
+empty_names : (at : FileRef) (bytes : List ℕ) → Names empty_state at bytes → ⊥
+empty_names at bytes (inl names) = omega (arith, names.has.0.1)
+empty_names at bytes (inr names) = omega (arith, names.has.1)
+
 pub valid-empty : IsValid empty_state
 valid-empty = record {
-  refs = λ at bytes names. absurd (omega (arith, names.has.0.1));
-  given = λ at bytes names. absurd (omega (arith, names.has.0.1));
+  refs = λ at bytes names. absurd (empty_names at bytes names);
+  given = λ at bytes names. absurd (empty_names at bytes names);
   rows = λ x e has. absurd (omega (arith, has.0.1));
+  results = tt;
   first = omega arith;
   last = omega arith;
-  no_entries = refl;
 }
 
 pub valid-with_stream : (s : State) (name : List ℕ) (columns : List Column) → IsValid s → IsValid (with_stream s name columns)
 valid-with_stream s name columns valid = record {
-  refs = λ at bytes names. valid.refs at bytes (names-with_stream s name columns at bytes names);
-  given = λ at bytes names. valid.given at bytes (names-with_stream s name columns at bytes names);
+  refs = λ at bytes names. valid.refs at bytes (names-with_stream s name columns valid at bytes names);
+  given = λ at bytes names. valid.given at bytes (names-with_stream s name columns valid at bytes names);
   rows = λ x e has. valid.rows x e (has-with_stream s name columns x e has);
+  results = all-map (IsEntryOf s.streams) (IsEntryOf (with_stream s name columns).streams) (entry-stream s.streams name columns) s.entries valid.results;
   first = valid.first;
   last = valid.last;
-  no_entries = valid.no_entries;
-}
-
-pub valid-with_run : (s : State) (program : Option Program) → IsValid s → IsValid (with_run s program)
-valid-with_run s program valid = record {
-  refs = λ at bytes names. valid.refs at bytes (names-with_run s program at bytes names);
-  given = λ at bytes names. valid.given at bytes (names-with_run s program at bytes names);
-  rows = λ x e has. valid.rows x e has;
-  first = valid.first;
-  last = valid.last;
-  no_entries = valid.no_entries;
 }
 
 some_of : {A : Type 0} (P : A → Type 0) (o : Option A) (x : A) → o ≡ Some x → IfSome o P → P x
@@ -177,11 +247,11 @@ some_of P o x is has = let at : IfSome (Some x) P = subst (λ (p : Option _). If
 
 pub valid-with_rows : (s : State) (place : ℕ) (rows : List (List Value)) → s.next_file < 4294967296 → AreRowsOf s place rows → IsValid s → IsValid (with_rows s place rows)
 valid-with_rows s place rows room typed valid = record {
-  refs = λ at bytes names. elim (names-with_rows s place rows at bytes names) [
+  refs = λ at bytes names. elim (names-with_rows s place rows valid at bytes names) [
     | inl old ↦ valid.refs at bytes old
     | inr new ↦ subst (λ (r : FileRef). r ≡ ref_of r.file bytes) (sym new.0) (ap (ref_of s.next_file) (sym new.1))
   ];
-  given = λ at bytes names. elim (names-with_rows s place rows at bytes names) [
+  given = λ at bytes names. elim (names-with_rows s place rows valid at bytes names) [
     | inl old ↦
         let before = valid.given at bytes old in
         let high : at.file < s.next_file = before.1 in
@@ -199,7 +269,7 @@ valid-with_rows s place rows room typed valid = record {
         | inl had ↦ valid.rows from.stream e had
         | inr new ↦ subst (λ (y : Extent). P from.stream.columns y.rows) new.1 (some_of (λ (y : Stream). P y.columns rows) (slice_get s.streams place) from.stream new.0 typed)
       ]);
+  results = all-map (IsEntryOf s.streams) (IsEntryOf (with_rows s place rows).streams) (entry-rows (new_extent s.next_file rows) s.streams place) s.entries valid.results;
   first = omega (arith, valid.first);
   last = omega (arith, room);
-  no_entries = valid.no_entries;
 }

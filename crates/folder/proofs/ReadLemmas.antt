@@ -1,5 +1,5 @@
 -- What a checked read of a state's extent gives.
-use Rattle.std.proofs.Common.{◌≡◌, ℕ, List, take, refl, sym, ap, ◌∙◌, subst}
+use Rattle.std.proofs.Common.{◌≡◌, inl, ℕ, List, take, refl, sym, ap, ◌∙◌, subst}
 use Rattle.rows_core.specs.declared.file_ref.FileRef.{FileRef}
 use Rattle.rows_core.specs.declared.schema.Column.{Column}
 use Rattle.rows_core.specs.declared.value.Value.{Value}
@@ -14,13 +14,13 @@ use Rattle.folder.specs.Sound.{Care, Shown, Whole, Holds}
 use Rattle.folder.specs.Reads.{HaveRows, SpellRows}
 
 -- bytes of the kept digest, read of a file that holds its bytes, are these
-holds_read : (care : Care) (at : FileRef) (bytes file read : List ℕ) → Holds care at bytes file → read ≡ take at.len file → digest_of read ≡ at.digest → read ≡ bytes
+pub holds_read : (care : Care) (at : FileRef) (bytes file read : List ℕ) → Holds care at bytes file → read ≡ take at.len file → digest_of read ≡ at.digest → read ≡ bytes
 holds_read Whole at bytes file read holds is digest = is ∙ holds
 holds_read Shown at bytes file read holds is digest = is ∙ holds (ap digest_of (sym is) ∙ digest)
 
 module _ (care : Care) (files : ℕ → List ℕ) (columns : List Column) (at : of_table.Extent) (rows : List (List Value)) (have : HaveRows care files columns at rows) where
   names : Names have.state have.extent.file (file_bytes have.extent.rows)
-  names = record { stream = have.stream; extent = have.extent; has = have.has; at_is = refl; bytes_are = refl }
+  names = inl (record { stream = have.stream; extent = have.extent; has = have.has; at_is = refl; bytes_are = refl })
 
   file_is : at.file ≡ have.extent.file
   file_is = ap (λ (e : of_table.Extent). e.file) have.at_is

@@ -177,7 +177,7 @@ pub extent_taken : (care : Care) (u v : View) (s : State) (x : Stream) (e : Exte
     → rows ≡ e.rows → CountsTaken (length (file_bytes rows)) old new → CountsRead e.file.len old new
 extent_taken care u v s x e rows old new narrow left has same taken =
     let valid = (left_narrowed u v narrow care s s left).read.valid in
-    let len = ap (λ (r : FileRef). r.len) (valid.refs e.file (file_bytes e.rows) (record { stream = x; extent = e; has = has; at_is = refl; bytes_are = refl })) in
+    let len = ap (λ (r : FileRef). r.len) (valid.refs e.file (file_bytes e.rows) (inl (record { stream = x; extent = e; has = has; at_is = refl; bytes_are = refl }))) in
     inl (subst (λ n. CountsTaken n old new) (ap (λ l. length (file_bytes l)) same ∙ sym len) taken)
 
 -- what is whole shows no damage
@@ -194,9 +194,9 @@ pub extent_event : (care : Care) (s : State) (x : Stream) (e : Extent) (at : of_
 extent_event care s x e at old new Fault has is cause readable undamaged = tt
 extent_event care s x e at old new (Damaged file kept found) has is cause readable undamaged = record {
   may = shown_of care (λ whole. undamaged whole file kept found refl);
-  stream = x;
-  extent = e;
-  has = has;
+  at = e.file;
+  bytes = file_bytes e.rows;
+  names = inl (record { stream = x; extent = e; has = has; at_is = refl; bytes_are = refl });
   file_is = cause.0 ∙ ap (λ (a : of_table.Extent). a.file.file) is;
   kept_is = cause.1 ∙ ap (λ (a : of_table.Extent). a.file.digest) is;
   differs = λ same. cause.2 (same ∙ cause.1);

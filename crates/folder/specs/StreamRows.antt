@@ -4,12 +4,13 @@ use Rattle.std.specs.List.{Contains, flat_map}
 use Rattle.std.specs.Option.{option_map}
 use Rattle.std.specs.declared.alloc.Global.{Global}
 use Rattle.rows_core.specs.declared.file_ref.Digest.{Digest}
+use Rattle.rows_core.specs.declared.file_ref.FileRef.{FileRef}
 use Rattle.rows_core.specs.declared.value.Value.{Value}
 use Rattle.outside_traits.specs.Counts.{Rose}
 use Rattle.outside_traits.specs.View.{Counts}
 use Rattle.outside_traits.specs.Calls.{CountsTaken}
 use Rattle.catalog_types.specs.declared.snapshot.StreamState.{StreamState}
-use Rattle.folder.specs.State.{State, Stream, Extent, HasExtent, stream_of}
+use Rattle.folder.specs.State.{State, Stream, Names, stream_of}
 use Rattle.folder.specs.Sound.{Care, Shown}
 use Rattle.folder.specs.declared.refusal.ReadRefusal.{ReadRefusal}
 use Rattle.folder.specs.declared.refusal.ReadRefusal.TheVariants.{Fault, Damaged, Unreadable, Memory}
@@ -41,11 +42,11 @@ joined lists = flat_map (λ rows. rows) lists.items
 -- a file of the state shows damage: its bytes have another digest than the kept one; files that hold their bytes show none
 pub record ShowsDamage (care : Care) (s : State) (file : ℕ) (kept found : Digest) : Type 0 where
   pub may : care ≡ Shown
-  pub stream : Stream
-  pub extent : Extent
-  pub has : HasExtent s stream extent
-  pub file_is : file ≡ extent.file.file
-  pub kept_is : kept ≡ extent.file.digest
+  pub at : FileRef
+  pub bytes : List ℕ
+  pub names : Names s at bytes
+  pub file_is : file ≡ at.file
+  pub kept_is : kept ≡ at.digest
   pub differs : found ≢ kept
 
 -- what may end the reading of files of this state: never unreadable bytes, and damage only where files may show it

@@ -1,5 +1,5 @@
 //! Folders in a store.
-ghost use Rattle.std.specs.Prelude.{◌≡◌, ◌⊎◌, ℕ, ◌+◌, ◌*◌, ◌^◌, ◌<◌, ◌≤◌, true, false, List, length};
+ghost use Rattle.std.specs.Prelude.{◌≡◌, ◌≢◌, ◌⊎◌, ℕ, ◌+◌, ◌*◌, ◌^◌, ◌<◌, ◌≤◌, true, false, List, length};
 ghost use Rattle.std.specs.Prelude.{IsTrue, IsOk, IfOk, OnOk, OnErr, IsErrOf};
 ghost use Rattle.outside_traits.specs.Counts.{Rose};
 ghost use Rattle.outside_traits.specs.View.{View, Counts, Now, Only};
@@ -111,10 +111,16 @@ impl Folder {
         self.catalog.prepare(change)
     }
 
-    /// Writes the next file, which no state names yet. Each crash leaves the state as it was. `Failed` comes
-    /// only where the store failed. It takes no memory.
-    pub fn write_extent<D: Store>(&self, store: &mut D, bytes: &[u8]) -> Result<(), Failed>
-        requires { (table_in self.now).next_file < 2 ^ 32 }
+    /// Writes the file that comes so many behind the next one, which no state names yet. Each crash leaves
+    /// the state as it was, and what any other file holds. `Failed` comes only where the store failed. It
+    /// takes no memory.
+    pub fn write_next<D: Store>(
+        &self,
+        store: &mut D,
+        ahead: u64,
+        bytes: &[u8],
+    ) -> Result<(), Failed>
+        requires { (table_in self.now).next_file + ahead < 2 ^ 32 }
         ensures stays { IsTrue D.tells → (care : Care) (s : State)
             → FolderMeans care (D.view store.old) self.now s
             → StaysSound care s (D.view store.old) (D.view store.new) }
@@ -123,13 +129,16 @@ impl Folder {
             → FolderMeans care (D.view store.new) self.now s }
         ensures stands { FolderStands (D.view store.old) self.now → FolderStands (D.view store.new) self.now }
         ensures stable { IsTrue D.tells → OnOk result
-            (Only bytes.now (Now (D.view store.new) (table_in self.now).next_file)) }
-        ensures alone { ChangesOnly (table_in self.now).next_file (D.view store.old) (D.view store.new) }
+            (Only bytes.now (Now (D.view store.new) ((table_in self.now).next_file + ahead))) }
+        ensures others { (file : ℕ) (held : List ℕ) → file ≢ (table_in self.now).next_file + ahead
+            → Only held (Now (D.view store.old) file) → Only held (Now (D.view store.new) file) }
+        ensures alone { ChangesOnly ((table_in self.now).next_file + ahead)
+            (D.view store.old) (D.view store.new) }
         ensures cause { OnErr result (Rose (D.counts store.old).writes (D.counts store.new).writes) }
         ensures no_fault { OnOk result ((D.counts store.new).writes ≡ (D.counts store.old).writes) }
         ensures counts { MayRaiseWrites (D.counts store.old) (D.counts store.new) }
     {
-        let file = self.catalog.next_file();
+        let file = self.catalog.next_file() + ahead;
         match write_file(store, file, bytes) {
             Ok(_) => Ok(()),
             Err(Failed) => Err(Failed),

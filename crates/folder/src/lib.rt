@@ -9,7 +9,7 @@ pub mod replay;
 pub mod streams;
 
 pub use folder::Folder;
-pub use laws::{left_stores, next_states, one_table};
+pub use laws::{files_of_states, left_stores, next_states, one_table, rows_of_states};
 pub use reading::read_extent;
 pub use refusal::{LoadRefusal, ReadRefusal};
 pub use streams::read_streams;

@@ -1,5 +1,5 @@
 -- The file of an append.
-use Rattle.std.proofs.Common.{◌≡◌, ◌<◌, ◌^◌, ℕ, List, refl, ap, subst, length, arith}
+use Rattle.std.proofs.Common.{◌≡◌, ◌+◌, ◌<◌, ◌^◌, ℕ, List, refl, ap, subst, length, arith}
 use Rattle.rows_core.specs.declared.file_ref.FileRef.{FileRef}
 use Rattle.rows_core.specs.declared.value.Value.{Value}
 use Rattle.catalog_types.specs.declared.change.Change.{Change}
@@ -19,8 +19,11 @@ file_is rows = refl
 pub change_of : (s : State) (a : Append) → append_change (table s) a ≡ change.Append a.place (extent_of (new_extent s.next_file a.rows))
 change_of s a = ap (λ b. change.Append a.place (record { file = folder.ref_of s.next_file b; rows = length a.rows })) (file_is a.rows)
 
--- the next file has a number in 32 bits
-pub next_number : (t : Table) (c : Change) (a : Append) → c ≡ append_change t a → Fits c t → t.next_file < 2 ^ 32
+-- the file of an append is none ahead of the next one, and that has a number in 32 bits
+pub none_ahead : (n : ℕ) → n + 0 ≡ n
+none_ahead n = omega arith
+
+pub next_number : (t : Table) (c : Change) (a : Append) → c ≡ append_change t a → Fits c t → t.next_file + 0 < 2 ^ 32
 next_number t c a is fits =
     let one = (subst (λ x. Fits x t) is fits).is_next.numbered in
     omega (arith, one)

@@ -1,5 +1,5 @@
 -- What a command leaves as it was.
-use Rattle.std.proofs.Common.{◌≡◌, ◌∙◌, ℕ, Ok, Err, Result, IfOk, IfErr, OnOk, OnErr, ◌⊎◌, refl, sym, subst, inl, inr}
+use Rattle.std.proofs.Common.{◌≡◌, ◌∙◌, ℕ, ◌+◌, Ok, Err, Result, IfOk, IfErr, OnOk, OnErr, ◌⊎◌, refl, sym, subst, inl, inr}
 use Rattle.outside_traits.specs.View.{View, Counts}
 use Rattle.outside_traits.specs.Runs.{Narrows, ChangesOnly}
 use Rattle.outside_traits.specs.declared.failed.Failed.{Failed}
@@ -19,6 +19,7 @@ use Rattle.folder.specs.declared.refusal.ReadRefusal.{ReadRefusal}
 use Rattle.folder.specs.declared.refusal.ReadRefusal.TheVariants as reading
 use Rattle.session.specs.declared.session.Session.{Session}
 use Rattle.session.specs.ReadEvents.{refusal_of}
+use Rattle.session.proofs.FileLemmas.{none_ahead}
 use Rattle.session.specs.Standing.{LeavesWhereRefused, IsWritten, WritesAtMost, folder_of}
 
 -- the answer is this one
@@ -58,8 +59,8 @@ module _ (folder : Folder) where
   pub writes_log : (u v : View) → ChangesOnly (generation_file (generation_of (journal_of folder))) u v → WritesAtMost folder u v
   writes_log u v run = spans_of (generation_file (generation_of (journal_of folder))) (λ x. Unit {0}) (IsWritten folder) (λ image. Unit {0}) u v run (inl refl) (λ image here others. tt)
 
-  pub writes_file : (u v : View) → ChangesOnly (table_in folder).next_file u v → WritesAtMost folder u v
-  writes_file u v run = spans_of (table_in folder).next_file (λ x. Unit {0}) (IsWritten folder) (λ image. Unit {0}) u v run (inr refl) (λ image here others. tt)
+  pub writes_file : (u v : View) → ChangesOnly ((table_in folder).next_file + 0) u v → WritesAtMost folder u v
+  writes_file u v run = spans_of ((table_in folder).next_file + 0) (λ x. Unit {0}) (IsWritten folder) (λ image. Unit {0}) u v run (inr (none_ahead (table_in folder).next_file)) (λ image here others. tt)
 
 -- a session that is the same but for the memory that it has taken
 pub writes_prepared : (u v : View) (session session' : Session) → table_in (folder_of session') ≡ table_in (folder_of session) → journal_of (folder_of session') ≡ journal_of (folder_of session)

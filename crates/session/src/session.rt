@@ -381,7 +381,7 @@ impl Session {
     {
         next_states::<D>();
         left_stores::<D>();
-        match self.folder.write_extent(store, &plan.bytes) {
+        match self.folder.write_next(store, 0, &plan.bytes) {
             Ok(()) => self.record(store, plan.recording, Answer::Held(plan.held)),
             Err(Failed) => Err(Failed),
         }
