@@ -6,4 +6,3 @@ pub mod Sources
 pub mod Loads
 pub mod Running
 pub mod Outcomes
-pub mod Runs
