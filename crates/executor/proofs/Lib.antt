@@ -1,9 +1,12 @@
 pub mod Begun
+pub mod Ended
 pub mod ExtentRows
 pub mod FileBounds
 pub mod FileForms
 pub mod Joined
+pub mod KeptAt
 pub mod Lengths
+pub mod MadeResults
 pub mod NextParts
 pub mod PartSteps
 pub mod PieceCuts
@@ -12,5 +15,6 @@ pub mod ReadParts
 pub mod RestSteps
 pub mod RestEnds
 pub mod RestShapes
+pub mod RunEnds
 pub mod StreamTypes
 pub mod Updates

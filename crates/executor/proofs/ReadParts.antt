@@ -1,5 +1,6 @@
 -- Parts of which no file is left, as what is loaded of their pieces.
-use Rattle.std.proofs.Common.{◌≡◌, refl, sym, ap, ◌∙◌, subst, ℕ, zero, suc, ◌+◌, ◌-◌, ◌≤◌, max, inl, inr, List, [], ◌∷◌, ◌++◌, length, map, take, drop, append_assoc, Some, None, Ok, Err, Result as Outcome, IfOk, arith}
+use Rattle.std.proofs.Common.{◌≡◌, refl, sym, ap, ◌∙◌, subst, ℕ, zero, suc, ◌+◌, ◌-◌, ◌<◌, ◌≤◌, max, get_or, inl, inr, List, [], ◌∷◌, ◌++◌, length, map, take, drop, append_assoc, Some, None, Ok, Err, Result as Outcome, IfOk, arith}
+use Rattle.std.proofs.lemmas.List.{map_push, take_more}
 use Rattle.std.specs.List.{flat_map, AllByRecursion}
 use Rattle.rows_core.specs.declared.cut.Cut.{Cut}
 use Rattle.rows_core.specs.declared.memory.Memory.{Memory}
@@ -158,3 +159,17 @@ module _ (schemas : List Kinds) (extents : Extents) (results : KeptResults) wher
     hold_part piece p (first_nil (files_left p) (left_in parts) left) are.0 one.0 read.0,
     hold_all pieces parts (second_nil (files_left p) (left_in parts) left) are.1 one.1 read.1,
   )
+
+-- ---- parts by their place
+
+pub nothing_at : (parts : List Part) (k : ℕ) (p : Part) → k < length parts → p ≡ get_or parts k p → left_in parts ≡ [] → files_left p ≡ []
+nothing_at [] k p within is nothing = absurd (omega (arith, within))
+nothing_at (q ∷ parts) zero p within is nothing = ap files_left is ∙ first_nil (files_left q) (left_in parts) nothing
+nothing_at (q ∷ parts) (suc k) p within is nothing = nothing_at parts k p (omega (arith, within)) is (second_nil (files_left q) (left_in parts) nothing)
+
+pub load_next : (parts : List Part) (k : ℕ) (p : Part) (before after : List (Outcome Made Stop)) (piece : Outcome Made Stop) → k < length parts → p ≡ get_or parts k p → before ≡ map load_of_part (take k parts)
+    → piece ≡ load_of_part p → after ≡ before ++ piece ∷ [] → after ≡ map load_of_part (take (k + 1) parts)
+load_next parts k p before after piece within is so_far loaded pushed =
+    let next : take (k + 1) parts ≡ take k parts ++ p ∷ [] = take_more parts k p within ∙ ap (λ (q : Part). take k parts ++ q ∷ []) (sym is) in
+    pushed ∙ ap (λ (l : List (Outcome Made Stop)). l ++ piece ∷ []) so_far ∙ ap (λ (x : Outcome Made Stop). map load_of_part (take k parts) ++ x ∷ []) loaded ∙ sym (map_push load_of_part (take k parts) p)
+    ∙ sym (ap (map load_of_part) next)

@@ -6,3 +6,4 @@ pub mod Sources
 pub mod Loads
 pub mod Running
 pub mod Outcomes
+pub mod Runs

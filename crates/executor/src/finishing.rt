@@ -11,10 +11,13 @@ ghost use Rattle.result_ops.specs.Steps.{Makes};
 ghost use Rattle.evaluation.specs.Parts.{IsFormed};
 ghost use Rattle.evaluation.specs.Passing.{Passes};
 ghost use Rattle.executor.specs.Loads.{load_of_rows, load_of_part};
-ghost use Rattle.executor.specs.Outcomes.{AreReadAs};
+ghost use Rattle.executor.specs.Outcomes.{AreReadAs, Finishes};
 ghost use Rattle.executor.specs.Progress.{files_left, left_in, ArePartsOf};
 
+use crate::copying::copied_pieces;
 use crate::job::Job;
+use crate::making::outcome_of;
+use crate::outcome::Outcome;
 use crate::part::Part;
 use evaluation::{Loaded, evaluate};
 use gathering::Gathering;
@@ -54,6 +57,40 @@ fn evaluated(alloc: Global, rewriting: &Rewriting, parts: Vec<Part>) -> Result<M
 {
     let pieces = loaded_pieces(alloc, parts)?;
     evaluate(alloc, rewriting, pieces)
+}
+
+/// The outcome of a job of which no file is left: the rows of its plan, and what may be kept of what was made
+/// for them. Where what was read is what these extents and kept results are, the rows are those that the
+/// definitions give of them; over sound results they are the plan's, with a machine time within the limit,
+/// and what is kept is that of each place that the rewriting makes. `Overflow` comes only where the rows are
+/// an overflow, and `Machine`, over sound results, only where the machine time is above its limit. The job
+/// stays.
+pub fn finish(alloc: Global, job: &Job) -> Result<Outcome, MakeRefusal>
+    requires left { left_in job.now.parts.items ≡ [] }
+    requires formed { IsFormed (rewriting_of job.now.rewriting) }
+    requires parts { (schemas : List Kinds) × IsSome (plan_kinds schemas (plan_of job.now.rewriting.plan))
+        × ArePartsOf schemas (pieces_of (rewriting_of job.now.rewriting)) job.now.parts.items }
+    ensures { (schemas : List Kinds) (extents : Extents) (results : KeptResults)
+        → AreReadAs schemas extents results (rewriting_of job.now.rewriting) job.now.parts.items
+        → Finishes extents results (rewriting_of job.now.rewriting) result }
+{
+    let pieces = copied_pieces(alloc, job.parts.as_slice())?;
+    outcome_of(alloc, &job.rewriting, pieces)
+}
+
+/// The same by value and without copies of what was read.
+pub fn into_outcome(alloc: Global, job: Job) -> Result<Outcome, MakeRefusal>
+    requires left { left_in job.parts.items ≡ [] }
+    requires formed { IsFormed (rewriting_of job.rewriting) }
+    requires parts { (schemas : List Kinds) × IsSome (plan_kinds schemas (plan_of job.rewriting.plan))
+        × ArePartsOf schemas (pieces_of (rewriting_of job.rewriting)) job.parts.items }
+    ensures { (schemas : List Kinds) (extents : Extents) (results : KeptResults)
+        → AreReadAs schemas extents results (rewriting_of job.rewriting) job.parts.items
+        → Finishes extents results (rewriting_of job.rewriting) result }
+{
+    let Job { rewriting, parts } = job;
+    let pieces = loaded_pieces(alloc, parts)?;
+    outcome_of(alloc, &rewriting, pieces)
 }
 
 // What is loaded of each part, in order.

@@ -1,0 +1,46 @@
+-- What is kept at one place more, and what is found among one result more.
+use Rattle.std.proofs.Common.{◌≡◌, refl, sym, ap, ◌∙◌, subst, ◌-◌, ◌≤◌, inl, inr, List, [], ◌∷◌, ◌++◌, Option, Some, None, map, length, take, drop, get_or, arith}
+use Rattle.std.proofs.Math.Seq.{take-length}
+use Rattle.std.specs.List.{AllByRecursion, Contains}
+use Rattle.std.proofs.lemmas.List.Elements.{All-contains, All-from_recursion, Contains-append_cases}
+use Rattle.row_blob.specs.Kept.{AreEach}
+use Rattle.growth_laws.specs.MadePlaces.{Place}
+use Rattle.made_places.specs.Picking.{place_of, places_said}
+use Rattle.made_places.specs.declared.place.Place as code
+use Rattle.evaluation.specs.declared.recording.MadePlace.{MadePlace}
+use Rattle.executor.specs.Outcomes.{IsMadeAt, IsAnyMadeAt, FindsAt, KeepsAt, KeepEach, PutsKept}
+use Rattle.executor.specs.declared.outcome.KeptPlace.{KeptPlace}
+use Rattle.executor.proofs.Joined.{each_more}
+use Rattle.executor.proofs.RestShapes.{contains_more}
+
+pub finds_more : (m : MadePlace) (mades : List MadePlace) (at : Place) (found : Option MadePlace) → (IsMadeAt at m → ⊥) → FindsAt mades at found → FindsAt (m ∷ mades) at found
+finds_more m mades at (Some made) not is = (contains_more m mades made is.0, is.1)
+finds_more m mades at None not is = λ (made : MadePlace) (among : Contains (m ∷ mades) made) (made_at : IsMadeAt at made).
+    elim (Contains-append_cases (m ∷ []) mades made among) [
+      | inl first ↦
+          let same : made ≡ m = All-contains (λ (x : MadePlace). x ≡ m) (m ∷ []) made (All-from_recursion (λ (x : MadePlace). x ≡ m) (m ∷ []) (refl, tt)) first in
+          not (subst (λ (x : MadePlace). IsMadeAt at x) same made_at)
+      | inr other ↦ is made other made_at
+    ]
+
+-- the first one isn't it
+pub finds_behind : (mades : List MadePlace) (m : MadePlace) (at : Place) (found : Option MadePlace) → 1 ≤ length mades → m ≡ get_or mades 0 m → (IsMadeAt at m → ⊥)
+    → FindsAt (take (length mades - 1) (drop 1 mades)) at found → FindsAt mades at found
+finds_behind [] m at found some is not finds = absurd (omega (arith, some))
+finds_behind (x ∷ mades) m at found some is not finds =
+    let count : length (x ∷ mades) - 1 ≡ length mades = omega arith in
+    let rest : take (length (x ∷ mades) - 1) mades ≡ mades = ap (λ n. take n mades) count ∙ take-length mades in
+    finds_more x mades at found (λ (made_at : IsMadeAt at x). not (subst (λ (y : MadePlace). IsMadeAt at y) (sym is) made_at)) (subst (λ (l : List MadePlace). FindsAt l at found) rest finds)
+
+module _ (mades : List MadePlace) where
+  split_said : (ps : List code.Place) (p : code.Place) → AllByRecursion (IsAnyMadeAt mades) (places_said (ps ++ p ∷ [])) → AllByRecursion (IsAnyMadeAt mades) (places_said ps) × IsAnyMadeAt mades (place_of p)
+  split_said [] p all = (tt, all.0)
+  split_said (q ∷ ps) p all = let rest = split_said ps p all.1 in ((all.0, rest.0), rest.1)
+
+  pub keep_more : (ps : List code.Place) (p : code.Place) (before after : List KeptPlace) → KeepEach mades (places_said ps) before → PutsKept mades (place_of p) before after
+      → KeepEach mades (places_said (ps ++ p ∷ [])) after
+  keep_more ps p before after keep puts = λ (all : AllByRecursion (IsAnyMadeAt mades) (places_said (ps ++ p ∷ []))).
+      let parts = split_said ps p all in
+      let put = puts parts.1 in
+      subst (λ (kept : List KeptPlace). AreEach (KeepsAt mades) (places_said (ps ++ p ∷ [])) kept) (sym put.1)
+      (each_more place_of (KeepsAt mades) ps before p put.0 (keep parts.0) put.2)

@@ -1,0 +1,73 @@
+-- A run: its files are read, and then it is finished.
+use Rattle.std.proofs.Common.{◌≡◌, refl, sym, ap, ◌∙◌, subst, List, [], ◌++◌, length, Ok, Err, Result}
+use Rattle.std.proofs.lemmas.List.{append-nil}
+use Rattle.rows_core.specs.declared.file_ref.FileRef.{FileRef}
+use Rattle.outside_traits.specs.View.{Counts}
+use Rattle.kept_files.specs.declared.refusal.ReadRefusal.{ReadRefusal}
+use Rattle.kept_files.specs.declared.refusal.ReadRefusal.TheVariants as read
+use Rattle.result_ops.specs.declared.refusal.MakeRefusal.{MakeRefusal}
+use Rattle.result_ops.specs.declared.refusal.MakeRefusal.TheVariants as made
+use Rattle.plan_core.specs.PlainPlan.{leaf_count}
+use Rattle.rewrite_core.specs.Files.{FileName, files_of}
+use Rattle.rewrite_core.specs.PlainRewriting.{PlainRewriting}
+use Rattle.growth_laws.specs.KeptResults.{KeptResults}
+use Rattle.growth_laws.specs.Lists.{Extents}
+use Rattle.growth_laws.specs.Parts.{plan_at, cuts_at}
+use Rattle.growth_laws.specs.Pieces.{Piece, pieces_of}
+use Rattle.executor.specs.Outcomes.{AreReadAs, Finishes}
+use Rattle.executor.specs.Progress.{left_in, ArePartsOf, HaveRead}
+use Rattle.executor.specs.Running.{EndsBy, EndsOver, HaveTaken, ReadsOn}
+use Rattle.executor.specs.Runs.{of_reading, of_making, HasRunCause, IsRunFound, Ends, Runs}
+use Rattle.executor.specs.Sources.{Sources, HoldFiles}
+use Rattle.executor.specs.declared.part.Part.{Part}
+
+-- ---- refusals
+
+pub read_cause : (places : FileName → FileRef) (names : List FileName) (old new : Counts) (e : ReadRefusal) → EndsBy places names old new e → HasRunCause places names old new (of_reading e)
+read_cause places names old new read.Fault is = is
+read_cause places names old new (read.Damaged file kept found) is = is
+read_cause places names old new (read.Unreadable file at) is = is
+read_cause places names old new read.Memory is = is
+
+pub read_found : (from : Sources) (pieces : List Piece) (names : List FileName) (e : ReadRefusal) → EndsOver from pieces names e → IsRunFound from pieces names (of_reading e)
+read_found from pieces names read.Fault is = is
+read_found from pieces names (read.Damaged file kept found) is = is
+read_found from pieces names (read.Unreadable file at) is = is
+read_found from pieces names read.Memory is = is
+
+pub made_cause : (places : FileName → FileRef) (names : List FileName) (old new : Counts) (e : MakeRefusal) → new.reads ≡ old.reads → HasRunCause places names old new (of_making e)
+made_cause places names old new made.Overflow same = same
+made_cause places names old new made.Machine same = same
+made_cause places names old new made.Memory same = same
+
+pub made_found : (from : Sources) (pieces : List Piece) (names : List FileName) (e : MakeRefusal) → IsRunFound from pieces names (of_making e)
+made_found from pieces names made.Overflow = tt
+made_found from pieces names made.Machine = tt
+made_found from pieces names made.Memory = tt
+
+module _ (extents : Extents) (results : KeptResults) (r : PlainRewriting) (old new : Counts) where
+  pub read_runs : (e : ReadRefusal) → Runs extents results r old new (Err (of_reading e))
+  read_runs read.Fault = tt
+  read_runs (read.Damaged file kept found) = tt
+  read_runs (read.Unreadable file at) = tt
+  read_runs read.Memory = tt
+
+  pub made_runs : (e : MakeRefusal) → Ends extents results r old new (Err e) → Runs extents results r old new (Err (of_making e))
+  made_runs made.Overflow is = is
+  made_runs made.Machine is = is
+  made_runs made.Memory is = tt
+
+-- ---- all files were read
+
+module _ (from : Sources) (r : PlainRewriting) (before after : List Part) (old new : Counts) (on : ReadsOn from before after old new) (none : left_in after ≡ []) (all : left_in before ≡ files_of r) where
+  names_are : on.names ≡ files_of r
+  names_are = sym (append-nil on.names) ∙ ap (λ (l : List FileName). on.names ++ l) (sym none) ∙ sym on.left ∙ all
+
+  pub all_read : (extents : Extents) (results : KeptResults) → HoldFiles from extents results (pieces_of r) → ArePartsOf from.schemas (pieces_of r) before
+      → HaveRead from.schemas extents results (pieces_of r) before → length (cuts_at r) ≡ leaf_count (plan_at r)
+      → AreReadAs from.schemas extents results r after × HaveTaken extents results (files_of r) old new
+  all_read extents results hold are have cuts =
+      let read = on.read extents results (pieces_of r) hold are have in (
+        record { are = on.parts (pieces_of r) are; cuts = cuts; read = read.0 },
+        subst (λ (names : List FileName). HaveTaken extents results names old new) names_are read.1,
+      )

@@ -1,0 +1,24 @@
+use Rattle.std.proofs.Common.{sym, subst, ◌∙◌, ap, map, List}
+use Rattle.growth_laws.specs.Pieces.{pieces_of}
+use Rattle.rewrite_core.specs.PlainRewriting.{rewriting_of}
+use Rattle.evaluation.specs.Loading.{Loads, HoldAll, AreFit}
+use Rattle.executor.specs.Loads.{load_of_part}
+use Rattle.executor.proofs.ReadAs.{hold_read}
+use Rattle.executor.proofs.ReadParts.{are_fit}
+use Rattle.executor.proofs.finishing.finish.Goals as goal
+
+pub outcome_of-requires-clause-fit : goal.outcome_of-requires-clause-fit
+outcome_of-requires-clause-fit c =
+    let parts = c.requires.parts in (
+      parts.0,
+      parts.1,
+      subst (λ (loads : Loads). AreFit parts.0 (pieces_of (rewriting_of c.args.job.now.rewriting)) loads) (sym (c.in_ok-pieces.ensures ∙ ap (map load_of_part) c.as_slice.ensures.value))
+          (are_fit parts.0 (pieces_of (rewriting_of c.args.job.now.rewriting)) c.args.job.now.parts.items parts.2),
+    )
+
+pub returns : goal.returns
+returns c =
+    λ schemas extents results are.
+    c.outcome_of.ensures extents results
+    (subst (λ (loads : Loads). HoldAll extents results (pieces_of (rewriting_of c.args.job.now.rewriting)) loads) (sym (c.in_ok-pieces.ensures ∙ ap (map load_of_part) c.as_slice.ensures.value))
+    (hold_read schemas extents results (rewriting_of c.args.job.now.rewriting) c.args.job.now.parts.items c.requires.left c.requires.formed are))

@@ -1,0 +1,72 @@
+//! Why a run gives no outcome.
+ghost use Rattle.std.specs.Prelude.{◌≡◌};
+ghost use Rattle.executor.specs.Runs.{of_reading, of_making};
+ghost use Rattle.executor.specs.declared.refusal.RunRefusal.TheVariants as run;
+
+use kept_files::ReadRefusal;
+use result_ops::MakeRefusal;
+use rows_core::{Digest, Memory};
+use thiserror::Error;
+
+/// Why a run of a rewriting gives no outcome.
+#[derive(Clone, Copy, Debug, PartialEq, Eq, Error)]
+pub enum RunRefusal {
+    /// An operator, evaluated whole, met a number outside of i64.
+    #[error("overflow")]
+    Overflow,
+    /// The machine time is above 4,294,967,295.
+    #[error("machine time above 4294967295")]
+    Machine,
+    /// The store failed.
+    #[error("the store failed")]
+    Fault,
+    /// The file's bytes have the digest `found` where `kept` was kept.
+    #[error("file {file} is damaged")]
+    Damaged {
+        file: u64,
+        kept: Digest,
+        found: Digest,
+    },
+    /// The file's bytes are the kept ones, and spell no form of its shape: reading stops at byte `at`.
+    #[error("file {file} is unreadable: byte {at}")]
+    Unreadable {
+        file: u64,
+        at: u64,
+    },
+    /// Memory was refused.
+    #[error("out of memory")]
+    Memory,
+}
+
+impl From<Memory> for RunRefusal {
+    ghost from_gives = { λ _ e. e ≡ run.Memory };
+
+    fn from(_memory: Memory) -> RunRefusal {
+        RunRefusal::Memory
+    }
+}
+
+impl From<ReadRefusal> for RunRefusal {
+    ghost from_gives = { λ r e. e ≡ of_reading r };
+
+    fn from(refusal: ReadRefusal) -> RunRefusal {
+        match refusal {
+            ReadRefusal::Fault => RunRefusal::Fault,
+            ReadRefusal::Damaged { file, kept, found } => RunRefusal::Damaged { file, kept, found },
+            ReadRefusal::Unreadable { file, at } => RunRefusal::Unreadable { file, at },
+            ReadRefusal::Memory => RunRefusal::Memory,
+        }
+    }
+}
+
+impl From<MakeRefusal> for RunRefusal {
+    ghost from_gives = { λ r e. e ≡ of_making r };
+
+    fn from(refusal: MakeRefusal) -> RunRefusal {
+        match refusal {
+            MakeRefusal::Overflow => RunRefusal::Overflow,
+            MakeRefusal::Machine => RunRefusal::Machine,
+            MakeRefusal::Memory => RunRefusal::Memory,
+        }
+    }
+}

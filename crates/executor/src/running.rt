@@ -1,0 +1,60 @@
+//! Running a rewriting: its files are read, and its outcome is made.
+ghost use Rattle.std.specs.Prelude.{◌≡◌, length, IsTrue, IfErr, OnOk};
+ghost use Rattle.std.specs.List.{AllByRecursion};
+ghost use Rattle.plan_core.specs.PlainPlan.{plan_of, leaf_count};
+ghost use Rattle.outside_traits.specs.View.{View, Counts};
+ghost use Rattle.outside_traits.specs.Calls.{Idles, MayRaiseReads};
+ghost use Rattle.rewrite_core.specs.Files.{files_of};
+ghost use Rattle.rewrite_core.specs.PlainRewriting.{rewriting_of};
+ghost use Rattle.rewriting_pieces.specs.Pieces.{HasTyping};
+ghost use Rattle.growth_laws.specs.KeptResults.{KeptResults};
+ghost use Rattle.growth_laws.specs.Lists.{Extents};
+ghost use Rattle.growth_laws.specs.Pieces.{pieces_of};
+ghost use Rattle.evaluation.specs.Parts.{IsFormed};
+ghost use Rattle.executor.specs.Running.{TookAtMost, kept_bytes};
+ghost use Rattle.executor.specs.Runs.{HasRunCause, IsRunFound, Runs};
+ghost use Rattle.executor.specs.Sources.{sources, HoldFiles};
+
+use crate::finishing::into_outcome;
+use crate::job::prepare;
+use crate::outcome::Outcome;
+use crate::refusal::RunRefusal;
+use crate::rest::read_rest;
+use outside_traits::Store;
+use rewrite_core::{Places, Rewriting};
+use std::alloc::Global;
+
+/// Reads the files that a rewriting names, each as often as it is named, and makes its outcome. Where the files
+/// hold these extents and kept results, the outcome is what finishing gives of them, and the bytes of what
+/// they hold are taken. `Overflow` and `Machine` come as in finishing, `Fault` only where the store failed in
+/// this call, and `Damaged` and `Unreadable` by the bytes of one of the files.
+pub fn run<D: Store, P: Places>(
+    alloc: Global,
+    rewriting: Rewriting,
+    store: &mut D,
+    places: &P,
+) -> Result<Outcome, RunRefusal>
+    requires formed { IsFormed (rewriting_of rewriting) }
+    requires cuts { length rewriting.cuts ≡ leaf_count (plan_of rewriting.plan) }
+    requires typed { HasTyping (P.stream_kinds places.now) (plan_of rewriting.plan) }
+    requires there { AllByRecursion (P.has places.now) (files_of (rewriting_of rewriting)) }
+    ensures outcome { (extents : Extents) (results : KeptResults) → HoldFiles (sources D.tells
+        ((D.view store.old).files) (P.files places.now) (P.machines places.now) (P.stream_kinds places.now))
+        extents results (pieces_of (rewriting_of rewriting))
+        → Runs extents results (rewriting_of rewriting) (D.counts store.old) (D.counts store.new) result }
+    ensures most { IsTrue D.tells
+        → TookAtMost (kept_bytes (P.files places.now) (files_of (rewriting_of rewriting)))
+        (D.counts store.old) (D.counts store.new) }
+    ensures cause { IfErr result (HasRunCause (P.files places.now) (files_of (rewriting_of rewriting))
+        (D.counts store.old) (D.counts store.new)) }
+    ensures found { IsTrue D.tells → IfErr result (IsRunFound (sources D.tells
+        ((D.view store.old).files) (P.files places.now) (P.machines places.now) (P.stream_kinds places.now))
+        (pieces_of (rewriting_of rewriting)) (files_of (rewriting_of rewriting))) }
+    ensures no_fault { OnOk result ((D.counts store.new).reads ≡ (D.counts store.old).reads) }
+    ensures idles { Idles (D.view store.old) (D.view store.new) }
+    ensures counts { MayRaiseReads (D.counts store.old) (D.counts store.new) }
+{
+    let mut job = prepare(alloc, rewriting)?;
+    read_rest(alloc, &mut job, store, places)?;
+    Ok(into_outcome(alloc, job)?)
+}
