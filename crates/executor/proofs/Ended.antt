@@ -41,7 +41,7 @@ module _ (extents : Extents) (results : KeptResults) (r : PlainRewriting) where
       (machine : AreSound extents results r → IfOk (made_by extents results r) (λ m. machine_of m ≡ machine_time (plan_at r) (plan_lists extents (plan_at r) (cuts_at r))))
       (any : (own : MadePlace) → AreSound extents results r → IsMadeAt (place (plan_at r) (cuts_at r)) own → AllByRecursion (IsAnyMadeAt (own ∷ found)) (made_places (plan_at r) (cuts_at r) r))
       (each : (own : MadePlace) → AreSound extents results r → IsMadeAt (place (plan_at r) (cuts_at r)) own → made_by extents results r ≡ Ok (made_of own.made) → IsWithin extents (plan_at r) (cuts_at r)
-        → AllByRecursion (IsResultAt extents) (own ∷ found))
+      → AllByRecursion (IsResultAt extents) (own ∷ found))
       (given : Given (Ok (made_of made))) (below : made.taken_in < limit) where
     within : AreSound extents results r → IsWithin extents (plan_at r) (cuts_at r)
     within s =

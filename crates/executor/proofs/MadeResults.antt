@@ -137,7 +137,7 @@ module _ (extents : Extents) (results : KeptResults) where
       → IsMade (plan_at tree) (plan_lists extents (plan_at tree) (cuts_at tree)) (made_by extents results tree) → Within tree → IsResultAt extents m
   result_of tree m same_plan same_cuts made is within =
       let of_cuts = subst (λ (c : Cuts). IsMade (plan_at tree) (plan_lists extents (plan_at tree) c) (Ok (made_of m.made)) × (machine_time (plan_at tree) (plan_lists extents (plan_at tree) c) ≤ limit)) (sym same_cuts)
-          (subst (IsMade (plan_at tree) (plan_lists extents (plan_at tree) (cuts_at tree))) made is, within) in
+      (subst (IsMade (plan_at tree) (plan_lists extents (plan_at tree) (cuts_at tree))) made is, within) in
       subst (λ (p : PlainPlan). IsMade p (plan_lists extents p m.cuts) (Ok (made_of m.made)) × (machine_time p (plan_lists extents p m.cuts) ≤ limit)) (sym same_plan) of_cuts
 
   results_below : (trees : List PlainRewriting) (found : List MadePlace) → AreMade extents results trees found → AllByRecursion (IsOwn extents results) trees → AllByRecursion Within trees

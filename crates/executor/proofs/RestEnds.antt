@@ -1,14 +1,12 @@
 -- Why reading of several files ended early: by the file that was read last.
-use Rattle.std.proofs.Common.{◌≡◌, refl, sym, ap, ◌∙◌, subst, ℕ, ◌+◌, ◌≤◌, ◌^◌, ◌-◌, min, Bool, inl, inr, List, [], ◌∷◌, ◌++◌, length, take, arith}
+use Rattle.std.proofs.Common.{◌≡◌, sym, ◌∙◌, subst, ℕ, ◌+◌, ◌^◌, ◌-◌, min, Bool, inl, inr, List, ◌∷◌, ◌++◌, length, take, arith}
 use Rattle.std.specs.List.{Contains}
 use Rattle.std.proofs.lemmas.List.{length-take}
 use Rattle.rows_core.specs.declared.file_ref.FileRef.{FileRef}
 use Rattle.row_blob.specs.declared.shape.Shape.{Shape}
 use Rattle.outside_traits.specs.Counts.{Rose}
 use Rattle.outside_traits.specs.View.{Counts}
-use Rattle.outside_traits.specs.Calls.{CountsTaken}
-use Rattle.extent_files.specs.Files.{digest_of}
-use Rattle.kept_files.specs.Reads.{HasCause, FoundIn, SpellsNone}
+use Rattle.kept_files.specs.Reads.{HasCause, FoundIn}
 use Rattle.kept_files.specs.declared.refusal.ReadRefusal.{ReadRefusal}
 use Rattle.kept_files.specs.declared.refusal.ReadRefusal.TheVariants as read
 use Rattle.plan_core.specs.PlanTyping.{Kinds}

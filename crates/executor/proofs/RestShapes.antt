@@ -4,9 +4,9 @@ use Rattle.std.specs.List.{Contains}
 use Rattle.std.proofs.lemmas.List.Elements.{Contains-push, Contains-append_left, Contains-append_right}
 use Rattle.row_blob.specs.declared.shape.Shape.{Shape}
 use Rattle.plan_core.specs.PlanTyping.{Kinds}
-use Rattle.plan_core.specs.PlainPlan.{PlainPlan, Scan, plan_of}
+use Rattle.plan_core.specs.PlainPlan.{Scan, plan_of}
 use Rattle.plan_laws.specs.PlanShape.{plan_shape}
-use Rattle.rewrite_core.specs.Files.{FileName, Extent, Result, extents_from}
+use Rattle.rewrite_core.specs.Files.{FileName, Extent, Result}
 use Rattle.growth_laws.specs.Pieces.{Piece, Entry, Gathered}
 use Rattle.executor.specs.Progress.{files_left, left_in, next_shape, IsNextPart, IsPartOf, ArePartsOf}
 use Rattle.executor.specs.Running.{IsShapeOf}

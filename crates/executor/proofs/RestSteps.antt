@@ -93,8 +93,8 @@ module _ (tells : Bool) (files later : ℕ → List ℕ) (places : FileName → 
       → (name : FileName) × (left_in mid ≡ name ∷ left_in after)
       → ((pieces : List Piece) → ArePartsOf schemas pieces mid → ArePartsOf schemas pieces after)
       → ((extents : Extents) (results : KeptResults) (pieces : List Piece) (name : FileName) (others : List FileName) → left_in mid ≡ name ∷ others
-        → HoldFiles (sources tells later places machines schemas) extents results pieces → ArePartsOf schemas pieces mid → HaveRead schemas extents results pieces mid
-        → HaveRead schemas extents results pieces after × HasTaken extents results name half new)
+      → HoldFiles (sources tells later places machines schemas) extents results pieces → ArePartsOf schemas pieces mid → HaveRead schemas extents results pieces mid
+      → HaveRead schemas extents results pieces after × HasTaken extents results name half new)
       → ((name : FileName) (others : List FileName) → left_in mid ≡ name ∷ others → IsTrue tells → TookAtMost (places name).len half new)
       → new.reads ≡ half.reads → MayRaiseReads half new → ReadsOn (sources tells files places machines schemas) before after old new
   reads_more before mid after old half new so_far next parts read most no_fault counts = record {

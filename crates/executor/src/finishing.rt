@@ -28,8 +28,8 @@ use std::alloc::Global;
 
 /// What the rewriting makes, of a job of which no file is left. Where what was read is what these extents and
 /// kept results are, it is what the definitions give of them, with a machine time within the limit and within
-/// the bounds. `Overflow` comes only where that is an overflow, and `Machine`, over sound results with machine
-/// times within the limit, only where the machine time of the plan is above it.
+/// the bounds. `Overflow` comes only where that is an overflow, and `Machine`, over sound results with
+/// machine times within the limit, only where the machine time of the plan is above it.
 pub fn into_result(alloc: Global, job: Job) -> Result<Made, MakeRefusal>
     requires left { left_in job.parts.items ≡ [] }
     requires formed { IsFormed (rewriting_of job.rewriting) }

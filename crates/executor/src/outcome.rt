@@ -3,8 +3,8 @@ use plan_core::Plan;
 use row_blob::Kept;
 use rows_core::{Cut, Row, Seq};
 
-/// What may be kept of a result that was made: of this plan at this cut, with the machine time, which is 1 and
-/// the rows that the plan takes in.
+/// What may be kept of a result that was made: of this plan at this cut, with the machine time, which is 1
+/// and the rows that the plan takes in.
 #[derive(Debug, Drop)]
 pub struct KeptPlace {
     pub plan: Plan,

@@ -24,10 +24,10 @@ use outside_traits::Store;
 use rewrite_core::{Places, Rewriting};
 use std::alloc::Global;
 
-/// Reads the files that a rewriting names, each as often as it is named, and makes its outcome. Where the files
-/// hold these extents and kept results, the outcome is what finishing gives of them, and the bytes of what
-/// they hold are taken. `Overflow` and `Machine` come as in finishing, `Fault` only where the store failed in
-/// this call, and `Damaged` and `Unreadable` by the bytes of one of the files.
+/// Reads the files that a rewriting names, each as often as it is named, and makes its outcome. Where the
+/// files hold these extents and kept results, the outcome is what finishing gives of them, and the bytes of
+/// what they hold are taken. `Overflow` and `Machine` come as in finishing, `Fault` only where the store
+/// failed in this call, and `Damaged` and `Unreadable` by the bytes of one of the files.
 pub fn run<D: Store, P: Places>(
     alloc: Global,
     rewriting: Rewriting,

@@ -1,10 +1,8 @@
-use Rattle.std.proofs.Common.{◌≡◌, refl, sym, ap, ◌∙◌, subst, rules, ◌++◌, List, Err, IfErr, IsTrue}
+use Rattle.std.proofs.Common.{◌≡◌, refl, ap, ◌∙◌, rules, ◌++◌, List, Err, IsTrue}
 use Rattle.outside_traits.proofs.RunLemmas.{idles_on}
 use Rattle.rewrite_core.specs.Files.{FileName}
 use Rattle.growth_laws.specs.Pieces.{Piece}
 use Rattle.executor.specs.Progress.{left_in, next_shape}
-use Rattle.executor.specs.Running.{EndsBy, EndsOver}
-use Rattle.executor.specs.Sources.{sources}
 use Rattle.executor.proofs.NextParts.{some_first}
 use Rattle.executor.proofs.RestSteps.{idles_yet, some_left, none_left, rises_on, most_of_all, most_at_end, reads_more, none_yet, rest_there, one_shorter}
 use Rattle.executor.proofs.RestEnds.{refused_most, ends_by, ends_over}
