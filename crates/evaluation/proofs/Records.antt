@@ -1,5 +1,5 @@
 -- Of the results that are recorded: those of one part after another.
-use Rattle.std.proofs.Common.{◌≡◌, refl, sym, ap, subst, ◌∙◌, Bool, true, false, cond, List, [], ◌∷◌, ◌++◌, append_assoc, reverse, OnOk, Result, Ok, Err}
+use Rattle.std.proofs.Common.{◌≡◌, refl, sym, ap, subst, ◌∙◌, Bool, true, false, cond, List, [], ◌∷◌, ◌++◌, append_assoc, reverse, IfOk, OnOk, Result, Ok, Err}
 use Rattle.std.proofs.lemmas.List.{append-nil}
 use Rattle.plan_core.specs.PlainPlan.{PlainPlan}
 use Rattle.estimator.specs.Cuts.{Cuts, added_cuts}
@@ -136,6 +136,10 @@ module _ (p : PlainPlan) (c : Cuts) (way : PlainWay) (before after : Loads) (mad
       let mine = own_recorded extents results (Node p c way) made counts g h (tree extents results rest held).0.0 own.1 in
       (part.0, both_recorded extents results (recorded_below (Node p c way)) (if_recorded counts (Node p c way)) f g h part.1 mine)
   own_records (Err e) own tree records = tt
+
+pub first_on_ok : (A B : Made → Type 0) (result : Result Made MakeRefusal) → IfOk result (λ made. A made × B made) → IfOk result A
+first_on_ok A B (Ok made) both = both.0
+first_on_ok A B (Err e) both = tt
 
 pub then_on_ok : {X : Type 0} (A B : Type 0) (result : Result X MakeRefusal) → (A → B) → OnOk result A → OnOk result B
 then_on_ok A B (Ok x) f is = f is

@@ -1,5 +1,5 @@
 //! What a rewriting makes of its loaded pieces.
-ghost use Rattle.std.specs.Prelude.{◌≡◌, List, ◌++◌, IsSome, OnOk, OnErr};
+ghost use Rattle.std.specs.Prelude.{◌≡◌, List, ◌++◌, IsSome, IfOk, OnOk, OnErr};
 ghost use Rattle.plan_core.specs.PlainPlan.{plan_of};
 ghost use Rattle.plan_core.specs.PlanTyping.{Kinds, plan_kinds};
 ghost use Rattle.growth_laws.specs.KeptResults.{KeptResults};
@@ -7,6 +7,7 @@ ghost use Rattle.growth_laws.specs.Lists.{Extents};
 ghost use Rattle.growth_laws.specs.Pieces.{pieces_of};
 ghost use Rattle.growth_laws.specs.Trees.{made_by};
 ghost use Rattle.rewrite_core.specs.PlainRewriting.{rewriting_of};
+ghost use Rattle.result_ops.specs.Fitting.{IsFit};
 ghost use Rattle.result_ops.specs.Steps.{Makes};
 ghost use Rattle.evaluation.specs.Loading.{HoldAll, AreFit};
 ghost use Rattle.evaluation.specs.Parts.{IsFormed};
@@ -45,7 +46,8 @@ pub fn evaluate(
 
 /// The same. The results that were made below it, of the trees that count below a root, come behind those
 /// that were there before, in the order in which they were made: each is what the definitions give of its
-/// tree, with the tree's plan and cut. A refusal leaves those that were there.
+/// tree, with the tree's plan and cut. A refusal leaves those that were there. What is made of fit pieces is fit,
+/// whatever they are of.
 pub fn evaluate_recording(
     alloc: Global,
     rewriting: &Rewriting,
@@ -59,6 +61,9 @@ pub fn evaluate_recording(
         → HoldAll extents results (pieces_of (rewriting_of rewriting.now)) pieces.items
         → Makes (Passes extents results (rewriting_of rewriting.now)) (plan_of rewriting.now.plan)
         (made_by extents results (rewriting_of rewriting.now)) result }
+    ensures fit { (schemas : List Kinds) → IsSome (plan_kinds schemas (plan_of rewriting.now.plan))
+        → AreFit schemas (pieces_of (rewriting_of rewriting.now)) pieces.items
+        → IfOk result (λ made. IsFit schemas (plan_of rewriting.now.plan) made.kept) }
     ensures recorded { (extents : Extents) (results : KeptResults)
         → HoldAll extents results (pieces_of (rewriting_of rewriting.now)) pieces.items
         → OnOk result (AreRecorded extents results (recorded_below (rewriting_of rewriting.now))
@@ -85,6 +90,9 @@ fn evaluated(
         → HoldAll extents results (pieces_of (rewriting_of rewriting.now)) pieces.items
         → Makes (Passes extents results (rewriting_of rewriting.now)) (plan_of rewriting.now.plan)
         (made_by extents results (rewriting_of rewriting.now)) result }
+    ensures fit { (schemas : List Kinds) → IsSome (plan_kinds schemas (plan_of rewriting.now.plan))
+        → AreFit schemas (pieces_of (rewriting_of rewriting.now)) pieces.items
+        → IfOk result (λ made. IsFit schemas (plan_of rewriting.now.plan) made.kept) }
     ensures recorded { (extents : Extents) (results : KeptResults)
         → HoldAll extents results (pieces_of (rewriting_of rewriting.now)) pieces.items
         → OnOk result (HasRecorded extents results (recorded_below (rewriting_of rewriting.now))
