@@ -16,8 +16,8 @@ use rewrite_core::{Hit, Lookup};
 use rows_core::Memory;
 use std::alloc::Global;
 
-/// The choice to read a kept result of the part, where its file is no longer than what each other rewriting
-/// costs at least. Then no parts need to be looked at.
+/// The choice to read a kept result of the part, where its file is shorter than what each computed rewriting
+/// costs at least, and no longer than what each grown one does. Then no parts need to be looked at.
 pub fn read_if_least<L: Lookup, Z: Sizes>(
     alloc: Global,
     part: Part<'_, '_>,
@@ -36,7 +36,7 @@ pub fn read_if_least<L: Lookup, Z: Sizes>(
         return Ok(None);
     };
     let bytes = whole_bytes(part.plan, part.cuts, sizes);
-    if bytes < read.estimate {
+    if bytes <= read.estimate {
         return Ok(None);
     }
     let grown = least_to_grow(alloc, part, lookup, sizes)?;
@@ -50,8 +50,8 @@ pub fn read_if_least<L: Lookup, Z: Sizes>(
     }))
 }
 
-// What each rewriting costs at least that grows an earlier result of the part; the greatest u64 where there is
-// no such result.
+// What each rewriting costs at least that grows an earlier result of the part; the greatest u64 where there
+// is no such result.
 fn least_to_grow<L: Lookup, Z: Sizes>(
     alloc: Global,
     part: Part<'_, '_>,
