@@ -1,5 +1,5 @@
 -- What a rewriting of a form costs at least.
-use Rattle.std.proofs.Common.{◌≡◌, ℕ, ◌+◌, ◌-◌, ◌^◌, ◌≤◌, ◌⊎◌, inl, inr, min, arith, sym, subst}
+use Rattle.std.proofs.Common.{◌≡◌, ℕ, ◌+◌, ◌≤◌, ◌⊎◌, inl, inr, arith, sym, subst}
 use Rattle.plan_core.specs.PlainPlan.{PlainPlan}
 use Rattle.estimator.specs.Bytes.{Lengths, whole_bytes, new_bytes, capped}
 use Rattle.estimator.specs.Cuts.{Cuts}
@@ -8,7 +8,6 @@ use Rattle.rewrite_core.specs.Entries.{Entries, AreSound, IsEarlier}
 use Rattle.rewrite_core.specs.Estimate.{cost, delta_cost, way_cost, estimate_of}
 use Rattle.rewrite_core.specs.IsRewriting.{IsRewriting, IsWay, among}
 use Rattle.rewrite_core.specs.PlainRewriting.{PlainRewriting, Node, PlainWay, Scan, One, Two, Read, Tail, LeftGrew, RightGrew, BothGrew}
-use Rattle.rewriter.specs.declared.priced.Choice.{Choice}
 use Rattle.rewriter.specs.declared.priced.Form.TheVariants as form
 use Rattle.rewriter.specs.declared.priced.Priced.{Priced}
 use Rattle.rewriter.specs.declared.priced.Want.TheVariants as want
