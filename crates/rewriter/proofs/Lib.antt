@@ -7,3 +7,4 @@ pub mod Choices
 pub mod WellFormed
 pub mod Growths
 pub mod Tables
+pub mod LeastCosts

@@ -2,6 +2,7 @@
 //! reads.
 #![tactic(auto)]
 
+mod bounds;
 mod choosing;
 mod computing;
 mod cuts;

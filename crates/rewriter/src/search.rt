@@ -13,6 +13,7 @@ ghost use Rattle.rewriter.specs.Search.{LeastPairIfAny};
 ghost use Rattle.rewriter.specs.Search.{IsChoice, IsDeltaPriceIfAny};
 ghost use Rattle.rewriter.specs.Table.{AreFound};
 
+use crate::bounds::read_if_least;
 use crate::choosing::{cheapest, price_of, priced_alone, without_tree};
 use crate::computing::inputs_of;
 use crate::growth::growth_of;
@@ -119,7 +120,8 @@ fn choice_at<'p, L: Lookup, Z: Sizes>(
     Ok(choice)
 }
 
-// The form of a least rewriting, by the estimates of the three forms.
+// The form of a least rewriting, by the estimates of the three forms. The parts are looked at only where
+// reading a kept result could be dearer.
 #[cycle(search)]
 fn choose_at<'p, L: Lookup, Z: Sizes>(
     alloc: Global,
@@ -136,8 +138,11 @@ fn choose_at<'p, L: Lookup, Z: Sizes>(
     ensures found { OnOk result (AreFound (L.entries lookup.now) (Z.lengths sizes.now) found.new) }
 {
     let want = Want::Price;
-    let computed = computed_at(alloc, want, part, lookup, sizes, found)?;
     let read = read_at(alloc, want, part, lookup, sizes)?;
+    if let Some(choice) = read_if_least(alloc, part, &read, lookup, sizes)? {
+        return Ok(choice);
+    }
+    let computed = computed_at(alloc, want, part, lookup, sizes, found)?;
     let grown = grown_at(alloc, want, part, lookup, sizes, found)?;
     Ok(cheapest(&computed, &read, &grown))
 }
