@@ -1,0 +1,166 @@
+//! Whether a result may be kept.
+ghost use Rattle.std.specs.Prelude.{◌≡◌, ◌↔◌, ◌+◌, ◌<◌, ◌≤◌, length, IsTrue, IfOk, IfSome};
+ghost use Rattle.std.specs.List.{AllByRecursion};
+ghost use Rattle.row_blob.specs.Spelling.{kept_spelling};
+ghost use Rattle.plan_core.specs.PlainPlan.{plan_of};
+ghost use Rattle.plan_spelling.specs.Spelling.{HasPlanSpelling, plan_spelling};
+ghost use Rattle.entry_table.specs.Results.{most_entries, most_result_bytes, most_plan_bytes, file_end};
+ghost use Rattle.admission.specs.declared.new_result.NewResult.{NewResult};
+ghost use Rattle.admission.specs.Admitting.{made_of, kept_in, IsOther, MayBeAdmitted, Decides};
+
+use crate::new_result::NewResult;
+use catalog_types::{Entry, NewEntry};
+use estimator::are_same_cuts;
+use executor::KeptPlace;
+use extent_files::digest_of;
+use plan_core::Plan;
+use plan_spelling::spell;
+use row_blob::{Kept, encode, encoded_len};
+use rows_core::{Cut, FileRef, Memory, Seq};
+use std::alloc::Global;
+
+/// The most entries.
+const MAX_ENTRIES: usize = 4_096;
+
+/// The most bytes of a result's file.
+const MAX_RESULT_BYTES: u64 = 67_108_864;
+
+/// The most bytes of a plan's spelling.
+const MAX_PLAN_BYTES: usize = 65_536;
+
+/// The number behind the last file's.
+const FILE_END: u64 = 4_294_967_296;
+
+/// The result as it is kept behind those before it, if it may be. It is written out only where it may.
+pub(crate) fn decide(
+    alloc: Global,
+    entries: &[Entry],
+    file: u64,
+    before: &[NewResult],
+    made: KeptPlace,
+) -> Result<Option<NewResult>, Memory>
+    requires spelled { HasPlanSpelling (plan_of made.plan) }
+    requires counted { length entries.now ≤ most_entries }
+    requires few { length before.now ≤ most_entries }
+    requires numbered { file ≤ file_end }
+    ensures { IfOk result (Decides entries.now file before.now (made_of made)) }
+{
+    if may_be_admitted(alloc, entries, file, before, &made)? {
+        let new = written(alloc, file + before.len() as u64, made)?;
+        Ok(Some(new))
+    } else {
+        Ok(None)
+    }
+}
+
+fn may_be_admitted(
+    alloc: Global,
+    entries: &[Entry],
+    file: u64,
+    before: &[NewResult],
+    made: &KeptPlace,
+) -> Result<bool, Memory>
+    requires spelled { HasPlanSpelling (plan_of made.now.plan) }
+    requires counted { length entries.now ≤ most_entries }
+    requires few { length before.now ≤ most_entries }
+    requires numbered { file ≤ file_end }
+    ensures { IfOk result (λ may. IsTrue may
+        ↔ MayBeAdmitted entries.now file before.now (made_of made.now)) }
+{
+    if has_place(entries, file, before)
+        && encoded_len(&made.kept) <= MAX_RESULT_BYTES
+        && is_new(entries, made)
+        && differs(before, made)
+    {
+        is_short(alloc, &made.plan)
+    } else {
+        Ok(false)
+    }
+}
+
+// Whether there is room for one more, and a number for its file.
+fn has_place(entries: &[Entry], file: u64, before: &[NewResult]) -> bool
+    requires counted { length entries.now ≤ most_entries }
+    requires few { length before.now ≤ most_entries }
+    requires numbered { file ≤ file_end }
+    ensures { IsTrue result ↔ ((length entries.now + length before.now < most_entries)
+        × (file + length before.now < file_end)) }
+{
+    entries.len() + before.len() < MAX_ENTRIES && file + (before.len() as u64) < FILE_END
+}
+
+// Whether no entry has its plan and cut.
+fn is_new(entries: &[Entry], made: &KeptPlace) -> bool
+    ensures { IsTrue result
+        ↔ AllByRecursion (λ e. IsOther (made_of made.now) e.plan e.cuts) entries.now }
+{
+    match entries {
+        [] => true,
+        [entry, others @ ..] => {
+            is_other(made, &entry.plan, entry.cuts.items()) && is_new(others, made)
+        }
+    }
+}
+
+// Whether none of those before it has its plan and cut.
+fn differs(before: &[NewResult], made: &KeptPlace) -> bool
+    ensures { IsTrue result ↔ AllByRecursion (λ (other : NewResult).
+        IsOther (made_of made.now) other.entry.plan other.entry.cuts) before.now }
+{
+    match before {
+        [] => true,
+        [other, others @ ..] => {
+            is_other(made, &other.entry.plan, other.entry.cuts.items()) && differs(others, made)
+        }
+    }
+}
+
+fn is_other(made: &KeptPlace, plan: &Plan, cuts: &[Cut]) -> bool
+    ensures { IsTrue result ↔ IsOther (made_of made.now) (plan_of plan.now) cuts.now }
+{
+    !(plan.is_same(&made.plan) && are_same_cuts(cuts, made.cuts.items()))
+}
+
+// Whether the plan's spelling is short enough.
+fn is_short(alloc: Global, plan: &Plan) -> Result<bool, Memory>
+    requires { HasPlanSpelling (plan_of plan.now) }
+    ensures { IfOk result (λ is. IsTrue is ↔ (length (plan_spelling (plan_of plan.now)) ≤ most_plan_bytes)) }
+{
+    let spelling = spell(alloc, plan)?;
+    Ok(spelling.len() <= MAX_PLAN_BYTES)
+}
+
+// The result with the bytes of its file.
+fn written(alloc: Global, file: u64, made: KeptPlace) -> Result<NewResult, Memory>
+    requires { length (kept_spelling made.kept) ≤ most_result_bytes }
+    ensures { IfOk result (λ new. new ≡ kept_in file (made_of made)) }
+{
+    let KeptPlace {
+        plan,
+        cuts,
+        kept,
+        machine,
+    } = made;
+    let bytes = bytes_of(alloc, &kept)?;
+    let file = FileRef {
+        file,
+        len: bytes.len() as u64,
+        digest: digest_of(&bytes),
+    };
+    Ok(NewResult {
+        entry: NewEntry {
+            plan,
+            cuts,
+            file,
+            machine,
+        },
+        bytes: Seq::new(bytes),
+    })
+}
+
+fn bytes_of(alloc: Global, kept: &Kept) -> Result<Vec<u8>, Memory>
+    requires { length (kept_spelling kept.now) ≤ most_result_bytes }
+    ensures { IfOk result (λ bytes. bytes.items ≡ kept_spelling kept.now) }
+{
+    encode(alloc, kept)
+}
