@@ -24,7 +24,8 @@ pub fn admit(
     file: u64,
     made: Vec<KeptPlace>,
 ) -> Result<Vec<NewResult>, Memory>
-    requires spelled { AllByRecursion (λ (place : KeptPlace). HasPlanSpelling (plan_of place.plan)) made.items }
+    requires spelled { AllByRecursion (λ (place : KeptPlace). HasPlanSpelling (plan_of place.plan))
+        made.items }
     requires counted { length entries.now ≤ most_entries }
     requires numbered { file ≤ file_end }
     ensures admits { IfOk result

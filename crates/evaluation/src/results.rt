@@ -46,8 +46,8 @@ pub fn evaluate(
 
 /// The same. The results that were made below it, of the trees that count below a root, come behind those
 /// that were there before, in the order in which they were made: each is what the definitions give of its
-/// tree, with the tree's plan and cut. A refusal leaves those that were there. What is made of fit pieces is fit,
-/// whatever they are of.
+/// tree, with the tree's plan and cut. A refusal leaves those that were there. What is made of fit pieces is
+/// fit, whatever they are of.
 pub fn evaluate_recording(
     alloc: Global,
     rewriting: &Rewriting,
