@@ -10,6 +10,8 @@ use Rattle.script_text.specs.Answer.{answer_text}
 use Rattle.script_text.specs.Reader.{Stands}
 use Rattle.script_text.specs.Script.{items, all_items, Given, Completes}
 use Rattle.script_text.specs.declared.answer.Answer.{Answer}
+use Rattle.script_text.specs.declared.answer.Answer.TheVariants as answer
+use Rattle.script_text.specs.declared.answer.Refusal.{Refusal}
 use Rattle.script_text.specs.declared.answer.Refusal.TheVariants.{Memory}
 use Rattle.script_text.specs.declared.item.Command.{Command}
 use Rattle.script_text.specs.declared.item.Item.{Item}
@@ -28,7 +30,7 @@ use Rattle.nectar_top.specs.Outside.{Outside, shown}
 use Rattle.nectar_top.specs.Refusals.{IsSparingItem, fault_in, faults_in, RoseBy}
 use Rattle.nectar_top.specs.Progress.{Progress, Sends, SendsInPart, Breaks, BreaksOff, Performs}
 use Rattle.nectar_top.specs.Run.{Answered, AnsweredInPart, BrokenOff}
-use Rattle.nectar_top.proofs.CrashLemmas.{reaches_loaded, reaches_on}
+use Rattle.nectar_top.proofs.CrashLemmas.{reaches_loaded, reaches_on, since_none}
 use Rattle.nectar_top.proofs.FaultLemmas.{rose_by_none, rose_by_since, faults-push, sparing_given, sparing_front, sparing_last}
 
 -- one step more
@@ -60,6 +62,16 @@ pub performs_item : (care : Care) (u v : View) (old : State) (i : Item) (command
     → IfOk result (λ next. standing.Performs care u v next.0 old command next.1) → IfOk result (λ next. Performs care u v old i next.0 next.1)
 performs_item care u v old i command (Ok next) is p = record { new = p.new; step = subst (λ j. Step care old j next.1 p.new) (sym is) p.step; stands = p.stands; since = p.since }
 performs_item care u v old i command (Err failed) is p = tt
+
+-- one that was refused as it was read changes nothing
+pub refused_item : (care : Care) (v : View) (old : State) (i : Item) (why : Refusal) (session : Session) → i ≡ item.Refused why → standing.Stands care v session old
+    → Performs care v v old i session (answer.Refused why)
+refused_item care v old i why session is stands = record {
+  new = old;
+  step = subst (λ j. Step care old j (answer.Refused why) old) (sym is) (inl refl);
+  stands = stands;
+  since = since_none care v old stands.left;
+}
 
 pub breaks_item : (care : Care) (u v : View) (old : State) (i : Item) (command : Command) (result : Result (Session × Answer) Failed) → i ≡ item.Command command
     → OnErr result (standing.Breaks care u v old command) → OnErr result (Breaks care u v old i)

@@ -48,7 +48,8 @@ returns-in_err-into_outcome-clause-outcome g c = λ (extents : Extents) (results
     let all = all_read _ (rewriting_of c.args.rewriting) _ _ _ _ c.in_ok-read_rest.ensures.read c.in_ok-read_rest.ensures.left c.in_ok-job.ensures.left extents results hold
     (c.in_ok-job.ensures.parts kinds c.requires.typed) (c.in_ok-job.ensures.read kinds extents results c.requires.typed) c.requires.cuts in
     let there = subst (λ (r : PlainRewriting). AreReadAs kinds extents results r c.read_rest.new.job.parts.items) (sym same) all.0 in
-    let finishes = subst (λ (r : PlainRewriting). Finishes extents results r (Err {A = Outcome} {B = MakeRefusal} c.in_err-into_outcome.field-0.0)) same (c.in_err-into_outcome.ensures kinds extents results there) in
+    let given : Result Outcome MakeRefusal = Err c.in_err-into_outcome.field-0.0 in
+    let finishes = subst (λ (r : PlainRewriting). Finishes extents results r given) same (c.in_err-into_outcome.ensures kinds extents results there) in
     rw (p.1, p.2) (made_runs extents results (rewriting_of c.args.rewriting) _ _ c.in_err-into_outcome.field-0.0 (finishes, all.1))
 
 pub returns-clause-outcome : goal.returns-clause-outcome
@@ -58,4 +59,5 @@ returns-clause-outcome g c = λ (extents : Extents) (results : KeptResults) hold
     let all = all_read _ (rewriting_of c.args.rewriting) _ _ _ _ c.in_ok-read_rest.ensures.read c.in_ok-read_rest.ensures.left c.in_ok-job.ensures.left extents results hold
     (c.in_ok-job.ensures.parts kinds c.requires.typed) (c.in_ok-job.ensures.read kinds extents results c.requires.typed) c.requires.cuts in
     let there = subst (λ (r : PlainRewriting). AreReadAs kinds extents results r c.read_rest.new.job.parts.items) (sym same) all.0 in
-    (subst (λ (r : PlainRewriting). Finishes extents results r _) same (c.in_ok-into_outcome.ensures kinds extents results there), all.1)
+    let given : Result Outcome MakeRefusal = Ok c.in_ok-into_outcome.field-0.0 in
+    (subst (λ (r : PlainRewriting). Finishes extents results r given) same (c.in_ok-into_outcome.ensures kinds extents results there), all.1)

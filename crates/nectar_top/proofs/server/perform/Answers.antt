@@ -1,4 +1,4 @@
-use Rattle.nectar_top.proofs.ProgressLemmas.{performs_item, breaks_item}
+use Rattle.nectar_top.proofs.ProgressLemmas.{performs_item, refused_item, breaks_item}
 use Rattle.nectar_top.proofs.FaultLemmas.{fault_rose, fault_of_item}
 use Rattle.nectar_top.proofs.server.perform.Goals as goal
 
@@ -10,6 +10,9 @@ returns-in-Command-clause-err g c = λ told care old stands. breaks_item care _ 
 
 pub returns-in-Command-clause-faults : goal.returns-in-Command-clause-faults
 returns-in-Command-clause-faults g c = λ sparing. fault_rose _ _ _ c.step.ensures.fault c.step.ensures.only_fault
+
+pub returns-in-Refused-clause-ok : goal.returns-in-Refused-clause-ok
+returns-in-Refused-clause-ok g c = λ told care old stands. refused_item care _ old _ c.in-Refused.refusal _ c.in-Refused.is stands
 
 pub returns-in-Refused-clause-faults : goal.returns-in-Refused-clause-faults
 returns-in-Refused-clause-faults g c = λ sparing. fault_of_item _ c.in-Refused.refusal _ c.in-Refused.is sparing
