@@ -19,6 +19,7 @@ use Rattle.executor.specs.Progress.{left_in, ArePartsOf, HaveRead}
 use Rattle.executor.specs.Running.{EndsBy, EndsOver, HaveTaken, ReadsOn}
 use Rattle.executor.specs.Runs.{of_reading, of_making, HasRunCause, IsRunFound, Ends, Runs}
 use Rattle.executor.specs.Sources.{Sources, HoldFiles}
+use Rattle.executor.specs.declared.outcome.Outcome.{Outcome}
 use Rattle.executor.specs.declared.part.Part.{Part}
 
 -- ---- refusals
@@ -56,6 +57,10 @@ module _ (extents : Extents) (results : KeptResults) (r : PlainRewriting) (old n
   made_runs made.Overflow is = is
   made_runs made.Machine is = is
   made_runs made.Memory is = tt
+
+-- the same of a rewriting that is seen as another one
+pub finishes_as : (extents : Extents) (results : KeptResults) (a b : PlainRewriting) (result : Result Outcome MakeRefusal) → a ≡ b → Finishes extents results a result → Finishes extents results b result
+finishes_as extents results a b result same is = subst (λ (r : PlainRewriting). Finishes extents results r result) same is
 
 -- ---- all files were read
 

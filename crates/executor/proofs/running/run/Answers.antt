@@ -1,8 +1,7 @@
-use Rattle.std.proofs.Common.{◌≡◌, sym, ap, ◌∙◌, subst, List, Ok, Err, Result, IsSome}
+use Rattle.std.proofs.Common.{◌≡◌, sym, ap, ◌∙◌, subst, List, IsSome}
 use Rattle.std.proofs.lemmas.Result.{err_from_is_err_and}
 use Rattle.plan_core.specs.PlainPlan.{PlainPlan, plan_of}
 use Rattle.plan_core.specs.PlanTyping.{plan_kinds}
-use Rattle.result_ops.specs.declared.refusal.MakeRefusal.{MakeRefusal}
 use Rattle.growth_laws.specs.KeptResults.{KeptResults}
 use Rattle.growth_laws.specs.Lists.{Extents}
 use Rattle.growth_laws.specs.Parts.{plan_at}
@@ -10,12 +9,11 @@ use Rattle.growth_laws.specs.Pieces.{pieces_of}
 use Rattle.rewrite_core.specs.Files.{FileName}
 use Rattle.rewrite_core.specs.PlainRewriting.{PlainRewriting, rewriting_of}
 use Rattle.rewriting_pieces.proofs.Typings.{kinds_there}
-use Rattle.executor.specs.Outcomes.{AreReadAs, Finishes}
+use Rattle.executor.specs.Outcomes.{AreReadAs}
 use Rattle.executor.specs.Progress.{ArePartsOf}
 use Rattle.executor.specs.Running.{EndsOver}
 use Rattle.executor.specs.Sources.{sources}
-use Rattle.executor.specs.declared.outcome.Outcome.{Outcome}
-use Rattle.executor.proofs.RunEnds.{read_found, made_runs, all_read}
+use Rattle.executor.proofs.RunEnds.{read_found, made_runs, finishes_as, all_read}
 use Rattle.executor.proofs.running.run.Goals as goal
 
 pub read_rest-requires-clause-parts : goal.read_rest-requires-clause-parts
@@ -48,8 +46,7 @@ returns-in_err-into_outcome-clause-outcome g c = λ (extents : Extents) (results
     let all = all_read _ (rewriting_of c.args.rewriting) _ _ _ _ c.in_ok-read_rest.ensures.read c.in_ok-read_rest.ensures.left c.in_ok-job.ensures.left extents results hold
     (c.in_ok-job.ensures.parts kinds c.requires.typed) (c.in_ok-job.ensures.read kinds extents results c.requires.typed) c.requires.cuts in
     let there = subst (λ (r : PlainRewriting). AreReadAs kinds extents results r c.read_rest.new.job.parts.items) (sym same) all.0 in
-    let given : Result Outcome MakeRefusal = Err c.in_err-into_outcome.field-0.0 in
-    let finishes = subst (λ (r : PlainRewriting). Finishes extents results r given) same (c.in_err-into_outcome.ensures kinds extents results there) in
+    let finishes = finishes_as extents results (rewriting_of c.read_rest.new.job.rewriting) (rewriting_of c.args.rewriting) _ same (c.in_err-into_outcome.ensures kinds extents results there) in
     rw (p.1, p.2) (made_runs extents results (rewriting_of c.args.rewriting) _ _ c.in_err-into_outcome.field-0.0 (finishes, all.1))
 
 pub returns-clause-outcome : goal.returns-clause-outcome
@@ -59,5 +56,4 @@ returns-clause-outcome g c = λ (extents : Extents) (results : KeptResults) hold
     let all = all_read _ (rewriting_of c.args.rewriting) _ _ _ _ c.in_ok-read_rest.ensures.read c.in_ok-read_rest.ensures.left c.in_ok-job.ensures.left extents results hold
     (c.in_ok-job.ensures.parts kinds c.requires.typed) (c.in_ok-job.ensures.read kinds extents results c.requires.typed) c.requires.cuts in
     let there = subst (λ (r : PlainRewriting). AreReadAs kinds extents results r c.read_rest.new.job.parts.items) (sym same) all.0 in
-    let given : Result Outcome MakeRefusal = Ok c.in_ok-into_outcome.field-0.0 in
-    (subst (λ (r : PlainRewriting). Finishes extents results r given) same (c.in_ok-into_outcome.ensures kinds extents results there), all.1)
+    (finishes_as extents results (rewriting_of c.read_rest.new.job.rewriting) (rewriting_of c.args.rewriting) _ same (c.in_ok-into_outcome.ensures kinds extents results there), all.1)
