@@ -1,5 +1,7 @@
+pub mod AskedResults
 pub mod ByName
 pub mod ChainLemmas
+pub mod ExtentFiles
 pub mod Growth
 pub mod IdleWork
 pub mod Kept

@@ -5,3 +5,4 @@ pub mod Table
 pub mod IsTable
 pub mod Streams
 pub mod Catalogs
+pub mod Named

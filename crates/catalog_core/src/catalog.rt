@@ -14,6 +14,7 @@ use crate::results::{are_over, make_room_for_results};
 use crate::schemas::with_stream;
 use crate::snapshot::copy_streams;
 use crate::stream::CatalogStream;
+use cache_index::View;
 use catalog_types::{
     Change, Entry, Extent, NewEntry, Program, Snapshot, copy_entries, copy_programs,
 };
@@ -77,6 +78,8 @@ impl Catalog {
     ghost use Rattle.std.specs.Prelude.{◌<◌, IfSome, IfOk, OnOk, IsErrOf, length, option_copied, ◌==◌};
     ghost use Rattle.std.specs.List.{AllByRecursion, find};
     ghost use Rattle.plan_spelling.specs.Spelling.{HasPlanSpelling};
+    ghost use Rattle.rewrite_core.specs.Entries.{AreSound};
+    ghost use Rattle.cache_index.specs.Asked.{entry, asked};
     ghost use Rattle.catalog_types.specs.declared.change.Change.TheVariants as change;
     ghost use Rattle.catalog_core.specs.Catalogs.{table_of, HasRoom, HasRoomForStream, HasRoomAt};
     ghost use Rattle.catalog_core.specs.Catalogs.{HasRoomForWork, AreSpelled, IsReady};
@@ -165,6 +168,14 @@ impl Catalog {
         ensures { option_copied result ≡ find (λ e. e.id == id) (table_of self.now).entries }
     {
         self.kept.find(id)
+    }
+
+    /// The kept results but those of these ids, for look-ups.
+    pub fn results<'a>(&'a self, left_out: &'a [u32]) -> View<'a>
+        ensures entries { map entry result ≡ asked left_out.now (table_of self.now).entries }
+        ensures sound { AreSound (asked left_out.now (table_of self.now).entries) }
+    {
+        View::new(self.entries(), left_out)
     }
 
     /// The kinds of the columns of each stream. They are kept as streams come, and not made anew.

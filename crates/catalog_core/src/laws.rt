@@ -1,9 +1,19 @@
-//! Laws of changes.
-ghost use Rattle.std.specs.Prelude.{◌≡◌, ◌<◌, [], Option};
+//! Laws of changes, and of the files of a table.
+ghost use Rattle.std.specs.Prelude.{◌≡◌, ◌<◌, ℕ, List, [], Option, length, slice_index};
+ghost use Rattle.std.specs.List.{Contains};
+ghost use Rattle.rows_core.specs.declared.cut.Cut.{Cut};
+ghost use Rattle.plan_core.specs.PlainPlan.{PlainPlan, leaves};
+ghost use Rattle.estimator.specs.Bytes.{IsCutOf, lengths_at};
+ghost use Rattle.rewrite_core.specs.Entries.{Entry, AreSound};
+ghost use Rattle.rewrite_core.specs.Files.{Extent, Result};
+ghost use Rattle.catalog_types.specs.PlainEntry.{PlainEntry};
 ghost use Rattle.catalog_types.specs.declared.change.Change.{Change};
 ghost use Rattle.catalog_types.specs.declared.change.Change.TheVariants as change;
 ghost use Rattle.catalog_types.specs.declared.program.Program.{Program};
+ghost use Rattle.cache_index.specs.Asked.{asked};
 ghost use Rattle.catalog_core.specs.IsTable.{IsTable};
+ghost use Rattle.catalog_core.specs.Named.{lengths_of, HasFile, file_at, machine_at};
+ghost use Rattle.catalog_core.specs.Programs.{extents_at, AreCuts};
 ghost use Rattle.catalog_core.specs.Table.{Table, empty_table, most_ticks, Fits, FitsProgram, after};
 ghost use Rattle.catalog_core.specs.Table.{with_programs, with_stored, with_tick};
 
@@ -20,4 +30,28 @@ pub fn idle_work()
         ≡ with_programs (with_stored program t.programs) (with_tick t) }
     ensures fits { (program : Option Program) (t : Table) → IsTable t → t.tick < most_ticks
         → FitsProgram program t → Fits (change.Work program [] [] []) t }
+{}
+
+/// The kept results of a table are sound for look-ups. The file of each one is there, and has the length that
+/// look-ups tell.
+pub fn kept_results_of_tables()
+    ensures sound { (t : Table) (left_out : List ℕ) → IsTable t → AreSound (asked left_out t.entries) }
+    ensures there { (t : Table) (left_out : List ℕ) (e : Entry) → Contains (asked left_out t.entries) e
+        → HasFile t (Result e.id) }
+    ensures len { (t : Table) (left_out : List ℕ) (e : Entry) → IsTable t
+        → Contains (asked left_out t.entries) e → (file_at t (Result e.id)).len ≡ e.len }
+    ensures found { (t : Table) (e : PlainEntry) → IsTable t → Contains t.entries e
+        → (file_at t (Result e.id) ≡ e.file) × (machine_at t e.id ≡ e.machine) }
+{}
+
+/// Cuts over the streams of a table are cuts of the lengths of their extents, and an extent's length is that of
+/// its file.
+pub fn cuts_of_tables()
+    ensures cuts { (t : Table) (plan : PlainPlan) (cuts : List Cut) → AreCuts t.streams (leaves plan) cuts
+        → IsCutOf (lengths_of t.streams) plan cuts }
+    ensures counts { (t : Table) (stream : ℕ)
+        → length (lengths_at (lengths_of t.streams) stream) ≡ length (extents_at t.streams stream) }
+    ensures len { (t : Table) (stream number : ℕ) → HasFile t (Extent stream number)
+        → slice_index (lengths_at (lengths_of t.streams) stream) number
+        ≡ (file_at t (Extent stream number)).len }
 {}

@@ -4,6 +4,8 @@
 pub mod catalog;
 mod chains;
 mod columns;
+mod extents;
+mod files;
 pub mod laws;
 mod program;
 mod programs;
@@ -14,6 +16,6 @@ mod snapshot;
 pub mod stream;
 
 pub use catalog::Catalog;
-pub use laws::{idle_work, tables_stay_tables};
+pub use laws::{cuts_of_tables, idle_work, kept_results_of_tables, tables_stay_tables};
 pub use refusal::CatalogRefusal;
 pub use stream::CatalogStream;

@@ -9,6 +9,7 @@ ghost use Rattle.catalog_core.specs.Programs.{names_of, columns_of, kinds_of_str
 ghost use Rattle.catalog_core.specs.Programs.{IsCanonical, IsPlanOf, IsCut, AreCuts, IsProgram};
 ghost use Rattle.catalog_core.specs.Streams.{states_of};
 
+use crate::extents::extents_at;
 use crate::stream::CatalogStream;
 use catalog_types::Program;
 use plan_core::{Plan, PlanRefusal, Schemas, Typed, type_plan};
@@ -177,8 +178,5 @@ fn is_cut(streams: &[CatalogStream], leaf: u32, cut: &Cut) -> bool
 fn extent_count_at(streams: &[CatalogStream], stream: u32) -> usize
     ensures { result ≡ length (extents_at (states_of streams.now) stream) }
 {
-    match streams.get(stream as usize) {
-        Some(stream) => stream.extents().len(),
-        None => 0,
-    }
+    extents_at(streams, stream).len()
 }
