@@ -49,7 +49,7 @@ module _ (places : FileName → FileRef) (all names : List FileName) (name : Fil
     ends_of : (e : ReadRefusal) → IsShapeOf schemas pieces name shape → HasCause (places name) half new e → FoundIn shape (places name) (first_bytes (files (places name).file)) half new e
         → EndsOver (sources tells files places machines schemas) pieces all e
     ends_of read.Fault is cause found = tt
-    ends_of (read.Damaged number kept digest) is cause found = (name, (among, cause.0), found.0)
+    ends_of (read.Damaged number kept digest) is cause found = (name, (among, cause.0), cause.1, found.0)
     ends_of (read.Unreadable number place) is cause found = (name, shape, (among, cause.0), is, found.0, found.1)
     ends_of read.Memory is cause found = tt
 

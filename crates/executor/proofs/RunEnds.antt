@@ -7,18 +7,22 @@ use Rattle.kept_files.specs.declared.refusal.ReadRefusal.{ReadRefusal}
 use Rattle.kept_files.specs.declared.refusal.ReadRefusal.TheVariants as read
 use Rattle.result_ops.specs.declared.refusal.MakeRefusal.{MakeRefusal}
 use Rattle.result_ops.specs.declared.refusal.MakeRefusal.TheVariants as made
+use Rattle.plan_core.specs.Columns.{Rows}
 use Rattle.plan_core.specs.PlainPlan.{leaf_count}
+use Rattle.plan_core.specs.PlanTyping.{Kinds}
+use Rattle.result_ops.specs.Fitting.{FitRows}
 use Rattle.rewrite_core.specs.Files.{FileName, files_of}
 use Rattle.rewrite_core.specs.PlainRewriting.{PlainRewriting}
 use Rattle.growth_laws.specs.KeptResults.{KeptResults}
 use Rattle.growth_laws.specs.Lists.{Extents}
 use Rattle.growth_laws.specs.Parts.{plan_at, cuts_at}
 use Rattle.growth_laws.specs.Pieces.{Piece, pieces_of}
-use Rattle.executor.specs.Outcomes.{AreReadAs, Finishes}
+use Rattle.executor.specs.Outcomes.{AreReadAs, Finishes, AreKeptFrom}
 use Rattle.executor.specs.Progress.{left_in, ArePartsOf, HaveRead}
 use Rattle.executor.specs.Running.{EndsBy, EndsOver, HaveTaken, ReadsOn}
 use Rattle.executor.specs.Runs.{of_reading, of_making, HasRunCause, IsRunFound, Ends, Runs}
 use Rattle.executor.specs.Sources.{Sources, HoldFiles}
+use Rattle.executor.specs.declared.outcome.KeptPlace.{KeptPlace}
 use Rattle.executor.specs.declared.outcome.Outcome.{Outcome}
 use Rattle.executor.specs.declared.part.Part.{Part}
 
@@ -61,6 +65,12 @@ module _ (extents : Extents) (results : KeptResults) (r : PlainRewriting) (old n
 -- the same of a rewriting that is seen as another one
 pub finishes_as : (extents : Extents) (results : KeptResults) (a b : PlainRewriting) (result : Result Outcome MakeRefusal) → a ≡ b → Finishes extents results a result → Finishes extents results b result
 finishes_as extents results a b result same is = subst (λ (r : PlainRewriting). Finishes extents results r result) same is
+
+pub kinds_as : (schemas : List Kinds) (a b : PlainRewriting) (rows : Rows) → a ≡ b → FitRows schemas rows (plan_at a) → FitRows schemas rows (plan_at b)
+kinds_as schemas a b rows same is = subst (λ (r : PlainRewriting). FitRows schemas rows (plan_at r)) same is
+
+pub kept_from_as : (a b : PlainRewriting) (kept : List KeptPlace) → a ≡ b → AreKeptFrom a kept → AreKeptFrom b kept
+kept_from_as a b kept same is = subst (λ (r : PlainRewriting). AreKeptFrom r kept) same is
 
 -- ---- all files were read
 

@@ -1,5 +1,5 @@
 -- What a job comes to: the plan's rows, and what is kept of each result that was made on the way.
-use Rattle.std.specs.Prelude.{◌≡◌, ℕ, ◌+◌, ◌≤◌, min, List, [], ◌∷◌, ◌++◌, length, Option, None, Some, Result, Ok, Err, Contains}
+use Rattle.std.specs.Prelude.{◌≡◌, ◌⊎◌, ℕ, ◌+◌, ◌<◌, ◌≤◌, min, List, [], ◌∷◌, ◌++◌, length, Option, None, Some, Result, Ok, Err, Contains}
 use Rattle.std.specs.List.{AllByRecursion}
 use Rattle.scalar_ops.specs.Meaning.{overflow}
 use Rattle.row_blob.specs.Kept.{AreEach}
@@ -55,13 +55,25 @@ abbrev pub FindsAt : List MadePlace → Place → Option MadePlace → Type 0
 FindsAt mades at (Some made) = Contains mades made × IsMadeAt at made
 FindsAt mades at None = (made : MadePlace) → Contains mades made → IsMadeAt at made → ⊥
 
--- where one was made at the place, what is kept of one comes behind the others
+-- what is kept of one that was made at the place comes behind the others
+abbrev pub ComesBehind : List MadePlace → Place → List KeptPlace → List KeptPlace → Type 0
+ComesBehind mades at before after = (kept : KeptPlace) × (after ≡ before ++ kept ∷ []) × KeepsAt mades at kept
+
+-- so where one was made at the place; where none was, the others stay
 abbrev pub PutsKept : List MadePlace → Place → List KeptPlace → List KeptPlace → Type 0
-PutsKept mades at before after = IsAnyMadeAt mades at → (kept : KeptPlace) × (after ≡ before ++ kept ∷ []) × KeepsAt mades at kept
+PutsKept mades at before after = ComesBehind mades at before after ⊎ ((after ≡ before) × (IsAnyMadeAt mades at → ⊥))
 
 -- at each place, where one was made at each
 abbrev pub KeepEach : List MadePlace → List Place → List KeptPlace → Type 0
 KeepEach mades places kept = AllByRecursion (IsAnyMadeAt mades) places → AreEach (KeepsAt mades) places kept
+
+-- it is kept of one of these places, with a machine time within the limit
+abbrev pub IsKeptFrom : List Place → KeptPlace → Type 0
+IsKeptFrom places kept = Contains places (place (plan_of kept.plan) kept.cuts) × (0 < kept.machine) × (kept.machine ≤ limit)
+
+-- each is kept of a place at which the rewriting makes a result
+abbrev pub AreKeptFrom : PlainRewriting → List KeptPlace → Type 0
+AreKeptFrom r = AllByRecursion (IsKeptFrom (made_places (plan_at r) (cuts_at r) r))
 
 -- it is what is kept of its plan's result at its cut, with a machine time within the limit
 abbrev pub IsResultAt : Extents → MadePlace → Type 0

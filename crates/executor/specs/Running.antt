@@ -80,7 +80,7 @@ bytes_of from name = take (from.places name).len (from.files (from.places name).
 abbrev pub EndsOver : Sources → List Piece → List FileName → ReadRefusal → Type 0
 EndsOver from pieces names read.Fault = ⊤
 EndsOver from pieces names (read.Damaged file kept found) =
-    (name : FileName) × IsFileAmong from.places names file name × (found ≡ digest_of (bytes_of from name))
+    (name : FileName) × IsFileAmong from.places names file name × (kept ≡ (from.places name).digest) × (found ≡ digest_of (bytes_of from name))
 EndsOver from pieces names (read.Unreadable file at) =
     (name : FileName) × (shape : Shape) × IsFileAmong from.places names file name × IsShapeOf from.schemas pieces name shape
     × (digest_of (bytes_of from name) ≡ (from.places name).digest) × SpellsNone shape (bytes_of from name) at

@@ -7,11 +7,12 @@ ghost use Rattle.growth_laws.specs.Lists.{Extents};
 ghost use Rattle.growth_laws.specs.Pieces.{pieces_of};
 ghost use Rattle.growth_laws.specs.Trees.{made_by};
 ghost use Rattle.rewrite_core.specs.PlainRewriting.{rewriting_of};
+ghost use Rattle.result_ops.specs.Fitting.{FitRows};
 ghost use Rattle.result_ops.specs.Steps.{Makes};
 ghost use Rattle.evaluation.specs.Parts.{IsFormed};
 ghost use Rattle.evaluation.specs.Passing.{Passes};
 ghost use Rattle.executor.specs.Loads.{load_of_rows, load_of_part};
-ghost use Rattle.executor.specs.Outcomes.{AreReadAs, Finishes};
+ghost use Rattle.executor.specs.Outcomes.{AreReadAs, Finishes, AreKeptFrom};
 ghost use Rattle.executor.specs.Progress.{files_left, left_in, ArePartsOf};
 
 use crate::copying::copied_pieces;
@@ -63,16 +64,22 @@ fn evaluated(alloc: Global, rewriting: &Rewriting, parts: Vec<Part>) -> Result<M
 /// for them. Where what was read is what these extents and kept results are, the rows are those that the
 /// definitions give of them; over sound results they are the plan's, with a machine time within the limit,
 /// and what is kept is that of each place that the rewriting makes. `Overflow` comes only where the rows are
-/// an overflow, and `Machine`, over sound results, only where the machine time is above its limit. The job
-/// stays.
+/// an overflow, and `Machine`, over sound results, only where the machine time is above its limit. Whatever
+/// was read, the rows have the kinds of the plan's columns, and what is kept is of places at which the
+/// rewriting makes a result. The job stays.
 pub fn finish(alloc: Global, job: &Job) -> Result<Outcome, MakeRefusal>
     requires left { left_in job.now.parts.items ≡ [] }
     requires formed { IsFormed (rewriting_of job.now.rewriting) }
     requires parts { (schemas : List Kinds) × IsSome (plan_kinds schemas (plan_of job.now.rewriting.plan))
         × ArePartsOf schemas (pieces_of (rewriting_of job.now.rewriting)) job.now.parts.items }
-    ensures { (schemas : List Kinds) (extents : Extents) (results : KeptResults)
+    ensures finishes { (schemas : List Kinds) (extents : Extents) (results : KeptResults)
         → AreReadAs schemas extents results (rewriting_of job.now.rewriting) job.now.parts.items
         → Finishes extents results (rewriting_of job.now.rewriting) result }
+    ensures kinds { (schemas : List Kinds) → IsSome (plan_kinds schemas (plan_of job.now.rewriting.plan))
+        → ArePartsOf schemas (pieces_of (rewriting_of job.now.rewriting)) job.now.parts.items
+        → IfOk result (λ outcome. FitRows schemas outcome.rows.items (plan_of job.now.rewriting.plan)) }
+    ensures places { IfOk result (λ outcome. AreKeptFrom (rewriting_of job.now.rewriting)
+        outcome.made.items) }
 {
     let pieces = copied_pieces(alloc, job.parts.as_slice())?;
     outcome_of(alloc, &job.rewriting, pieces)
@@ -84,9 +91,14 @@ pub fn into_outcome(alloc: Global, job: Job) -> Result<Outcome, MakeRefusal>
     requires formed { IsFormed (rewriting_of job.rewriting) }
     requires parts { (schemas : List Kinds) × IsSome (plan_kinds schemas (plan_of job.rewriting.plan))
         × ArePartsOf schemas (pieces_of (rewriting_of job.rewriting)) job.parts.items }
-    ensures { (schemas : List Kinds) (extents : Extents) (results : KeptResults)
+    ensures finishes { (schemas : List Kinds) (extents : Extents) (results : KeptResults)
         → AreReadAs schemas extents results (rewriting_of job.rewriting) job.parts.items
         → Finishes extents results (rewriting_of job.rewriting) result }
+    ensures kinds { (schemas : List Kinds) → IsSome (plan_kinds schemas (plan_of job.rewriting.plan))
+        → ArePartsOf schemas (pieces_of (rewriting_of job.rewriting)) job.parts.items
+        → IfOk result (λ outcome. FitRows schemas outcome.rows.items (plan_of job.rewriting.plan)) }
+    ensures places { IfOk result (λ outcome. AreKeptFrom (rewriting_of job.rewriting)
+        outcome.made.items) }
 {
     let Job { rewriting, parts } = job;
     let pieces = loaded_pieces(alloc, parts)?;

@@ -1,5 +1,6 @@
 //! What is kept of the results that were made.
 ghost use Rattle.std.specs.Prelude.{◌≡◌, ◌↔◌, ◌+◌, ◌∷◌, min, IsTrue, IfOk};
+ghost use Rattle.std.specs.List.{AllByRecursion};
 ghost use Rattle.std.specs.Option.{option_map};
 ghost use Rattle.plan_core.specs.PlainPlan.{plan_of};
 ghost use Rattle.growth_laws.specs.MadePlaces.{place, made_places};
@@ -7,7 +8,8 @@ ghost use Rattle.made_places.specs.Formed.{IsFormed};
 ghost use Rattle.made_places.specs.Picking.{place_of, places_said};
 ghost use Rattle.result_ops.specs.Bounds.{limit};
 ghost use Rattle.rewrite_core.specs.PlainRewriting.{rewriting_of};
-ghost use Rattle.executor.specs.Outcomes.{IsMadeAt, IsKeptOf, KeepEach, FindsAt, PutsKept};
+ghost use Rattle.executor.specs.Outcomes.{IsMadeAt, IsKeptOf, KeepEach, FindsAt, PutsKept, IsKeptFrom};
+ghost use Rattle.executor.specs.Outcomes.{AreKeptFrom};
 
 use crate::outcome::KeptPlace;
 use estimator::are_same_cuts;
@@ -21,7 +23,8 @@ use std::alloc::Global;
 const LIMIT: u64 = 4_294_967_295;
 
 /// What is kept at each place that the rewriting makes, where a result of the place's plan was made at its
-/// cut: `own` is the rewriting's own result, and `found` are those below it.
+/// cut: `own` is the rewriting's own result, and `found` are those below it. Whatever these are, only what was
+/// made at such a place is kept, with a machine time.
 pub(crate) fn kept_places(
     alloc: Global,
     rewriting: &Rewriting,
@@ -29,9 +32,10 @@ pub(crate) fn kept_places(
     found: &[MadePlace],
 ) -> Result<Vec<KeptPlace>, Memory>
     requires { IsFormed (rewriting_of rewriting.now) }
-    ensures { IfOk result (λ kept. KeepEach (own.now ∷ found.now)
+    ensures each { IfOk result (λ kept. KeepEach (own.now ∷ found.now)
         (made_places (plan_of rewriting.now.plan) rewriting.now.cuts (rewriting_of rewriting.now))
         kept.items) }
+    ensures places { IfOk result (λ kept. AreKeptFrom (rewriting_of rewriting.now) kept.items) }
 {
     let places = made_places(alloc, rewriting)?;
     kept_at_each(alloc, places, own, found)
@@ -44,8 +48,10 @@ fn kept_at_each(
     own: &MadePlace,
     found: &[MadePlace],
 ) -> Result<Vec<KeptPlace>, Memory>
-    ensures { IfOk result
+    ensures each { IfOk result
         (λ kept. KeepEach (own.now ∷ found.now) (places_said places.items) kept.items) }
+    ensures places { IfOk result
+        (λ kept. AllByRecursion (IsKeptFrom (places_said places.items)) kept.items) }
 {
     let mut kept = Vec::new(alloc);
     for place in places {
@@ -54,7 +60,7 @@ fn kept_at_each(
     Ok(kept)
 }
 
-// What is kept of what was made at the place comes behind the others.
+// What is kept of what was made at the place comes behind the others, which stay where nothing was made.
 fn put_kept(
     alloc: Global,
     place: Place,
@@ -65,9 +71,10 @@ fn put_kept(
     ensures { IfOk result (λ _. PutsKept (own.now ∷ found.now) (place_of place) kept.old.items
         kept.new.items) }
 {
-    if let Some(made) = made_at(own, found, &place.plan, place.cuts.items()) {
-        kept.push(kept_of(alloc, place, made)?)?;
-    }
+    let Some(made) = made_at(own, found, &place.plan, place.cuts.items()) else {
+        return Ok(());
+    };
+    kept.push(kept_of(alloc, place, made)?)?;
     Ok(())
 }
 

@@ -10,8 +10,9 @@ ghost use Rattle.growth_laws.specs.Pieces.{pieces_of};
 ghost use Rattle.rewrite_core.specs.PlainRewriting.{rewriting_of};
 ghost use Rattle.result_ops.specs.Bounds.{IsBounded};
 ghost use Rattle.evaluation.specs.Loading.{HoldAll, AreFit};
+ghost use Rattle.result_ops.specs.Fitting.{IsFit, FitRows};
 ghost use Rattle.evaluation.specs.Parts.{IsFormed};
-ghost use Rattle.executor.specs.Outcomes.{IsMadeAt, ComesTo, Finishes};
+ghost use Rattle.executor.specs.Outcomes.{IsMadeAt, ComesTo, Finishes, AreKeptFrom};
 
 use crate::keeping::kept_places;
 use crate::made_laws::made_results_are_results;
@@ -23,7 +24,8 @@ use rewrite_core::Rewriting;
 use rows_core::Memory;
 use std::alloc::Global;
 
-/// What a rewriting comes to, of its loaded pieces.
+/// What a rewriting comes to, of its loaded pieces. Whatever these are of, the rows have the kinds of the
+/// plan's columns, and what is kept is of places at which the rewriting makes a result.
 pub(crate) fn outcome_of(
     alloc: Global,
     rewriting: &Rewriting,
@@ -32,9 +34,14 @@ pub(crate) fn outcome_of(
     requires formed { IsFormed (rewriting_of rewriting.now) }
     requires fit { (schemas : List Kinds) × IsSome (plan_kinds schemas (plan_of rewriting.now.plan))
         × AreFit schemas (pieces_of (rewriting_of rewriting.now)) pieces.items }
-    ensures { (extents : Extents) (results : KeptResults)
+    ensures finishes { (extents : Extents) (results : KeptResults)
         → HoldAll extents results (pieces_of (rewriting_of rewriting.now)) pieces.items
         → Finishes extents results (rewriting_of rewriting.now) result }
+    ensures kinds { (schemas : List Kinds) → IsSome (plan_kinds schemas (plan_of rewriting.now.plan))
+        → AreFit schemas (pieces_of (rewriting_of rewriting.now)) pieces.items
+        → IfOk result (λ outcome. FitRows schemas outcome.rows.items (plan_of rewriting.now.plan)) }
+    ensures places { IfOk result (λ outcome. AreKeptFrom (rewriting_of rewriting.now)
+        outcome.made.items) }
 {
     results_of_rewritings();
     made_results_are_results();
@@ -53,7 +60,11 @@ fn outcome_of_made(
     requires formed { IsFormed (rewriting_of rewriting.now) }
     requires form { IsFormOf (plan_of rewriting.now.plan) made.kept }
     requires bounded { IsBounded (plan_of rewriting.now.plan) made.kept }
-    ensures { ComesTo (rewriting_of rewriting.now) made found.now result }
+    ensures comes { ComesTo (rewriting_of rewriting.now) made found.now result }
+    ensures kinds { (schemas : List Kinds) → IsFit schemas (plan_of rewriting.now.plan) made.kept
+        → IfOk result (λ outcome. FitRows schemas outcome.rows.items (plan_of rewriting.now.plan)) }
+    ensures places { IfOk result (λ outcome. AreKeptFrom (rewriting_of rewriting.now)
+        outcome.made.items) }
 {
     let own = own_place(alloc, rewriting, made)?;
     let kept = kept_places(alloc, rewriting, &own, found)?;

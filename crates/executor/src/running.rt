@@ -1,5 +1,5 @@
 //! Running a rewriting: its files are read, and its outcome is made.
-ghost use Rattle.std.specs.Prelude.{◌≡◌, length, IsTrue, IfErr, OnOk};
+ghost use Rattle.std.specs.Prelude.{◌≡◌, length, IsTrue, IfOk, IfErr, OnOk};
 ghost use Rattle.std.specs.List.{AllByRecursion};
 ghost use Rattle.plan_core.specs.PlainPlan.{plan_of, leaf_count};
 ghost use Rattle.outside_traits.specs.View.{View, Counts};
@@ -10,7 +10,9 @@ ghost use Rattle.rewriting_pieces.specs.Pieces.{HasTyping};
 ghost use Rattle.growth_laws.specs.KeptResults.{KeptResults};
 ghost use Rattle.growth_laws.specs.Lists.{Extents};
 ghost use Rattle.growth_laws.specs.Pieces.{pieces_of};
+ghost use Rattle.result_ops.specs.Fitting.{FitRows};
 ghost use Rattle.evaluation.specs.Parts.{IsFormed};
+ghost use Rattle.executor.specs.Outcomes.{AreKeptFrom};
 ghost use Rattle.executor.specs.Running.{TookAtMost, kept_bytes};
 ghost use Rattle.executor.specs.Runs.{HasRunCause, IsRunFound, Runs};
 ghost use Rattle.executor.specs.Sources.{sources, HoldFiles};
@@ -26,8 +28,10 @@ use std::alloc::Global;
 
 /// Reads the files that a rewriting names, each as often as it is named, and makes its outcome. Where the
 /// files hold these extents and kept results, the outcome is what finishing gives of them, and the bytes of
-/// what they hold are taken. `Overflow` and `Machine` come as in finishing, `Fault` only where the store
-/// failed in this call, and `Damaged` and `Unreadable` by the bytes of one of the files.
+/// what they hold are taken. Whatever the files hold, the rows have the kinds of the plan's columns, and what
+/// is kept is of places at which the rewriting makes a result. `Overflow` and `Machine` come as in finishing,
+/// `Fault` only where the store failed in this call, and `Damaged` and `Unreadable` by the bytes of one of the
+/// files.
 pub fn run<D: Store, P: Places>(
     alloc: Global,
     rewriting: Rewriting,
@@ -42,6 +46,9 @@ pub fn run<D: Store, P: Places>(
         ((D.view store.old).files) (P.files places.now) (P.machines places.now) (P.stream_kinds places.now))
         extents results (pieces_of (rewriting_of rewriting))
         → Runs extents results (rewriting_of rewriting) (D.counts store.old) (D.counts store.new) result }
+    ensures kinds { IfOk result (λ outcome. FitRows (P.stream_kinds places.now) outcome.rows.items
+        (plan_of rewriting.plan)) }
+    ensures places { IfOk result (λ outcome. AreKeptFrom (rewriting_of rewriting) outcome.made.items) }
     ensures most { IsTrue D.tells
         → TookAtMost (kept_bytes (P.files places.now) (files_of (rewriting_of rewriting)))
         (D.counts store.old) (D.counts store.new) }

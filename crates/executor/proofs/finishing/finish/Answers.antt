@@ -16,9 +16,16 @@ outcome_of-requires-clause-fit c =
           (are_fit parts.0 (pieces_of (rewriting_of c.args.job.now.rewriting)) c.args.job.now.parts.items parts.2),
     )
 
-pub returns : goal.returns
-returns c =
+pub returns-clause-finishes : goal.returns-clause-finishes
+returns-clause-finishes c =
     λ schemas extents results are.
-    c.outcome_of.ensures extents results
+    c.outcome_of.ensures.finishes extents results
     (subst (λ (loads : Loads). HoldAll extents results (pieces_of (rewriting_of c.args.job.now.rewriting)) loads) (sym (c.in_ok-pieces.ensures ∙ ap (map load_of_part) c.as_slice.ensures.value))
     (hold_read schemas extents results (rewriting_of c.args.job.now.rewriting) c.args.job.now.parts.items c.requires.left c.requires.formed are))
+
+pub returns-clause-kinds : goal.returns-clause-kinds
+returns-clause-kinds c =
+    λ schemas typed are.
+    c.outcome_of.ensures.kinds schemas typed
+    (subst (λ (loads : Loads). AreFit schemas (pieces_of (rewriting_of c.args.job.now.rewriting)) loads) (sym (c.in_ok-pieces.ensures ∙ ap (map load_of_part) c.as_slice.ensures.value))
+    (are_fit schemas (pieces_of (rewriting_of c.args.job.now.rewriting)) c.args.job.now.parts.items are))

@@ -13,7 +13,7 @@ use Rattle.executor.specs.Outcomes.{AreReadAs}
 use Rattle.executor.specs.Progress.{ArePartsOf}
 use Rattle.executor.specs.Running.{EndsOver}
 use Rattle.executor.specs.Sources.{sources}
-use Rattle.executor.proofs.RunEnds.{read_found, made_runs, finishes_as, all_read}
+use Rattle.executor.proofs.RunEnds.{read_found, made_runs, finishes_as, kinds_as, kept_from_as, all_read}
 use Rattle.executor.proofs.running.run.Goals as goal
 
 pub read_rest-requires-clause-parts : goal.read_rest-requires-clause-parts
@@ -46,7 +46,7 @@ returns-in_err-into_outcome-clause-outcome g c = λ (extents : Extents) (results
     let all = all_read _ (rewriting_of c.args.rewriting) _ _ _ _ c.in_ok-read_rest.ensures.read c.in_ok-read_rest.ensures.left c.in_ok-job.ensures.left extents results hold
     (c.in_ok-job.ensures.parts kinds c.requires.typed) (c.in_ok-job.ensures.read kinds extents results c.requires.typed) c.requires.cuts in
     let there = subst (λ (r : PlainRewriting). AreReadAs kinds extents results r c.read_rest.new.job.parts.items) (sym same) all.0 in
-    let finishes = finishes_as extents results (rewriting_of c.read_rest.new.job.rewriting) (rewriting_of c.args.rewriting) _ same (c.in_err-into_outcome.ensures kinds extents results there) in
+    let finishes = finishes_as extents results (rewriting_of c.read_rest.new.job.rewriting) (rewriting_of c.args.rewriting) _ same (c.in_err-into_outcome.ensures.finishes kinds extents results there) in
     rw (p.1, p.2) (made_runs extents results (rewriting_of c.args.rewriting) _ _ c.in_err-into_outcome.field-0.0 (finishes, all.1))
 
 pub returns-clause-outcome : goal.returns-clause-outcome
@@ -56,4 +56,18 @@ returns-clause-outcome g c = λ (extents : Extents) (results : KeptResults) hold
     let all = all_read _ (rewriting_of c.args.rewriting) _ _ _ _ c.in_ok-read_rest.ensures.read c.in_ok-read_rest.ensures.left c.in_ok-job.ensures.left extents results hold
     (c.in_ok-job.ensures.parts kinds c.requires.typed) (c.in_ok-job.ensures.read kinds extents results c.requires.typed) c.requires.cuts in
     let there = subst (λ (r : PlainRewriting). AreReadAs kinds extents results r c.read_rest.new.job.parts.items) (sym same) all.0 in
-    (finishes_as extents results (rewriting_of c.read_rest.new.job.rewriting) (rewriting_of c.args.rewriting) _ same (c.in_ok-into_outcome.ensures kinds extents results there), all.1)
+    (finishes_as extents results (rewriting_of c.read_rest.new.job.rewriting) (rewriting_of c.args.rewriting) _ same (c.in_ok-into_outcome.ensures.finishes kinds extents results there), all.1)
+
+pub returns-clause-kinds : goal.returns-clause-kinds
+returns-clause-kinds g c =
+    let kinds = g.P.Places.stream_kinds c.args.places.now in
+    let same : rewriting_of c.read_rest.new.job.rewriting ≡ rewriting_of c.args.rewriting = ap rewriting_of c.in_ok-read_rest.ensures.rewriting ∙ c.in_ok-job.ensures.rewriting in
+    let typed = subst (λ (p : PlainPlan). IsSome (plan_kinds kinds p)) (sym (ap plan_at same)) (kinds_there kinds (plan_of c.args.rewriting.plan) c.requires.typed) in
+    let are = subst (λ (r : PlainRewriting). ArePartsOf kinds (pieces_of r) c.read_rest.new.job.parts.items) (sym same)
+    (c.in_ok-read_rest.ensures.read.parts (pieces_of (rewriting_of c.args.rewriting)) (c.in_ok-job.ensures.parts kinds c.requires.typed)) in
+    kinds_as kinds (rewriting_of c.read_rest.new.job.rewriting) (rewriting_of c.args.rewriting) _ same (c.in_ok-into_outcome.ensures.kinds kinds typed are)
+
+pub returns-clause-places : goal.returns-clause-places
+returns-clause-places g c =
+    let same : rewriting_of c.read_rest.new.job.rewriting ≡ rewriting_of c.args.rewriting = ap rewriting_of c.in_ok-read_rest.ensures.rewriting ∙ c.in_ok-job.ensures.rewriting in
+    kept_from_as (rewriting_of c.read_rest.new.job.rewriting) (rewriting_of c.args.rewriting) _ same c.in_ok-into_outcome.ensures.places

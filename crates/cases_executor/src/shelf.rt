@@ -1,0 +1,183 @@
+//! Files in memory, of extents and of kept results.
+ghost use Rattle.std.specs.Prelude.{◌≡◌};
+ghost use Rattle.cases_executor.specs.Filed.{extents_at, kept_at, file_of, HasFile};
+
+use crate::given::Case;
+use anyhow::{Context, Result, bail};
+use executor::KeptPlace;
+use extent_files::write_file;
+use mem_outside::MemStore;
+use plan_core::Schemas;
+use result_list::{ExtentLens, ListedResult, ResultList};
+use rewrite_core::{Lookup, Places};
+use row_blob::{Kept, encode, encoded_len};
+use rows_core::{FileRef, Kind, Row, Seq, copy_rows};
+use std::alloc::Global;
+
+/// The file of a kept result, and its machine time.
+#[derive(Clone, Copy)]
+pub struct KeptFile {
+    pub at: FileRef,
+    pub machine: u32,
+}
+
+/// The kinds of the streams, where the files of their extents stand and how long these are, and the kept
+/// results, whose ids count up from 0.
+#[derive(Drop)]
+pub struct Shelf {
+    pub schemas: Schemas,
+    pub extents: Seq<Seq<FileRef>>,
+    pub lens: ExtentLens,
+    pub results: ResultList,
+    pub kept: Vec<KeptFile>,
+}
+
+impl Places for Shelf {
+    ghost has = { λ shelf. HasFile shelf.extents shelf.kept.items };
+
+    ghost files = { λ shelf. file_of shelf.extents shelf.kept.items };
+
+    ghost machines = { λ shelf id. (kept_at shelf.kept.items id).machine };
+
+    ghost stream_kinds = { λ shelf. shelf.schemas.kinds };
+
+    fn extent(&self, stream: u32, number: u32) -> FileRef {
+        extents_at(self.extents.items(), stream)[number as usize]
+    }
+
+    fn result(&self, id: u32) -> FileRef {
+        self.kept[id as usize].at
+    }
+
+    fn machine(&self, id: u32) -> u32 {
+        self.kept[id as usize].machine
+    }
+
+    fn schemas(&self) -> &Schemas {
+        &self.schemas
+    }
+}
+
+/// The files of a stream's extents.
+pub fn extents_at(extents: &[Seq<FileRef>], stream: u32) -> &[FileRef]
+    ensures { result.now ≡ extents_at extents.now stream }
+{
+    match extents.get(stream as usize) {
+        Some(files) => files.items(),
+        None => &[],
+    }
+}
+
+/// A store in memory, and the number of its next file.
+#[derive(Drop)]
+pub struct Disk {
+    pub store: MemStore,
+    next: u64,
+}
+
+impl Disk {
+    pub fn new(alloc: Global) -> Disk {
+        Disk {
+            store: MemStore::new(alloc, Vec::new(alloc)),
+            next: 0,
+        }
+    }
+
+    /// Writes a file that holds the kept form.
+    fn write(&mut self, alloc: Global, kept: &Kept) -> Result<FileRef> {
+        if encoded_len(kept) == u64::MAX {
+            bail!("too long a file");
+        }
+        let bytes = encode(alloc, kept)?;
+        let file = self.next;
+        self.next = file.checked_add(1).context("too many files")?;
+        let digest = write_file(&mut self.store, file, &bytes)?;
+        Ok(FileRef {
+            file,
+            len: bytes.len() as u64,
+            digest,
+        })
+    }
+}
+
+/// The files of the extents of a case, and of no kept result.
+pub fn shelf_of(alloc: Global, case: &Case, disk: &mut Disk) -> Result<Shelf> {
+    let mut files = Vec::new(alloc);
+    let mut lens = Vec::new(alloc);
+    for extents in case.extents.items() {
+        let (stream_files, stream_lens) = extents_written(alloc, extents.items(), disk)?;
+        files.push(stream_files)?;
+        lens.push(stream_lens)?;
+    }
+    Ok(Shelf {
+        schemas: copied(alloc, &case.schemas)?,
+        extents: Seq::new(files),
+        lens: ExtentLens {
+            lens: Seq::new(lens),
+        },
+        results: ResultList {
+            results: Vec::new(alloc),
+        },
+        kept: Vec::new(alloc),
+    })
+}
+
+fn extents_written(
+    alloc: Global,
+    extents: &[Seq<Row>],
+    disk: &mut Disk,
+) -> Result<(Seq<FileRef>, Seq<u64>)> {
+    let mut files = Vec::new(alloc);
+    let mut lens = Vec::new(alloc);
+    for rows in extents {
+        let rows = Seq::new(copy_rows(alloc, rows.items())?);
+        let at = disk.write(alloc, &Kept::Rows(rows))?;
+        files.push(at)?;
+        lens.push(at.len)?;
+    }
+    Ok((Seq::new(files), Seq::new(lens)))
+}
+
+fn copied(alloc: Global, schemas: &Schemas) -> Result<Schemas> {
+    let mut kinds = Vec::new(alloc);
+    for stream in schemas.kinds.items() {
+        kinds.push(kinds_copied(alloc, stream)?)?;
+    }
+    Ok(Schemas {
+        kinds: Seq::new(kinds),
+    })
+}
+
+fn kinds_copied(alloc: Global, kinds: &Seq<Kind>) -> Result<Seq<Kind>> {
+    Ok(kinds.try_copy(alloc)?)
+}
+
+/// Keeps a result, unless one of its plan and cut is kept. The answer is its id.
+pub fn keep(
+    alloc: Global,
+    kept: KeptPlace,
+    shelf: &mut Shelf,
+    disk: &mut Disk,
+) -> Result<Option<u32>> {
+    let KeptPlace {
+        plan,
+        cuts,
+        kept,
+        machine,
+    } = kept;
+    if shelf.results.whole(alloc, &plan, cuts.items())?.is_some() {
+        return Ok(None);
+    }
+    let at = disk.write(alloc, &kept)?;
+    let id = u32::try_from(shelf.kept.len())
+        .ok()
+        .context("too many results")?;
+    shelf.kept.push(KeptFile { at, machine })?;
+    shelf.results.results.push(ListedResult {
+        id,
+        plan,
+        cuts,
+        len: at.len,
+    })?;
+    Ok(Some(id))
+}
