@@ -1,0 +1,8 @@
+//! The rewriting that a run takes of a plan.
+#![tactic(auto)]
+
+pub mod choosing;
+pub mod laws;
+
+pub use choosing::{Choice, choose};
+pub use laws::{bytes_of_named_files, taken_rewritings};
