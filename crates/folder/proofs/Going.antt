@@ -1,5 +1,5 @@
 -- The loop over bodies: what is replayed of those that are left leads from the table so far.
-use Rattle.std.proofs.Common.{◌≡◌, inl, inr, ℕ, zero, suc, ◌+◌, ◌^◌, ◌<◌, ◌≤◌, Bool, true, false, List, [], ◌∷◌, ◌++◌, length, take, drop, slice_index_or, add-one, refl, sym, ap, ◌∙◌, subst, arith}
+use Rattle.std.proofs.Common.{◌≡◌, inl, inr, ℕ, zero, suc, ◌+◌, ◌^◌, ◌<◌, ◌≤◌, Bool, true, false, List, [], ◌∷◌, ◌++◌, length, take, drop, slice_index_or, add-one, Err, IsErrOf, refl, sym, ap, ◌∙◌, subst, arith}
 use Rattle.std.specs.Prelude.{Vec}
 use Rattle.std.specs.declared.alloc.Global.{Global}
 use Rattle.std.proofs.lemmas.Bool.{false≢true}
@@ -117,3 +117,7 @@ going_due due all i now t going is end = going.stopped 8
     (subst (λ n. StopsReplay now t (gate_at all n) (contents (drop n all)) 8) (sym end)
     (subst (λ l. StopsReplay now t (gate_at all (length all)) l 8) (sym (none_left all))
     (is, sym length-front_empty ∙ ap (λ n. length (front (contents (take n all)))) (sym (going.first is) ∙ end))))
+
+-- an error and what it is an error of
+pub err_same : {T E : Type 0} (x y : E) → IsErrOf {T = T} {E = E} (Err x) y → x ≡ y
+err_same x y is = cc

@@ -1,9 +1,9 @@
 -- The forms that the files of a state hold, and the kept results by their ids.
-use Rattle.std.proofs.Common.{◌≡◌, inl, inr, refl, sym, ap, ◌∙◌, subst, ℕ, zero, suc, ◌<◌, ◌==◌, nat_lt, Bool, true, false, cond, List, [], ◌∷◌, length, slice_get, Option, Some, Ok, unwrap_or, arith}
+use Rattle.std.proofs.Common.{◌≡◌, inl, inr, refl, sym, ap, ◌∙◌, subst, ℕ, zero, suc, ◌<◌, ◌==◌, nat_lt, Bool, true, false, cond, List, [], ◌∷◌, length, take, slice_get, Option, Some, Ok, unwrap_or, arith}
 use Rattle.std.specs.List.{Contains, AllByRecursion, find}
 use Rattle.std.specs.Option.{option_map}
 use Rattle.std.proofs.lemmas.List.{length-map}
-use Rattle.std.proofs.lemmas.Option.{slice_get-map}
+use Rattle.std.proofs.lemmas.Option.{slice_get-map, slice_get_within, get_or_from_slice_get}
 use Rattle.std.proofs.lemmas.Bool.{ltb-true, eqb-true, eq-eqb}
 use Rattle.rows_core.specs.declared.file_ref.FileRef.{FileRef}
 use Rattle.rows_core.specs.Schema.{kinds_of}
@@ -13,6 +13,7 @@ use Rattle.row_blob.specs.declared.kept.Kept.{Kept}
 use Rattle.row_blob.specs.declared.kept.Kept.TheVariants as kept
 use Rattle.row_blob.specs.declared.shape.Shape.{Shape}
 use Rattle.row_blob.specs.declared.shape.Shape.TheVariants as shape
+use Rattle.extent_files.specs.Files.{digest_of}
 use Rattle.plan_core.specs.PlainPlan.{Scan}
 use Rattle.plan_core.specs.PlanTyping.{Kinds}
 use Rattle.plan_laws.specs.KeptForm.{kept_form}
@@ -30,13 +31,20 @@ use Rattle.entry_table.specs.Work.{kept_with}
 use Rattle.entry_table.proofs.Growth.{all-map}
 use Rattle.entry_table.proofs.Places.{both}
 use Rattle.folder.specs.State.{Stream, Extent, State, HasExtent, Names, IsValid, stream_of, states_of, kinds_in, rows_in, extents_in, lists_in, file_bytes}
-use Rattle.folder.specs.Sound.{Care, IsSound}
+use Rattle.folder.specs.Sound.{Care, Shown, Whole, Holds, IsSound}
 use Rattle.folder.specs.Files.{form_of, result_of, no_result, results_in, extent_rows, SpellsOnly, HoldsExtent, HoldsResult}
 use Rattle.folder.proofs.GrownStreams.{all-at, entry-in}
 use Rattle.folder.proofs.NextStates.{Contains-cons_cases}
 use Rattle.folder.proofs.PieceLemmas.{asked-is}
-use Rattle.folder.proofs.ReadLemmas.{holds_read}
-use Rattle.folder.proofs.StreamReading.{slice_has}
+
+-- what stands at a place stands in the list
+pub slice_has : {A : Type 0} (xs : List A) (i : ℕ) (x : A) → slice_get xs i ≡ Some x → Contains xs x
+slice_has xs i x is = (i, slice_get_within xs i x is, get_or_from_slice_get xs i x x is)
+
+-- bytes of the kept digest, read of a file that holds its bytes, are these
+pub holds_read : (care : Care) (at : FileRef) (bytes file read : List ℕ) → Holds care at bytes file → read ≡ take at.len file → digest_of read ≡ at.digest → read ≡ bytes
+holds_read Whole at bytes file read holds is digest = is ∙ holds
+holds_read Shown at bytes file read holds is digest = is ∙ holds (ap digest_of (sym is) ∙ digest)
 
 -- ---- the kept result with an id
 
@@ -81,13 +89,13 @@ kept-results s without valid are x has =
 
 -- ---- extents
 
-rows-there : (s : State) (stream number : ℕ) (x : Stream) (e : Extent) → slice_get s.streams stream ≡ Some x → slice_get x.extents number ≡ Some e → extent_rows s stream number ≡ e.rows
+pub rows-there : (s : State) (stream number : ℕ) (x : Stream) (e : Extent) → slice_get s.streams stream ≡ Some x → slice_get x.extents number ≡ Some e → extent_rows s stream number ≡ e.rows
 rows-there s stream number x e is has =
     let there : slice_get (extents_in s.streams) stream ≡ Some (rows_in x) = slice_get-map rows_in s.streams stream ∙ ap (option_map rows_in) is in
     let at : slice_get (rows_in x) number ≡ Some e.rows = slice_get-map (λ (e : Extent). e.rows) x.extents number ∙ ap (option_map (λ (e : Extent). e.rows)) has in
     ap (λ o. unwrap_or (slice_get (unwrap_or o []) number) []) there ∙ ap (λ o. unwrap_or o []) at
 
-shape-there : (streams : List Stream) (stream : ℕ) (x : Stream) → slice_get streams stream ≡ Some x → plan_shape (kinds_in streams) (Scan stream) ≡ shape.Rows (kinds_of x.columns)
+pub shape-there : (streams : List Stream) (stream : ℕ) (x : Stream) → slice_get streams stream ≡ Some x → plan_shape (kinds_in streams) (Scan stream) ≡ shape.Rows (kinds_of x.columns)
 shape-there streams stream x is =
     let state : slice_get (states_of streams) stream ≡ Some (stream_of x) = slice_get-map stream_of streams stream ∙ ap (option_map stream_of) is in
     let kinds : slice_get (kinds_in streams) stream ≡ Some (kinds_of x.columns) =
@@ -99,7 +107,7 @@ got [] n low = absurd (omega (arith, low))
 got (x ∷ xs) zero low = (x, refl)
 got (x ∷ xs) (suc n) low = got xs n (omega (arith, low))
 
-extent-at : (streams : List Stream) (place number : ℕ) → number < length (extents_of (extents_in streams) place)
+pub extent-at : (streams : List Stream) (place number : ℕ) → number < length (extents_of (extents_in streams) place)
     → (x : Stream) × (e : Extent) × (slice_get streams place ≡ Some x) × (slice_get x.extents number ≡ Some e)
 extent-at [] place number low = absurd (omega (arith, low))
 extent-at (x ∷ xs) zero number low =

@@ -13,10 +13,7 @@ pub mod ValidLists
 pub mod Steps
 pub mod LoadLemmas
 pub mod Recording
-pub mod ReadLemmas
 pub mod Going
 pub mod Writing
-pub mod ReadRefusals
-pub mod RowsSpelled
-pub mod StreamReading
+pub mod FilesWritten
 pub mod Unread

@@ -1,9 +1,9 @@
 -- The rows of a valid state, as the laws of plans and of growth ask for them.
-use Rattle.std.proofs.Common.{◌≡◌, ℕ, zero, suc, ◌-◌, ◌≤◌, Bool, true, false, cond, List, [], ◌∷◌, ◌++◌, map, take, drop, slice_get, Some, IfSome, arith}
+use Rattle.std.proofs.Common.{◌≡◌, ℕ, zero, suc, ◌-◌, ◌≤◌, Bool, true, false, cond, List, [], ◌∷◌, ◌++◌, map, take, drop, slice_get, Some, IfSome, refl, ap, ◌∙◌, arith}
 use Rattle.std.specs.List.{Contains, AllByRecursion, find, flat_map}
 use Rattle.std.specs.Option.{option_map}
 use Rattle.std.specs.Prelude.{unwrap_or, ◌==◌}
-use Rattle.std.proofs.lemmas.List.Elements.{All-append, All-nil}
+use Rattle.std.proofs.lemmas.List.Elements.{All-append, All-nil, All-from_recursion}
 use Rattle.rows_core.specs.declared.cut.Cut.{Cut}
 use Rattle.rows_core.specs.declared.kind.Kind.{Kind}
 use Rattle.rows_core.specs.declared.kind.Kind.TheVariants as the_kind
@@ -26,7 +26,6 @@ use Rattle.catalog_core.specs.Programs.{AreCuts}
 use Rattle.folder.specs.State.{Extent, Stream, State, IsEntryOf, IsValid, states_of, kinds_in, rows_in, extents_in}
 use Rattle.folder.specs.Files.{result_of, no_result, results_in}
 use Rattle.folder.proofs.NextStates.{Contains-first, Contains-behind}
-use Rattle.folder.proofs.StreamReading.{kept_kinds}
 
 all-mapped : {A B : Type 0} (f : A → B) (P : B → Type 0) (xs : List A) → ((x : A) → Contains xs x → P (f x)) → AllByRecursion P (map f xs)
 all-mapped f P [] is = tt
@@ -56,6 +55,26 @@ extents-valid s valid =
     (λ x has. all-mapped (λ (e : Extent). e.rows) AreValidRows x.extents (λ e had. rows-valid (kinds_of x.columns) [] e.rows (valid.rows x e (has, had)).1))
 
 -- ---- typed lists
+
+value_kind : (kind : Kind) (v : Value) → IsValue kind v → kind_of v ≡ kind
+value_kind the_kind.Int (Int n) is = refl
+value_kind the_kind.Int (Text t) is = absurd is
+value_kind the_kind.Text (Int n) is = absurd is
+value_kind the_kind.Text (Text t) is = refl
+
+row_kinds : (kinds : List Kind) (row : List Value) → IsRow kinds row → map kind_of row ≡ kinds
+row_kinds [] [] is = refl
+row_kinds [] (v ∷ row) is = absurd is
+row_kinds (kind ∷ kinds) [] is = absurd is
+row_kinds (kind ∷ kinds) (v ∷ row) is = ap (λ k. k ∷ map kind_of row) (value_kind kind v is.0) ∙ ap (λ l. kind ∷ l) (row_kinds kinds row is.1)
+
+rows_kinds : (kinds : List Kind) (before rows : List (List Value)) → AreInOrder (λ before. IsRow kinds) before rows → AllByRecursion (λ row. map kind_of row ≡ kinds) rows
+rows_kinds kinds before [] are = tt
+rows_kinds kinds before (row ∷ rows) are = (row_kinds kinds row are.0, rows_kinds kinds (before ++ row ∷ []) rows are.1)
+
+-- rows of a kept form have its kinds
+pub kept_kinds : (kinds : List Kind) (rows : List (List Value)) → IsKept (shape.Rows kinds) (kept.Rows rows) → HaveKinds kinds rows
+kept_kinds kinds rows is = All-from_recursion (λ row. map kind_of row ≡ kinds) rows (rows_kinds kinds [] rows is.1)
 
 all-take : {A : Type 0} (P : A → Type 0) (n : ℕ) (xs : List A) → AllByRecursion P xs → AllByRecursion P (take n xs)
 all-take P zero xs all = tt

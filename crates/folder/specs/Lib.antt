@@ -3,10 +3,9 @@ pub mod Replay
 pub mod Sound
 pub mod Left
 pub mod Standing
+pub mod Written
 pub mod Next
 pub mod Files
-pub mod Reads
 pub mod Refusals
 pub mod Folders
-pub mod StreamRows
-pub mod Causes
+pub mod Damage

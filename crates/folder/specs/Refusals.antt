@@ -1,9 +1,5 @@
--- Reasons of the crates below, as reasons why a folder isn't loaded or an extent isn't read.
+-- Reasons of the crates below, as reasons why a folder isn't loaded.
 use Rattle.std.specs.Prelude.{ℕ, ◌+◌, ◌^◌, ◌<◌, ◌≤◌, Bool, List, length, ⊤}
-use Rattle.row_blob.specs.declared.refusal.BlobRefusal.{BlobRefusal}
-use Rattle.row_blob.specs.declared.refusal.BlobRefusal.TheVariants as of_blob
-use Rattle.extent_files.specs.declared.refusal.FileRefusal.{FileRefusal}
-use Rattle.extent_files.specs.declared.refusal.FileRefusal.TheVariants as of_file
 use Rattle.record_codec.specs.declared.refusal.ChangeRefusal.{ChangeRefusal}
 use Rattle.record_codec.specs.declared.refusal.ChangeRefusal.TheVariants as of_change
 use Rattle.catalog_core.specs.Table.{Table}
@@ -12,8 +8,6 @@ use Rattle.journal_store.specs.declared.refusal.JournalRefusal.TheVariants as of
 use Rattle.folder.specs.Replay.{StopsIn}
 use Rattle.folder.specs.declared.refusal.LoadRefusal.{LoadRefusal}
 use Rattle.folder.specs.declared.refusal.LoadRefusal.TheVariants as load
-use Rattle.folder.specs.declared.refusal.ReadRefusal.{ReadRefusal}
-use Rattle.folder.specs.declared.refusal.ReadRefusal.TheVariants as read
 use Rattle.folder.specs.declared.replay.ReplayRefusal.{ReplayRefusal}
 use Rattle.folder.specs.declared.replay.ReplayRefusal.TheVariants as replay
 
@@ -46,14 +40,3 @@ FitsFrom place replay.Memory = ⊤
 abbrev pub IsStop : Bool → Table → List ℕ → ReplayRefusal → Type 0
 IsStop due t body (replay.Stops within) = StopsIn due t body within × (within ≤ length body)
 IsStop due t body replay.Memory = ⊤
-
--- why this file's bytes aren't given
-abbrev pub file_as : ℕ → FileRefusal → ReadRefusal
-file_as file of_file.Fault = read.Fault
-file_as file (of_file.Damaged kept found) = read.Damaged file kept found
-file_as file of_file.Memory = read.Memory
-
--- why they spell no rows
-abbrev pub rows_as : ℕ → BlobRefusal → ReadRefusal
-rows_as file (of_blob.NotBlob at) = read.Unreadable file at
-rows_as file of_blob.Memory = read.Memory

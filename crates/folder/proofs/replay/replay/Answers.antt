@@ -3,8 +3,7 @@ use Rattle.gated_log.specs.Logs.{contents}
 use Rattle.catalog_core.specs.Table.{empty_table}
 use Rattle.catalog_core.specs.Catalogs.{table_of}
 use Rattle.folder.specs.Replay.{StopsReplay, due_in}
-use Rattle.folder.proofs.Going.{going_from, going_on, going_stops, going_fits, going_due, front_below, stops_at}
-use Rattle.folder.proofs.ReadRefusals.{err_same}
+use Rattle.folder.proofs.Going.{going_from, going_on, going_stops, going_fits, going_due, front_below, stops_at, err_same}
 use Rattle.folder.proofs.replay.replay.Goals as goal
 
 pub loop-i-init : goal.loop-i-init

@@ -1,0 +1,6 @@
+-- One file less at each call.
+use Rattle.std.proofs.Common.{length}
+use Rattle.folder.proofs.folder.Folder.+write_files.Given as goal
+
+abbrev pub decreases-write_files : goal.decreases-write_files
+decreases-write_files g l = length l.files.now
