@@ -1,0 +1,9 @@
+pub mod Ended
+pub mod Events
+pub mod FewColumns
+pub mod Held
+pub mod MadeResults
+pub mod Rooted
+pub mod Short
+pub mod Taken
+pub mod Worked

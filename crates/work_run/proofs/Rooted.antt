@@ -1,0 +1,67 @@
+-- A choice, by its rewriting alone.
+use Rattle.std.proofs.Common.{◌≡◌, sym, subst, ◌<◌, ◌≤◌, List, [], ◌∷◌, IsOk}
+use Rattle.std.specs.List.{AllByRecursion}
+use Rattle.plan_core.specs.PlainPlan.{PlainPlan, plan_of, leaves}
+use Rattle.plan_core.specs.PlanTyping.{plan_typing}
+use Rattle.estimator.specs.Cuts.{Cuts}
+use Rattle.rewrite_core.specs.IsRewriting.{Naming, IsRewriting}
+use Rattle.rewrite_core.specs.PlainRewriting.{PlainRewriting, Node, rewriting_of}
+use Rattle.growth_laws.specs.MadePlaces.{Place, place}
+use Rattle.growth_laws.specs.Parts.{plan_at, cuts_at}
+use Rattle.catalog_types.specs.declared.snapshot.StreamState.{StreamState}
+use Rattle.catalog_core.specs.Programs.{AreCuts, kinds_of_streams}
+use Rattle.catalog_core.specs.Table.{Table}
+use Rattle.executor.specs.Outcomes.{IsKeptFrom}
+use Rattle.executor.specs.declared.outcome.KeptPlace.{KeptPlace}
+use Rattle.folder.proofs.GrownStreams.{all-at}
+use Rattle.plan_choice.specs.Taken.{IsTaken}
+use Rattle.plan_choice.specs.declared.choosing.Choice.{Choice}
+use Rattle.work_plan.specs.Fitting.{IsFit}
+use Rattle.work_run.specs.Chosen.{IsChosen}
+
+-- a rewriting is one of its own plan at its own cut
+pub plan_is : (names : Naming) (q : PlainPlan) (c : Cuts) (r : PlainRewriting) → IsRewriting names q c r → plan_at r ≡ q
+plan_is names q c (Node p cuts way) is = is.0
+
+pub cuts_are : (names : Naming) (q : PlainPlan) (c : Cuts) (r : PlainRewriting) → IsRewriting names q c r → cuts_at r ≡ c
+cuts_are names q c (Node p cuts way) is = is.1
+
+pub own : (names : Naming) (q : PlainPlan) (c : Cuts) (r : PlainRewriting) → IsRewriting names q c r → IsRewriting names (plan_at r) (cuts_at r) r
+own names q c r is =
+    subst (λ (p : PlainPlan). IsRewriting names p (cuts_at r) r) (sym (plan_is names q c r is)) (subst (λ (x : Cuts). IsRewriting names q x r) (sym (cuts_are names q c r is)) is)
+
+pub record IsRooted (t : Table) (plan : PlainPlan) (r : PlainRewriting) : Type 0 where
+  pub taken : IsTaken t plan (plan_at r) (cuts_at r) r
+  pub typed : IsOk (plan_typing (kinds_of_streams t.streams) plan)
+  pub are_cuts : AreCuts t.streams (leaves plan) (cuts_at r)
+  pub fit : IsFit t.streams (plan_at r) (cuts_at r)
+
+module _ (t : Table) (plan : PlainPlan) (cuts : Cuts) (choice : Choice) (chosen : IsChosen t plan cuts choice) where
+  abbrev r : PlainRewriting
+  r = rewriting_of choice.rewriting
+
+  same_plan : plan_at r ≡ chosen.choice_is.normal
+  same_plan = plan_is _ _ _ r chosen.choice_is.taken.least.is
+
+  pub same_cuts : cuts_at r ≡ cuts
+  same_cuts = cuts_are _ _ _ r chosen.choice_is.taken.least.is
+
+  pub rooted : IsRooted t plan r
+  rooted = record {
+    taken = subst (λ (q : PlainPlan). IsTaken t plan q (cuts_at r) r) (sym same_plan) (subst (λ (c : Cuts). IsTaken t plan chosen.choice_is.normal c r) (sym same_cuts) chosen.choice_is.taken);
+    typed = chosen.typed;
+    are_cuts = subst (AreCuts t.streams (leaves plan)) (sym same_cuts) chosen.are_cuts;
+    fit = subst (λ (q : PlainPlan). IsFit t.streams q (cuts_at r)) (sym same_plan) (subst (λ (c : Cuts). IsFit t.streams chosen.choice_is.normal c) (sym same_cuts) chosen.fit);
+  }
+
+-- ---- what is kept is fit
+
+module _ (streams : List StreamState) (places : List Place) (fit : AllByRecursion (λ (at : Place). IsFit streams at.plan at.cuts) places) where
+  pub fit-kept : (kepts : List KeptPlace) → AllByRecursion (IsKeptFrom places) kepts → AllByRecursion (λ (kept : KeptPlace). IsFit streams (plan_of kept.plan) kept.cuts × (0 < kept.machine)) kepts
+  fit-kept [] from = tt
+  fit-kept (kept ∷ kepts) from =
+      ((all-at (λ (at : Place). IsFit streams at.plan at.cuts) places (place (plan_of kept.plan) kept.cuts) fit from.0.0, from.0.1), fit-kept kepts from.1)
+
+pub within-kept : (places : List Place) (kepts : List KeptPlace) → AllByRecursion (IsKeptFrom places) kepts → AllByRecursion (λ (kept : KeptPlace). kept.machine ≤ 4294967295) kepts
+within-kept places [] from = tt
+within-kept places (kept ∷ kepts) from = (from.0.2, within-kept places kepts from.1)
