@@ -22,6 +22,7 @@ use Rattle.folder.specs.Sound.{Care}
 use Rattle.folder.specs.State.{State}
 use Rattle.folder.specs.Left.{Since}
 use Rattle.session.specs.Machine as session
+use Rattle.session.proofs.StepLemmas.{want_event}
 use Rattle.session.specs.Standing as standing
 use Rattle.session.specs.declared.session.Session.{Session}
 use Rattle.nectar_top.specs.Crash.{Found, Reaches}
@@ -51,7 +52,7 @@ Step-spelled care old new spelled given a is step = elim is [
     refused s = elim s [ inl h ↦ h | inr h ↦ h ]
 
     at : (i : Item) → session.outcome a new ≡ session.refused old Memory → Step care old i a new
-    at (item.Command command) h = inr (Memory, tt, h)
+    at (item.Command command) h = inr (Memory, want_event care old command, h)
     at (item.Refused why) h = inr h
 
 texts_of-push : (answers : List Answer) (a : Answer) → texts_of answers ++ answer_text a ≡ texts_of (answers ++ a ∷ [])

@@ -1,5 +1,5 @@
 -- A run of a plan that has a typing.
-use Rattle.std.proofs.Common.{◌≡◌, ◌∙◌, ◌⊎◌, ℕ, List, Result, Ok, Err, IfOk, IfErr, refl, sym, ap, subst, inl, inr}
+use Rattle.std.proofs.Common.{◌≡◌, ◌∙◌, ◌⊎◌, ℕ, List, Result, Ok, Err, IfOk, IfErr, inl, inr}
 use Rattle.plan_core.specs.TypedPlan.{TypedPlan, IsTypedOver}
 use Rattle.plan_grammar.specs.PlainNamed.{PlainTree}
 use Rattle.catalog_core.specs.Programs.{kinds_of_streams}
@@ -7,28 +7,17 @@ use Rattle.catalog_core.specs.Table.{Table}
 use Rattle.script_text.specs.declared.answer.Refusal.{Refusal}
 use Rattle.script_text.specs.declared.answer.Refusal.TheVariants.{Memory}
 use Rattle.planning.specs.declared.running.RunPlan.{RunPlan}
-use Rattle.planning.specs.Recorded.{IsRecordOf}
-use Rattle.planning.specs.Running.{Run, bound_plan, running, storing, run_of, run_change, extents_of, bytes_of}
+use Rattle.planning.specs.Running.{Run, bound_plan, running, storing, run_of, IsRunPlan}
 use Rattle.planning.proofs.RunLemmas.{running-stored}
 
 module _ (t : Table) (name : List ℕ) (tree : PlainTree) (typed : TypedPlan) (bound : bound_plan t.streams tree ≡ Ok typed.plan) (over : IsTypedOver (kinds_of_streams t.streams) typed) where
   abbrev the_run : Run
   the_run = run_of t.streams name tree typed.plan
 
-  pub is_run : (r : Result RunPlan Refusal) → IfOk r (λ p. p.typed ≡ typed) → IfOk r (λ _. storing t the_run ≡ Ok the_run) → IfOk r (λ p. p.recording.change ≡ run_change the_run)
-      → IfOk r (λ p. IsRecordOf t p.recording.change p.recording.body.items) → IfOk r (λ p. p.bytes ≡ bytes_of (extents_of t.streams typed.plan))
-      → IfOk r (λ p. (x : Run) × (running t name tree ≡ Ok x) × (p.typed.plan ≡ x.plan) × IsTypedOver (kinds_of_streams t.streams) p.typed
-      × (p.recording.change ≡ run_change x) × IsRecordOf t p.recording.change p.recording.body.items × (p.bytes ≡ bytes_of (extents_of t.streams x.plan)))
-  is_run (Ok p) same ok changed recorded bytes = (
-    the_run,
-    running-stored t tree typed.plan bound typed.kinds over name ∙ ok,
-    ap (λ (x : TypedPlan). x.plan) same,
-    subst (λ (x : TypedPlan). IsTypedOver (kinds_of_streams t.streams) x) (sym same) over,
-    changed,
-    recorded,
-    bytes,
-  )
-  is_run (Err why) same ok changed recorded bytes = tt
+  pub is_run : (r : Result RunPlan Refusal) → IfOk r (λ _. storing t the_run ≡ Ok the_run) → IfOk r (λ p. IsRunPlan t the_run p.typed p.program)
+      → IfOk r (λ p. (x : Run) × (running t name tree ≡ Ok x) × IsRunPlan t x p.typed p.program)
+  is_run (Ok p) ok planned = (the_run, running-stored t tree typed.plan bound typed.kinds over name ∙ ok, planned)
+  is_run (Err why) ok planned = tt
 
   pub is_not_run : (r : Result RunPlan Refusal) → IfErr r (λ why. (storing t the_run ≡ Err why) ⊎ (why ≡ Memory)) → IfErr r (λ why. (running t name tree ≡ Err why) ⊎ (why ≡ Memory))
   is_not_run (Ok p) h = tt

@@ -1,41 +1,19 @@
--- A program that is stored: it fits the table, and is recorded in few bytes.
-use Rattle.std.proofs.Common.{◌≡◌, ◌∙◌, ◌+◌, ◌*◌, ◌≤◌, ◌<◌, ◌^◌, ℕ, zero, suc, Bool, true, false, cond, List, [], ◌∷◌, ◌++◌, length, map, filter, Some, Ok, refl, sym, ap, subst, le_refl, arith}
-use Rattle.std.specs.Prelude.{sum_by}
-use Rattle.std.specs.List.{flat_map, AllByRecursion}
-use Rattle.std.proofs.lemmas.List.Sums.{sum_by-cons, sum_by-append}
-use Rattle.std.proofs.lemmas.List.{length-map}
-use Rattle.rows_core.specs.declared.cut.Cut.{Cut}
-use Rattle.rows_core.specs.declared.schema.Column.{Column}
-use Rattle.plan_core.specs.PlainPlan.{PlainPlan, leaves}
-use Rattle.plan_core.specs.PlanTyping.{Kinds}
+-- A program that is stored fits the table.
+use Rattle.std.proofs.Common.{◌≡◌, ◌+◌, ◌*◌, ◌≤◌, ◌<◌, ℕ, Bool, true, false, cond, List, [], ◌∷◌, length, map, filter, refl, sym, subst, arith, Ok}
+use Rattle.plan_core.specs.Nesting.{node_count, expr_count}
+use Rattle.plan_core.specs.PlainPlan.{leaves}
+use Rattle.plan_core.specs.TypedPlan.{TypedPlan, IsTypedOver}
 use Rattle.plan_grammar.specs.Counts.{IsWithinLimits}
 use Rattle.plan_grammar.specs.PlainNamed.{PlainTree}
 use Rattle.plan_grammar.specs.Spelled.{SpellsText}
 use Rattle.plan_printer.specs.Canonical.{canonical_text}
-use Rattle.catalog_types.specs.declared.change.Change.{Change}
-use Rattle.catalog_types.specs.declared.change.Change.TheVariants.{Work}
-use Rattle.catalog_types.specs.declared.extent.Extent.{Extent}
 use Rattle.catalog_types.specs.declared.program.Program.{Program}
 use Rattle.catalog_types.specs.declared.snapshot.StreamState.{StreamState}
-use Rattle.catalog_core.specs.IsTable.{IsTable, IsStream}
-use Rattle.catalog_core.specs.Programs.{extents_at, AreCuts, with_program, is_below, below, above}
-use Rattle.catalog_core.specs.Table.{Table, Fits, most_ticks, most_programs}
-use Rattle.catalog_core.proofs.IdleWork.{idle-fits}
-use Rattle.record_codec.specs.Spelling.{change_spelling, HasChangeSpelling, HasProgramSpelling, IsCut}
-use Rattle.planning.specs.Appending.{columns_at}
-use Rattle.planning.specs.Recorded.{IsRecordOf}
-use Rattle.planning.specs.Running.{Source, bound_plan, typing_of, whole_cut, cuts_of, sources_at, extents_of, bytes_of, bytes_at}
+use Rattle.catalog_core.specs.Programs.{AreCuts, kinds_of_streams, with_program, is_below, below, above}
+use Rattle.catalog_core.specs.Table.{Table, most_ticks, most_programs}
+use Rattle.planning.specs.Running.{bound_plan, whole_cut, cuts_of, run_of, IsRunPlan}
 
 -- ---- the cuts of the leaves
-
-few_at : (streams : List StreamState) → AllByRecursion IsStream streams → (leaf : ℕ) → length (extents_at streams leaf) ≤ 65535
-few_at [] all leaf = omega arith
-few_at (s ∷ streams) all zero = all.0.extents
-few_at (s ∷ streams) all (suc leaf) = few_at streams all.1 leaf
-
-pub cuts_fit : (streams : List StreamState) → AllByRecursion IsStream streams → (ls : List ℕ) → AllByRecursion IsCut (map (whole_cut streams) ls)
-cuts_fit streams all [] = tt
-cuts_fit streams all (l ∷ ls) = ((omega arith, let few = few_at streams all l in omega (arith, few)), cuts_fit streams all ls)
 
 are_cuts : (streams : List StreamState) (ls : List ℕ) → AreCuts streams ls (map (whole_cut streams) ls)
 are_cuts streams [] = tt
@@ -44,32 +22,6 @@ are_cuts streams (l ∷ ls) = ((omega arith, omega arith), are_cuts streams ls)
 pub same_cuts : (ss ts : List StreamState) (ls ms : List ℕ) → ss ≡ ts → ls ≡ ms → map (whole_cut ss) ls ≡ map (whole_cut ts) ms
 same_cuts ss ts ls ms e f = λ i. map (whole_cut (e i)) (f i)
 
--- ---- the bytes of the files
-
-sum_mapped : (columns : List Column) (es : List Extent) → bytes_of (map (λ extent. record { columns = columns; extent = extent }) es) ≡ sum_by (λ extent. extent.file.len) es
-sum_mapped columns [] = refl
-sum_mapped columns (e ∷ es) =
-    omega (
-      arith,
-      sum_by-cons (λ (source : Source). source.extent.file.len) (record { columns = columns; extent = e }) (map (λ extent. record { columns = columns; extent = extent }) es),
-      sum_by-cons (λ (extent : Extent). extent.file.len) e es,
-      sum_mapped columns es,
-    )
-
-sum_of_leaves : (streams : List StreamState) (ls : List ℕ) → bytes_of (flat_map (sources_at streams) ls) ≡ sum_by (bytes_at streams) ls
-sum_of_leaves streams [] = refl
-sum_of_leaves streams (l ∷ ls) =
-    omega (
-      arith,
-      sum_by-append (λ (source : Source). source.extent.file.len) (sources_at streams l) (flat_map (sources_at streams) ls),
-      sum_mapped (columns_at streams l) (extents_at streams l),
-      sum_by-cons (bytes_at streams) l ls,
-      sum_of_leaves streams ls,
-    )
-
-pub bytes_are : (ss ts : List StreamState) (ls : List ℕ) (plan : PlainPlan) (bytes : ℕ) → ss ≡ ts → ls ≡ leaves plan → bytes ≡ sum_by (bytes_at ss) ls → bytes ≡ bytes_of (extents_of ts plan)
-bytes_are ss ts ls plan bytes e f is = is ∙ (λ i. sum_by (bytes_at (e i)) (f i)) ∙ sym (sum_of_leaves ts (leaves plan))
-
 -- ---- the program fits
 
 pub record IsStored (t : Table) (program : Program) : Type 0 where
@@ -77,38 +29,30 @@ pub record IsStored (t : Table) (program : Program) : Type 0 where
   pub programs : length (with_program program t.programs) ≤ most_programs
   pub counted : t.tick < most_ticks
 
-module _ (t : Table) (tree : PlainTree) (plan : PlainPlan) (within : IsWithinLimits tree) (bound : bound_plan t.streams tree ≡ Ok plan) (kinds : Kinds) (typed : typing_of t.streams plan ≡ Ok kinds) where
-  fits_work : (program : Program) → program.text ≡ canonical_text tree → SpellsText tree program.text → program.cuts ≡ cuts_of t.streams plan → IsStored t program → IsTable t → Fits (Work (Some program) [] [] []) t
-  fits_work program text spells cuts stored is =
-      idle-fits (Some program) t is stored.counted (
-        record {
-          plan = plan;
-          is_plan = record { tree = tree; canonical = (spells, within, text); bound = bound; kinds = kinds; typed = typed };
-          are_cuts = subst (AreCuts t.streams (leaves plan)) (sym cuts) (are_cuts t.streams (leaves plan));
-          short = stored.text;
-        },
-        stored.programs,
-      )
-
-  pub is_record : (program : Program) → program.text ≡ canonical_text tree → SpellsText tree program.text → program.cuts ≡ cuts_of t.streams plan → IsStored t program → IsTable t
-      → length (leaves plan) ≤ 9 → (change : Change) (body : List ℕ) → change ≡ Work (Some program) [] [] [] → HasChangeSpelling change → body ≡ change_spelling change
-      → ((p : Program) → HasProgramSpelling p → length (change_spelling (Work (Some p) [] [] [])) ≤ 84 + length p.text + 8 * length p.cuts) → IsRecordOf t change body
-  is_record program text spells cuts stored sound few change body is spelled body_is law = record {
-    fits = subst (λ c. Fits c t) (sym is) (fits_work program text spells cuts stored sound);
-    spelled = spelled;
-    is_body = body_is;
-    short =
-        let long : length body ≡ length (change_spelling (Work (Some program) [] [] [])) = ap length (body_is ∙ ap change_spelling is) in
-        let most = law program (subst HasChangeSpelling is spelled).0 in
-        let as_many : length program.cuts ≡ length (leaves plan) = ap length cuts ∙ length-map (leaves plan) (whole_cut t.streams) in
-        let short = stored.text in
-        omega (arith, long, most, as_many, few, short);
-  }
-
-pub few_cuts : (streams : List StreamState) (cuts : List Cut) (plan : PlainPlan) → cuts ≡ cuts_of streams plan → length (leaves plan) ≤ 9 → length cuts < 256
-few_cuts streams cuts plan is few =
-    let as_many : length cuts ≡ length (leaves plan) = ap length is ∙ length-map (leaves plan) (whole_cut streams) in
-    omega (arith, as_many, few)
+module _ (t : Table) (name : List ℕ) (tree : PlainTree) (typed : TypedPlan) (within : IsWithinLimits tree) (bound : bound_plan t.streams tree ≡ Ok typed.plan) (over : IsTypedOver (kinds_of_streams t.streams) typed) where
+  pub planned : (program : Program) → program.name ≡ name → program.text ≡ canonical_text tree → SpellsText tree program.text → program.cuts ≡ cuts_of t.streams typed.plan → IsStored t program
+      → (node_count typed.plan ≤ 40) × (expr_count typed.plan ≤ 512) × (length (leaves typed.plan) ≤ 9) → IsRunPlan t (run_of t.streams name tree typed.plan) typed program
+  planned program named text spells cuts stored limits =
+      let are : AreCuts t.streams (leaves typed.plan) program.cuts = subst (AreCuts t.streams (leaves typed.plan)) (sym cuts) (are_cuts t.streams (leaves typed.plan)) in
+      record {
+        plan = refl;
+        over = over;
+        program_is = λ i. record { name = named i; text = text i; cuts = cuts i };
+        are_cuts = are;
+        fits = (
+          record {
+            plan = typed.plan;
+            is_plan = record { tree = tree; canonical = (spells, within, text); bound = bound; kinds = typed.kinds; typed = over };
+            are_cuts = are;
+            short = stored.text;
+          },
+          stored.programs,
+        );
+        counted = stored.counted;
+        nodes = limits.0;
+        exprs = limits.1;
+        few_leaves = limits.2;
+      }
 
 -- ---- how many programs there are
 

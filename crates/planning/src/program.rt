@@ -1,27 +1,21 @@
 //! The program that a plan is stored as.
-ghost use Rattle.std.specs.Prelude.{◌≡◌, ◌⊎◌, ◌+◌, ◌<◌, ◌≤◌, ℕ, [], Some, Ok, Err, IfOk, IfErr, IfSome};
-ghost use Rattle.std.specs.Prelude.{IfNone, length, map};
-ghost use Rattle.std.specs.List.{AllByRecursion};
-ghost use Rattle.rows_core.specs.Name.{IsName};
+ghost use Rattle.std.specs.Prelude.{◌≡◌, ◌<◌, ◌≤◌, Ok, Err, IfOk, IfSome, IfNone, length, map};
 ghost use Rattle.plan_grammar.specs.Spelled.{SpellsText};
 ghost use Rattle.plan_printer.specs.Canonical.{canonical_text};
-ghost use Rattle.catalog_types.specs.declared.change.Change.TheVariants as change;
 ghost use Rattle.catalog_core.specs.Catalogs.{table_of};
 ghost use Rattle.catalog_core.specs.Programs.{with_program, is_below, below, above};
 ghost use Rattle.catalog_core.specs.Streams.{states_of};
 ghost use Rattle.catalog_core.specs.Table.{most_ticks, most_programs};
-ghost use Rattle.record_codec.specs.Spelling.{change_spelling, HasChangeSpelling, HasProgramSpelling, IsCut};
 ghost use Rattle.script_text.specs.declared.answer.Refusal.TheVariants.{Limit};
 ghost use Rattle.planning.specs.Running.{Run, storing, whole_cut};
 
 use crate::extents::extents_at;
-use crate::recording::{Recording, recording_of};
 use catalog_core::{Catalog, CatalogStream};
-use catalog_types::{Change, Program};
+use catalog_types::Program;
 use plan_grammar::NamedPlan;
 use plan_printer::print_plan;
 use rows_core::{Cut, Memory, Name, Seq};
-use script_text::{LimitKind, Refusal};
+use script_text::LimitKind;
 use std::alloc::Global;
 
 /// The most bytes of a program's text.
@@ -76,34 +70,8 @@ fn whole_cut(streams: &[CatalogStream], leaf: u32) -> Cut
     }
 }
 
-// What the storing of this program records, unless it passes a limit.
-pub(crate) fn store_program(
-    alloc: Global,
-    catalog: &Catalog,
-    program: Program,
-) -> Result<Recording, Refusal>
-    requires few { length program.cuts < 256 }
-    requires cuts { AllByRecursion IsCut program.cuts }
-    ensures ok { (run : Run) → run.program ≡ program → IfOk result (λ _.
-        storing (table_of catalog.now) run ≡ Ok run) }
-    ensures change { IfOk result (λ recording. recording.change ≡ change.Work (Some program) [] [] []) }
-    ensures spelled { IfOk result (λ recording. HasChangeSpelling recording.change) }
-    ensures body { IfOk result (λ recording. recording.body.items ≡ change_spelling recording.change) }
-    ensures text { IfOk result (λ _. length program.text ≤ 65536) }
-    ensures programs { IfOk result (λ _.
-        length (with_program program (table_of catalog.now).programs) ≤ most_programs) }
-    ensures counted { IfOk result (λ _. (table_of catalog.now).tick < most_ticks) }
-    ensures err { (run : Run) → run.program ≡ program → IfErr result (λ why.
-        (storing (table_of catalog.now) run ≡ Err why) ⊎ (why ≡ Refusal.Memory)) }
-{
-    match limit_of_program(catalog, &program) {
-        Some(kind) => Err(Refusal::Limit(kind)),
-        None => record_program(alloc, program),
-    }
-}
-
 // The first limit that the storing of this program passes.
-fn limit_of_program(catalog: &Catalog, program: &Program) -> Option<LimitKind>
+pub(crate) fn limit_of_program(catalog: &Catalog, program: &Program) -> Option<LimitKind>
     ensures some { (run : Run) → run.program ≡ program.now → IfSome result (λ kind.
         storing (table_of catalog.now) run ≡ Err (Limit kind)) }
     ensures none { (run : Run) → run.program ≡ program.now → IfNone result
@@ -152,30 +120,4 @@ fn is_below(name: &Name, other: &Name) -> bool
     ensures { result ≡ is_below name.now other.now }
 {
     name.bytes().cmp(&other.bytes()).is_lt()
-}
-
-// What is recorded of a program that is stored.
-fn record_program(alloc: Global, program: Program) -> Result<Recording, Refusal>
-    requires short { length program.text ≤ 65536 }
-    requires few { length program.cuts < 256 }
-    requires cuts { AllByRecursion IsCut program.cuts }
-    ensures change { IfOk result (λ recording. recording.change ≡ change.Work (Some program) [] [] []) }
-    ensures spelled { IfOk result (λ recording. HasChangeSpelling recording.change) }
-    ensures body { IfOk result (λ recording. recording.body.items ≡ change_spelling recording.change) }
-    ensures err { IfErr result (λ why. why ≡ Refusal.Memory) }
-{
-    let _ = program.name.bytes();
-    recording_of(alloc, change_of(alloc, program))
-}
-
-// The change that stores a program, and reads, drops and keeps no result.
-fn change_of(alloc: Global, program: Program) -> Change
-    ensures { result ≡ change.Work (Some program) [] [] [] }
-{
-    Change::Work {
-        program: Some(program),
-        reads: Seq::new(Vec::new(alloc)),
-        dropped: Seq::new(Vec::new(alloc)),
-        kept: Seq::new(Vec::new(alloc)),
-    }
 }

@@ -4,19 +4,15 @@ ghost use Rattle.plan_core.specs.TypedPlan.{IsTypedOver};
 ghost use Rattle.plan_grammar.specs.Counts.{IsWithinLimits};
 ghost use Rattle.catalog_core.specs.Catalogs.{table_of};
 ghost use Rattle.catalog_core.specs.Programs.{kinds_of_streams};
-ghost use Rattle.planning.specs.Running.{Run, bound_plan, running, storing, run_of, run_change};
-ghost use Rattle.planning.specs.Running.{extents_of, bytes_of};
-ghost use Rattle.planning.specs.Recorded.{IsRecordOf};
+ghost use Rattle.planning.specs.Running.{Run, bound_plan, running, storing, run_of, IsRunPlan};
 
-use crate::extents::bytes_of_leaves;
-use crate::program::{program_of, store_program};
-use crate::recording::Recording;
+use crate::program::{limit_of_program, program_of};
 use crate::typing::typed_plan;
 use catalog_core::Catalog;
+use catalog_types::Program;
 use plan_binder::bind_laws;
 use plan_core::Typed;
 use plan_grammar::NamedPlan;
-use record_codec::small_changes;
 use rows_core::Name;
 use script_text::Refusal;
 use std::alloc::Global;
@@ -26,16 +22,14 @@ use std::alloc::Global;
 pub struct RunPlan {
     /// The plan with numbers for its names, and its typing.
     pub typed: Typed,
-    /// The bytes of the files that it reads.
-    pub bytes: u64,
-    pub recording: Recording,
+    /// What it is stored as.
+    pub program: Program,
 }
 
 /// A run of this plan over all extents of the table, which is stored by the name, or why it is refused:
 /// `Unknown` with the first stream from the left that isn't there, else `IllTyped` where a column isn't there
 /// or the plan has no typing, else the first limit that is passed, of columns, the program's text, programs
-/// and commands. Each comes exactly where it holds and none before it does, unless memory is wanted. Files
-/// with more bytes than a u64 counts would be answered as want of memory too; no folder can hold them.
+/// and commands. Each comes exactly where it holds and none before it does, unless memory is wanted.
 pub fn plan_run(
     alloc: Global,
     catalog: &Catalog,
@@ -44,10 +38,7 @@ pub fn plan_run(
 ) -> Result<RunPlan, Refusal>
     requires { IsWithinLimits plan.now }
     ensures ok { IfOk result (λ p. (r : Run) × (running (table_of catalog.now) name plan.now ≡ Ok r)
-        × (p.typed.plan ≡ r.plan) × IsTypedOver (kinds_of_streams (table_of catalog.now).streams) p.typed
-        × (p.recording.change ≡ run_change r)
-        × IsRecordOf (table_of catalog.now) p.recording.change p.recording.body.items
-        × (p.bytes ≡ bytes_of (extents_of (table_of catalog.now).streams r.plan))) }
+        × IsRunPlan (table_of catalog.now) r p.typed p.program) }
     ensures err { IfErr result (λ why.
         (running (table_of catalog.now) name plan.now ≡ Err why) ⊎ (why ≡ Refusal.Memory)) }
     ensures no_fault { IsErrOf result Refusal.Fault → ⊥ }
@@ -69,35 +60,21 @@ fn run_typed(
     requires limits { IsWithinLimits plan.now }
     requires bound { bound_plan (table_of catalog.now).streams plan.now ≡ Ok typed.plan }
     requires typed { IsTypedOver (kinds_of_streams (table_of catalog.now).streams) typed }
-    ensures typed { IfOk result (λ p. p.typed ≡ typed) }
     ensures ok { IfOk result (λ _. storing (table_of catalog.now)
         (run_of (table_of catalog.now).streams name plan.now typed.plan)
         ≡ Ok (run_of (table_of catalog.now).streams name plan.now typed.plan)) }
-    ensures change { IfOk result (λ p. p.recording.change
-        ≡ run_change (run_of (table_of catalog.now).streams name plan.now typed.plan)) }
-    ensures recorded { IfOk result (λ p.
-        IsRecordOf (table_of catalog.now) p.recording.change p.recording.body.items) }
-    ensures bytes { IfOk result (λ p.
-        p.bytes ≡ bytes_of (extents_of (table_of catalog.now).streams typed.plan)) }
+    ensures plan { IfOk result (λ p. IsRunPlan (table_of catalog.now)
+        (run_of (table_of catalog.now).streams name plan.now typed.plan) p.typed p.program) }
     ensures err { IfErr result (λ why. (storing (table_of catalog.now)
         (run_of (table_of catalog.now).streams name plan.now typed.plan) ≡ Err why)
         ⊎ (why ≡ Refusal.Memory)) }
 {
     bind_laws::counts_are_of_the_written_plan();
-    small_changes();
-    let streams = catalog.streams();
-    let Some(bytes) = bytes_of_leaves(streams, typed.leaves()) else {
+    let Ok(program) = program_of(alloc, catalog.streams(), name, plan, typed.leaves()) else {
         return Err(Refusal::Memory);
     };
-    let Ok(program) = program_of(alloc, streams, name, plan, typed.leaves()) else {
-        return Err(Refusal::Memory);
-    };
-    match store_program(alloc, catalog, program) {
-        Ok(recording) => Ok(RunPlan {
-            typed,
-            bytes,
-            recording,
-        }),
-        Err(refusal) => Err(refusal),
+    match limit_of_program(catalog, &program) {
+        Some(kind) => Err(Refusal::Limit(kind)),
+        None => Ok(RunPlan { typed, program }),
     }
 }

@@ -1,6 +1,5 @@
 //! The typing of a plan over the streams of the table.
 ghost use Rattle.std.specs.Prelude.{◌≡◌, ◌⊎◌, ℕ, List, Ok, Err, IfOk, IfErr};
-ghost use Rattle.rows_core.specs.Schema as schema;
 ghost use Rattle.plan_core.specs.PlainPlan.{plan_of, leaves};
 ghost use Rattle.plan_core.specs.TypedPlan.{IsTypedOver};
 ghost use Rattle.plan_core.specs.PlanTyping.{plan_typing};
@@ -8,15 +7,13 @@ ghost use Rattle.plan_grammar.specs.PlainNamed.{PlainTree};
 ghost use Rattle.plan_binder.specs.Binding.{Binds};
 ghost use Rattle.catalog_core.specs.Catalogs.{table_of};
 ghost use Rattle.catalog_core.specs.Programs.{kinds_of_streams};
-ghost use Rattle.catalog_core.specs.Streams.{state_of, states_of};
 ghost use Rattle.catalog_core.specs.Table.{Table};
 ghost use Rattle.planning.specs.Running.{bound_plan, typing_of, unbound, running, running_typed, Run};
 
-use catalog_core::{Catalog, CatalogStream};
-use plan_binder::{BindRefusal, Stream, bind, bind_laws};
+use catalog_core::Catalog;
+use plan_binder::{BindRefusal, bind, bind_laws};
 use plan_core::{Plan, PlanRefusal, Schemas, Typed, type_plan};
 use plan_grammar::NamedPlan;
-use rows_core::{Kind, Memory, Seq};
 use script_text::{LimitKind, Refusal};
 use std::alloc::Global;
 
@@ -65,10 +62,7 @@ fn type_bound(alloc: Global, catalog: &Catalog, plan: Plan) -> Result<Typed, Ref
         (typing_of (table_of catalog.now).streams (plan_of plan)) ≡ Err why) ⊎ (why ≡ Refusal.Memory)) }
 {
     bind_laws::leaves_are_the_streams();
-    match schemas_of(alloc, catalog.streams()) {
-        Ok(schemas) => type_over(alloc, &schemas, plan),
-        Err(Memory) => Err(Refusal::Memory),
-    }
+    type_over(alloc, catalog.schemas(), plan)
 }
 
 // The typing of a plan over streams of these kinds, which are all there.
@@ -87,28 +81,4 @@ fn type_over(alloc: Global, schemas: &Schemas, plan: Plan) -> Result<Typed, Refu
         Err(PlanRefusal::TooMany) => Err(Refusal::Limit(LimitKind::Columns)),
         Err(PlanRefusal::Memory) => Err(Refusal::Memory),
     }
-}
-
-// The kinds of the columns of each stream.
-fn schemas_of(alloc: Global, streams: &[CatalogStream]) -> Result<Schemas, Memory>
-    ensures { IfOk result (λ schemas. schemas.kinds ≡ kinds_of_streams (states_of streams.now)) }
-{
-    let mut kinds = Vec::with_capacity(alloc, streams.len())?;
-    for stream in streams {
-        kinds.push(kinds_of(alloc, stream)?)?;
-    }
-    Ok(Schemas {
-        kinds: Seq::new(kinds),
-    })
-}
-
-fn kinds_of(alloc: Global, stream: &CatalogStream) -> Result<Seq<Kind>, Memory>
-    ensures { IfOk result (λ kinds. kinds ≡ schema.kinds_of (state_of stream.now).columns) }
-{
-    let columns = stream.schema().columns();
-    let mut kinds = Vec::with_capacity(alloc, columns.len())?;
-    for column in columns {
-        kinds.push(column.kind)?;
-    }
-    Ok(Seq::new(kinds))
 }

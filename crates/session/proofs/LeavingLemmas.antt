@@ -1,5 +1,7 @@
 -- What a command leaves as it was.
-use Rattle.std.proofs.Common.{◌≡◌, ◌∙◌, ℕ, ◌+◌, Ok, Err, Result, IfOk, IfErr, OnOk, OnErr, ◌⊎◌, refl, sym, subst, inl, inr}
+use Rattle.std.proofs.Common.{◌≡◌, ◌∙◌, ℕ, ◌+◌, ◌≤◌, List, Ok, Err, Result, IfOk, IfErr, OnOk, OnErr, ◌⊎◌, refl, sym, subst, inl, inr, arith}
+use Rattle.rows_core.specs.declared.file_ref.FileRef.{FileRef}
+use Rattle.outside_traits.specs.Counts.{Rose}
 use Rattle.outside_traits.specs.View.{View, Counts}
 use Rattle.outside_traits.specs.Runs.{Narrows, ChangesOnly}
 use Rattle.outside_traits.specs.declared.failed.Failed.{Failed}
@@ -8,19 +10,20 @@ use Rattle.script_text.specs.declared.answer.Answer.{Answer}
 use Rattle.script_text.specs.declared.answer.Answer.TheVariants as answer
 use Rattle.script_text.specs.declared.answer.Refusal.{Refusal}
 use Rattle.script_text.specs.declared.answer.Refusal.TheVariants as refusal
+use Rattle.rewrite_core.specs.Files.{FileName}
 use Rattle.catalog_core.specs.Table.{Table}
+use Rattle.executor.specs.Runs.{HasRunCause}
+use Rattle.executor.specs.declared.refusal.RunRefusal.{RunRefusal}
+use Rattle.executor.specs.declared.refusal.RunRefusal.TheVariants as run
 use Rattle.journal_store.specs.Journals.{generation_of}
 use Rattle.journal_store.specs.Readings.{generation_file}
 use Rattle.journal_store.specs.declared.journal.Journal.{Journal}
 use Rattle.folder.specs.Folders.{journal_of, table_in}
-use Rattle.folder.specs.StreamRows.{HasReadCause}
+use Rattle.folder.specs.Written.{ChangesFrom}
 use Rattle.folder.specs.declared.folder.Folder.{Folder}
-use Rattle.folder.specs.declared.refusal.ReadRefusal.{ReadRefusal}
-use Rattle.folder.specs.declared.refusal.ReadRefusal.TheVariants as reading
 use Rattle.session.specs.declared.session.Session.{Session}
-use Rattle.session.specs.ReadEvents.{refusal_of}
-use Rattle.session.proofs.FileLemmas.{none_ahead}
 use Rattle.session.specs.Standing.{LeavesWhereRefused, IsWritten, WritesAtMost, folder_of}
+use Rattle.session.specs.WorkRefusals.{refusal_of}
 
 -- the answer is this one
 pub leaves_given : (u v : View) (given : Answer) → LeavesWhereRefused given u v → (result : Result (Session × Answer) Failed) → IfOk result (λ next. next.1 ≡ given) → IfOk result (λ next. LeavesWhereRefused next.1 u v)
@@ -60,15 +63,19 @@ module _ (folder : Folder) where
   writes_log u v run = spans_of (generation_file (generation_of (journal_of folder))) (λ x. Unit {0}) (IsWritten folder) (λ image. Unit {0}) u v run (inl refl) (λ image here others. tt)
 
   pub writes_file : (u v : View) → ChangesOnly ((table_in folder).next_file + 0) u v → WritesAtMost folder u v
-  writes_file u v run = spans_of ((table_in folder).next_file + 0) (λ x. Unit {0}) (IsWritten folder) (λ image. Unit {0}) u v run (inr (none_ahead (table_in folder).next_file)) (λ image here others. tt)
+  writes_file u v run = spans_of ((table_in folder).next_file + 0) (λ x. Unit {0}) (IsWritten folder) (λ image. Unit {0}) u v run (inr (omega arith)) (λ image here others. tt)
+
+  -- new files
+  pub writes_files : (u v : View) → ChangesFrom ((table_in folder).next_file + 0) u v → WritesAtMost folder u v
+  writes_files u v run = spans_wider (λ file. (table_in folder).next_file + 0 ≤ file) (IsWritten folder) (λ image. Unit {0}) (λ image. Unit {0}) u v run (λ file later. inr (omega (arith, later))) (λ image any others. tt)
 
 -- a session that is the same but for the memory that it has taken
 pub writes_prepared : (u v : View) (session session' : Session) → table_in (folder_of session') ≡ table_in (folder_of session) → journal_of (folder_of session') ≡ journal_of (folder_of session)
     → WritesAtMost (folder_of session') u v → WritesAtMost (folder_of session) u v
 writes_prepared u v session session' t j writes =
     spans_wider (IsWritten (folder_of session')) (IsWritten (folder_of session)) (λ image. Unit {0}) (λ image. Unit {0}) u v writes
-    (λ file is. subst (λ (x : Table). (file ≡ generation_file (generation_of (journal_of (folder_of session)))) ⊎ (file ≡ x.next_file)) t
-    (subst (λ (x : Journal). (file ≡ generation_file (generation_of x)) ⊎ (file ≡ (table_in (folder_of session')).next_file)) j is))
+    (λ file is. subst (λ (x : Table). (file ≡ generation_file (generation_of (journal_of (folder_of session)))) ⊎ (x.next_file ≤ file)) t
+    (subst (λ (x : Journal). (file ≡ generation_file (generation_of x)) ⊎ ((table_in (folder_of session')).next_file ≤ file)) j is))
     (λ image any others. tt)
 
 -- ---- counts of failed looks
@@ -86,8 +93,18 @@ pub refused_after : {T : Type 0} (result : Result T Refusal) (a b : ℕ) → b �
 refused_after (Ok x) a b same = tt
 refused_after (Err why) a b same = λ other. same
 
-pub unread_counts : (r : ReadRefusal) (why : Refusal) (a b : Counts) → why ≡ refusal_of r → HasReadCause r a b → (why ≡ refusal.Fault → ⊥) → b.reads ≡ a.reads
-unread_counts reading.Fault why a b is cause other = absurd (other is)
-unread_counts (reading.Damaged file kept found) why a b is cause other = cause.1
-unread_counts (reading.Unreadable file at) why a b is cause other = cause
-unread_counts reading.Memory why a b is cause other = cause
+pub unread_counts : (places : FileName → FileRef) (names : List FileName) (old new : Counts) (why : RunRefusal) → HasRunCause places names old new why → (refusal_of why ≡ refusal.Fault → ⊥) → new.reads ≡ old.reads
+unread_counts places names old new run.Fault cause other = absurd (other refl)
+unread_counts places names old new (run.Damaged file kept found) cause other = cause.4
+unread_counts places names old new (run.Unreadable file at) cause other = cause.2
+unread_counts places names old new run.Overflow cause other = cause
+unread_counts places names old new run.Machine cause other = cause
+unread_counts places names old new run.Memory cause other = cause
+
+pub fault_rose : (places : FileName → FileRef) (names : List FileName) (old new : Counts) (why : RunRefusal) → HasRunCause places names old new why → answer.Refused (refusal_of why) ≡ answer.Refused refusal.Fault → Rose old.reads new.reads
+fault_rose places names old new run.Fault cause is = cause
+fault_rose places names old new (run.Damaged file kept found) cause is = absurd (cc)
+fault_rose places names old new (run.Unreadable file at) cause is = absurd (cc)
+fault_rose places names old new run.Overflow cause is = absurd (cc)
+fault_rose places names old new run.Machine cause is = absurd (cc)
+fault_rose places names old new run.Memory cause is = absurd (cc)

@@ -1,11 +1,11 @@
-pub mod FewColumns
+pub mod ChosenLemmas
 pub mod FileLemmas
 pub mod LeavingLemmas
 pub mod LoadLemmas
 pub mod OneReading
 pub mod OutcomeLemmas
-pub mod ReadLemmas
 pub mod RefusalLemmas
 pub mod RowLemmas
 pub mod StepLemmas
 pub mod TakenLemmas
+pub mod WorkLemmas

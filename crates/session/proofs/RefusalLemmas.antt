@@ -1,15 +1,15 @@
 -- Which refusals are laid to the store.
 use Rattle.std.proofs.Common.{◌≡◌, ◌⊎◌, ℕ, Bool, true, false, cond, List, Option, None, Some, Ok, Err, Result, IfOk, IfErr, refl, sym, ap, ◌∙◌, subst, inl, inr}
-use Rattle.std.specs.Prelude.{Vec, nat_le, nat_lt, is_some, length}
-use Rattle.std.specs.declared.alloc.Global.{Global}
+use Rattle.std.specs.Prelude.{nat_le, nat_lt, is_some, length}
 use Rattle.rows_core.specs.declared.file_ref.Digest.{Digest}
+use Rattle.rows_core.specs.declared.file_ref.FileRef.{FileRef}
 use Rattle.rows_core.specs.declared.schema.Column.{Column}
 use Rattle.rows_core.specs.declared.value.Value.{Value}
 use Rattle.rows_core.specs.Schema.{has_repeat}
 use Rattle.catalog_types.specs.declared.change.Change.{Change}
 use Rattle.catalog_types.specs.declared.change.Change.TheVariants as change
-use Rattle.catalog_types.specs.declared.snapshot.StreamState.{StreamState}
 use Rattle.outside_traits.specs.Counts.{Rose}
+use Rattle.outside_traits.specs.View.{Counts}
 use Rattle.outside_traits.specs.declared.failed.Failed.{Failed}
 use Rattle.catalog_core.specs.Programs.{extents_at, most_text_bytes, with_program}
 use Rattle.catalog_core.specs.Table.{Table, place_of, most_ticks, most_streams, most_programs, file_end, most_extents, most_extents_in_all, most_extent_bytes, extent_count}
@@ -18,14 +18,21 @@ use Rattle.plan_binder.specs.declared.refusal.BindRefusal.TheVariants as binding
 use Rattle.plan_core.specs.declared.refusal.PlanRefusal.{PlanRefusal}
 use Rattle.plan_core.specs.declared.refusal.PlanRefusal.TheVariants as typing
 use Rattle.plan_core.specs.Columns.{Rows}
-use Rattle.plan_core.specs.PlainPlan.{PlainPlan, leaves}
+use Rattle.plan_core.specs.PlainPlan.{PlainPlan}
 use Rattle.plan_core.specs.PlanTyping.{Kinds}
 use Rattle.plan_grammar.specs.PlainNamed.{PlainTree}
+use Rattle.rewrite_core.specs.Files.{FileName, files_of}
+use Rattle.rewrite_core.specs.PlainRewriting.{PlainRewriting}
+use Rattle.growth_laws.specs.Pieces.{pieces_of}
+use Rattle.executor.specs.Runs.{HasRunCause, IsRunFound}
+use Rattle.executor.specs.declared.refusal.RunRefusal.{RunRefusal}
+use Rattle.executor.specs.declared.refusal.RunRefusal.TheVariants as run
+use Rattle.plan_choice.specs.Taken.{IsTaken}
 use Rattle.planning.specs.Appending.{Append, held, append_to, file_bytes, appending, appending_read, IsAppending, IsAppendingAt}
 use Rattle.planning.specs.Making.{making, most_columns}
 use Rattle.planning.specs.Rows.{Reading, BadLine, have_long}
 use Rattle.planning.specs.Rows as rows
-use Rattle.planning.specs.Running.{Run, result_of, bound_plan, typing_of, unbound, untyped, storing, run_of, running_typed, running_bound, running, IsRunOn}
+use Rattle.planning.specs.Running.{Run, bound_plan, typing_of, unbound, untyped, storing, run_of, running_typed, running_bound, running}
 use Rattle.script_text.specs.declared.answer.Answer.{Answer}
 use Rattle.script_text.specs.declared.answer.Answer.TheVariants as answer
 use Rattle.script_text.specs.declared.answer.LimitKind.TheVariants as limit
@@ -35,13 +42,12 @@ use Rattle.script_text.specs.declared.item.Command.{Command}
 use Rattle.script_text.specs.declared.item.Command.TheVariants as command
 use Rattle.folder.specs.Sound.{Care, Shown, Whole}
 use Rattle.folder.specs.State.{State, table}
-use Rattle.folder.specs.Causes.{IsOfStreams}
-use Rattle.folder.specs.declared.refusal.ReadRefusal.{ReadRefusal}
-use Rattle.folder.specs.declared.refusal.ReadRefusal.TheVariants as reading
+use Rattle.work_run.specs.Ends.{sources_of}
 use Rattle.session.specs.declared.session.Session.{Session}
-use Rattle.session.specs.ReadEvents.{refusal_of, IsRefusedOn}
-use Rattle.session.specs.Machine.{Outcome, outcome, refused, made, appended, lists_of, bytes_read, RunsTo, Performs, IsEvent, Step}
+use Rattle.session.specs.Machine.{Outcome, outcome, refused, made, appended, RunsTo, IsWorkOn, Performs, IsWant, IsFileEvent, IsEvent, Step}
 use Rattle.session.specs.Causes.{SparesStore, TellsOfNoFile, IsOfFiles, IsOfRun, HasByteCause}
+use Rattle.session.specs.WorkRefusals.{refusal_of}
+use Rattle.session.specs.Working.{IsFoundFor}
 
 -- ---- what planning refuses is laid to the command
 
@@ -153,47 +159,46 @@ module _ (t : Table) (files : ℕ → List ℕ) where
   -- what is refused before, and want of memory
   of_spared : (planned : Result Run Refusal) (why : Refusal) → SparesStore why → IsOfRun t planned files why
   of_spared (Err w) why spares = spares
-  of_spared (Ok run) why spares = by why spares
-    where
-      by : (why : Refusal) → SparesStore why → IsOfFiles t.streams (leaves run.plan) files why
-      by (refusal.Damaged file kept found) spares = absurd spares
-      by (refusal.Unreadable file at) spares = absurd spares
-      by _ spares = tt
+  of_spared (Ok run) (refusal.Damaged file kept found) spares = absurd spares
+  of_spared (Ok run) (refusal.Unreadable file at) spares = absurd spares
+  of_spared (Ok run) _ spares = tt
+
+  -- by the rewriting that is taken
+  of_taken : (run : Run) (normal : PlainPlan) (r : PlainRewriting) → IsTaken t run.plan normal run.program.cuts r → (why : Refusal) → IsOfFiles t r files why → IsOfRun t (Ok run) files why
+  of_taken run normal r taken (refusal.Damaged file kept found) is = record { normal = normal; rewriting = r; taken = taken; of_files = is }
+  of_taken run normal r taken (refusal.Unreadable file at) is = record { normal = normal; rewriting = r; taken = taken; of_files = is }
+  of_taken run normal r taken _ is = tt
 
   module _ (name : List ℕ) (tree : PlainTree) where
     pub run_refused : (why : Refusal) → running t name tree ≡ Err why ⊎ IsMemory why → HasByteCause t (command.Run name tree) files (answer.Refused why)
     run_refused why either = of_spared (running t name tree) why (running_refuses t name tree why either)
 
-    pub run_unread : (run : Run) (plan : PlainPlan) (why : Refusal) → running t name tree ≡ Ok run → plan ≡ run.plan → IsOfFiles t.streams (leaves plan) files why → HasByteCause t (command.Run name tree) files (answer.Refused why)
-    run_unread run plan why is plan_is found = subst (λ (r : Result Run Refusal). IsOfRun t r files why) (sym is) (subst (λ p. IsOfFiles t.streams (leaves p) files why) plan_is found)
+    pub run_found : (run : Run) (normal : PlainPlan) (r : PlainRewriting) → running t name tree ≡ Ok run → IsTaken t run.plan normal run.program.cuts r → (result : Result (Session × Answer) Failed)
+        → IfOk result (λ next. IsFoundFor t r files next.1) → IfOk result (λ next. HasByteCause t (command.Run name tree) files next.1)
+    run_found run normal r is taken (Ok next) found = told next.1 found
+      where
+        told : (given : Answer) → IsFoundFor t r files given → HasByteCause t (command.Run name tree) files given
+        told (answer.Refused why) found = subst (λ (planned : Result Run Refusal). IsOfRun t planned files why) (sym is) (of_taken run normal r taken why found)
+        told _ found = tt
+    run_found run normal r is taken (Err failed) found = tt
 
-    -- a result, or want of memory where it was to be recorded
-    pub run_kept : (rows : Rows) (bytes : ℕ) (given : Answer) → given ≡ result_of rows bytes → (result : Result (Session × Answer) Failed)
-        → IfOk result (λ next. (next.1 ≡ given) ⊎ (next.1 ≡ answer.Refused refusal.Memory)) → IfOk result (λ next. HasByteCause t (command.Run name tree) files next.1)
-    run_kept rows bytes given result_is (Ok next) either = elim either [
-      | inl is ↦ subst (λ (a : Answer). HasByteCause t (command.Run name tree) files a) (sym (is ∙ result_is)) tt
-      | inr none ↦ subst (λ (a : Answer). HasByteCause t (command.Run name tree) files a) (sym none) (of_spared (running t name tree) refusal.Memory tt)
-    ]
-    run_kept rows bytes given result_is (Err failed) either = tt
+  -- ---- work
 
--- why files aren't read, as a refusal of the run
-pub of_reading : (streams : List StreamState) (numbers : List ℕ) (files : ℕ → List ℕ) (why : ReadRefusal) → IsOfStreams streams numbers files why → IsOfFiles streams numbers files (refusal_of why)
-of_reading streams numbers files reading.Fault found = tt
-of_reading streams numbers files (reading.Damaged file kept digest) found = found
-of_reading streams numbers files (reading.Unreadable file at) found = found
-of_reading streams numbers files reading.Memory found = tt
+  -- why it isn't done
+  pub work_found : (r : PlainRewriting) (places : FileName → FileRef) (old new : Counts) (why : RunRefusal) → HasRunCause places (files_of r) old new why → IsRunFound (sources_of t files) (pieces_of r) (files_of r) why
+      → IsOfFiles t r files (refusal_of why)
+  work_found r places old new (run.Damaged file kept found) cause is = (is, λ (same : found ≡ kept). cause.3 (same ∙ cause.2))
+  work_found r places old new (run.Unreadable file at) cause is = is
+  work_found r places old new run.Overflow cause is = tt
+  work_found r places old new run.Machine cause is = tt
+  work_found r places old new run.Fault cause is = tt
+  work_found r places old new run.Memory cause is = tt
 
--- a run on rows that were read is refused for its plan
-pub of_rows : (streams : List StreamState) (numbers : List ℕ) (files : ℕ → List ℕ) (plan : PlainPlan) (lists : List Rows) (result : Result (Vec (List Value) Global) Refusal) → IfErr result (λ why. IsRefusedOn plan lists why ⊎ (why ≡ refusal.Memory))
-    → IfErr result (IsOfFiles streams numbers files)
-of_rows streams numbers files plan lists (Ok rows) either = tt
-of_rows streams numbers files plan lists (Err why) (inl is) = on why is
-  where
-    on : (why : Refusal) → IsRefusedOn plan lists why → IsOfFiles streams numbers files why
-    on (refusal.Damaged file kept found) is = absurd is
-    on (refusal.Unreadable file at) is = absurd is
-    on _ is = tt
-of_rows streams numbers files plan lists (Err why) (inr none) = subst (λ (w : Refusal). IsOfFiles streams numbers files w) (sym none) tt
+  -- a result, or want of memory where it was to be recorded
+  pub result_found : (r : PlainRewriting) (rows : Rows) (used kept : List ℕ) (read : ℕ) (result : Result (Session × Answer) Failed) → IfOk result (λ next. next.1 ≡ answer.Result rows used kept read)
+      → IfOk result (λ next. IsFoundFor t r files next.1)
+  result_found r rows used kept read (Ok next) is = subst (λ (a : Answer). IsFoundFor t r files a) (sym is) tt
+  result_found r rows used kept read (Err failed) is = tt
 
 -- a command that reads no files tells no failed read
 pub no_fault_in : (old new : ℕ) (result : Result (Session × Answer) Failed) → IfOk result (λ next. TellsOfNoFile next.1) → IfOk result (λ next. next.1 ≡ answer.Refused refusal.Fault → Rose old new)
@@ -221,14 +226,14 @@ appended_spares s (Ok a) why new spares is =
     absurd (cc)
 appended_spares s (Err w) why new spares is = spares_same s why w new is spares
 
-on_spares : (plan : PlainPlan) (lists : List Rows) (bytes : ℕ) (why : Refusal) → IsRunOn plan lists bytes (answer.Refused why) → SparesStore why
-on_spares plan lists bytes refusal.Fault is = absurd is
-on_spares plan lists bytes (refusal.Damaged file kept found) is = absurd is
-on_spares plan lists bytes (refusal.Unreadable file at) is = absurd is
-on_spares plan lists bytes _ is = tt
+on_spares : (s : State) (run : Run) (why : Refusal) (new : State) → IsWorkOn s (Some run.program) run.plan run.program.cuts (answer.Refused why) new → SparesStore why
+on_spares s run refusal.Fault new is = absurd is
+on_spares s run (refusal.Damaged file kept found) new is = absurd is
+on_spares s run (refusal.Unreadable file at) new is = absurd is
+on_spares s run _ new is = tt
 
 ran_spares : (s : State) (planned : Result Run Refusal) (why : Refusal) (new : State) → IfErr planned SparesStore → RunsTo s planned (outcome (answer.Refused why) new) → SparesStore why
-ran_spares s (Ok run) why new spares is = on_spares run.plan (lists_of s.streams run.plan) (bytes_read s run) why is.0
+ran_spares s (Ok run) why new spares is = on_spares s run why new is
 ran_spares s (Err w) why new spares is = spares_same s why w new is spares
 
 performed_spares : (s : State) (c : Command) (why : Refusal) (new : State) → Performs s c (outcome (answer.Refused why) new) → SparesStore why
@@ -238,17 +243,21 @@ performed_spares s (command.Run name tree) why new is = ran_spares s (running (t
 
 -- ---- what comes in the course of a command: want of memory, a failed read, and damage where files may show it
 
-event_spares : (s : State) (c : Command) (why : Refusal) → IsEvent Whole s c why → (why ≡ refusal.Fault → ⊥) → SparesStore why
-event_spares s c refusal.Fault event none = none refl
-event_spares s (command.Stream name columns) (refusal.Damaged file kept found) event none = absurd event
-event_spares s (command.Append name lines) (refusal.Damaged file kept found) event none = absurd event
-event_spares s (command.Run name tree) (refusal.Damaged file kept found) event none =
+want_spares : (why : Refusal) → IsWant why → SparesStore why
+want_spares refusal.Memory want = tt
+want_spares _ want = absurd want
+
+file_event_spares : (s : State) (why : Refusal) → IsFileEvent Whole s why → (why ≡ refusal.Fault → ⊥) → SparesStore why
+file_event_spares s refusal.Fault event none = none refl
+file_event_spares s (refusal.Damaged file kept found) event none =
     let may : Whole ≡ Shown = event.may in
     absurd (cc)
-event_spares s (command.Stream name columns) (refusal.Unreadable file at) event none = absurd event
-event_spares s (command.Append name lines) (refusal.Unreadable file at) event none = absurd event
-event_spares s (command.Run name tree) (refusal.Unreadable file at) event none = absurd event
-event_spares s c _ event none = tt
+file_event_spares s why event none = want_spares why event
+
+event_spares : (s : State) (c : Command) (why : Refusal) → IsEvent Whole s c why → (why ≡ refusal.Fault → ⊥) → SparesStore why
+event_spares s (command.Stream name columns) why event none = want_spares why event
+event_spares s (command.Append name lines) why event none = want_spares why event
+event_spares s (command.Run name tree) why event none = file_event_spares s why event none
 
 -- where the files hold their bytes no refusal but that of a failed read is laid to the store
 pub step_spares : (s new : State) (c : Command) (why : Refusal) → Step Whole s c (answer.Refused why) new → (why ≡ refusal.Fault → ⊥) → SparesStore why

@@ -1,12 +1,18 @@
 -- A step of a session: what its parts come to.
-use Rattle.std.proofs.Common.{◌≡◌, ◌⊎◌, ◌≤◌, ℕ, List, Some, Ok, Err, Result, IfOk, OnErr, refl, sym, ap, ◌∙◌, subst, inl, inr}
+use Rattle.std.proofs.Common.{◌≡◌, ◌⊎◌, ℕ, List, Option, Some, Ok, Err, Result, IfOk, OnErr, refl, sym, ap, ◌∙◌, subst, inl, inr}
 use Rattle.outside_traits.specs.View.{View}
 use Rattle.outside_traits.specs.declared.failed.Failed.{Failed}
 use Rattle.outside_traits.proofs.RunLemmas.{spans_none, spans_on, spans_wider}
 use Rattle.rows_core.specs.declared.schema.Column.{Column}
+use Rattle.plan_core.specs.PlainPlan.{PlainPlan}
+use Rattle.plan_grammar.specs.PlainNamed.{PlainTree}
+use Rattle.estimator.specs.Cuts.{Cuts}
 use Rattle.catalog_types.specs.declared.change.Change.{Change}
+use Rattle.catalog_types.specs.declared.program.Program.{Program}
 use Rattle.catalog_core.specs.Table.{Table}
 use Rattle.journal_store.specs.declared.journal.Journal.{Journal}
+use Rattle.executor.specs.declared.refusal.RunRefusal.{RunRefusal}
+use Rattle.executor.specs.declared.refusal.RunRefusal.TheVariants as run
 use Rattle.script_text.specs.declared.answer.Answer.{Answer}
 use Rattle.script_text.specs.declared.answer.Answer.TheVariants as answer
 use Rattle.script_text.specs.declared.answer.Refusal.{Refusal}
@@ -15,28 +21,20 @@ use Rattle.script_text.specs.declared.item.Command.{Command}
 use Rattle.script_text.specs.declared.item.Command.TheVariants as command
 use Rattle.planning.specs.Appending.{IsAppending, Append, held}
 use Rattle.planning.specs.Making.{making}
-use Rattle.planning.specs.Running.{Run, running, extents_of, bytes_of, IsRunOn, result_of, most_machine_time}
-use Rattle.plan_core.specs.Columns.{Rows}
-use Rattle.plan_core.specs.PlainPlan.{PlainPlan}
-use Rattle.plan_core.specs.MachineTime.{machine_time}
-use Rattle.plan_core.specs.PlanMeaning.{plan_meaning}
-use Rattle.plan_grammar.specs.PlainNamed.{PlainTree}
+use Rattle.planning.specs.Running.{Run, running}
 use Rattle.folder.specs.Folders.{table_in, journal_of, FolderStands}
 use Rattle.folder.specs.Left.{IsLeft, Since, StaysSound, Everything, IsSoundForOneOf}
-use Rattle.folder.specs.Next.{with_stream, with_rows, with_run}
+use Rattle.folder.specs.Next.{with_stream, with_rows}
 use Rattle.folder.specs.Sound.{Care, IsSound}
 use Rattle.folder.specs.Standing.{Means}
 use Rattle.folder.specs.Standing as standing
 use Rattle.folder.specs.State.{State, table}
+use Rattle.work_run.specs.Ends.{IsRefusedWork}
 use Rattle.session.specs.declared.session.Session.{Session}
 use Rattle.session.specs.Machine as machine
-use Rattle.folder.specs.StreamRows.{IsReadEvent}
-use Rattle.folder.specs.declared.refusal.ReadRefusal.{ReadRefusal}
-use Rattle.folder.specs.declared.refusal.ReadRefusal.TheVariants as reading
-use Rattle.script_text.specs.declared.answer.LimitKind.TheVariants as limit
-use Rattle.session.specs.ReadEvents.{refusal_of, HasRows, IsRefusedOn, IsRunRefusal}
-use Rattle.session.specs.Machine.{outcome, refused, made, IsEvent, lists_of, bytes_read, RunsTo}
-use Rattle.session.specs.Standing.{Stands, Performs, Breaks, Records, Keeps, KeepsNot, folder_of}
+use Rattle.session.specs.Machine.{outcome, refused, made, IsEvent, RunsTo, IsWorkOn, WorkStep}
+use Rattle.session.specs.Standing.{Stands, Performs, Breaks, Records, KeepsNot, WorksOff, BreaksOff, folder_of}
+use Rattle.session.specs.WorkRefusals.{refusal_of}
 
 -- ---- a session that is the same but for the memory that it has taken
 
@@ -92,35 +90,25 @@ module _ (care : Care) (t : Table) (s : State) (same : t ≡ table s) where
     | inr none ↦ inr (subst (λ w. IsEvent care s (command.Append name lines) w) (sym none) tt)
   ]
 
-  pub ran_ok : (name : List ℕ) (tree : PlainTree) (r : Run) (plan : PlainPlan) (bytes : ℕ) (rows : Rows) → running t name tree ≡ Ok r → plan ≡ r.plan → bytes ≡ bytes_of (extents_of t.streams r.plan) → HasRows plan (lists_of s.streams plan) rows
-      → machine.Performs s (command.Run name tree) (outcome (result_of rows bytes) (with_run s (Some r.program)))
-  ran_ok name tree r plan bytes rows is plan_is bytes_is has =
-      let read : bytes ≡ bytes_read s r = bytes_is ∙ ap (λ (x : Table). bytes_of (extents_of x.streams r.plan)) same in
-      let run : IsRunOn r.plan (lists_of s.streams r.plan) (bytes_read s r) (result_of rows bytes) = (ap (result_of rows) read, subst (λ p. plan_meaning p (lists_of s.streams p) ≡ Ok rows) plan_is has.meaning, subst (λ p. machine_time p (lists_of s.streams p) ≤ most_machine_time) plan_is has.within) in
-      subst (λ x. RunsTo s x (outcome (result_of rows bytes) (with_run s (Some r.program)))) (sym (subst (λ x. running x name tree ≡ Ok r) same is)) (run, refl)
-
+  -- a run before its work
   pub ran_err : (name : List ℕ) (tree : PlainTree) (why : Refusal) → running t name tree ≡ Err why ⊎ (why ≡ refusal.Memory) → machine.Performs s (command.Run name tree) (refused s why) ⊎ IsEvent care s (command.Run name tree) why
   ran_err name tree why either = elim either [
     | inl is ↦ inl (subst (λ x. RunsTo s x (refused s why)) (sym (subst (λ x. running x name tree ≡ Err why) same is)) refl)
     | inr none ↦ inr (subst (λ w. IsEvent care s (command.Run name tree) w) (sym none) tt)
   ]
 
-  pub ran_refused : (name : List ℕ) (tree : PlainTree) (r : Run) (plan : PlainPlan) (why : Refusal) → running t name tree ≡ Ok r → plan ≡ r.plan → IsRunRefusal care s plan why → machine.Performs s (command.Run name tree) (refused s why) ⊎ IsEvent care s (command.Run name tree) why
-  ran_refused name tree r plan why is plan_is either = elim either [
-    | inl refused_on ↦ inl (subst (λ x. RunsTo s x (refused s why)) (sym (subst (λ x. running x name tree ≡ Ok r) same is)) (on why (subst (λ p. IsRefusedOn p (lists_of s.streams p) why) plan_is refused_on), refl))
-    | inr unread ↦ inr (subst (λ w. IsEvent care s (command.Run name tree) w) (sym unread.is) (event unread.refusal unread.event))
-  ]
-    where
-      on : (why : Refusal) → IsRefusedOn r.plan (lists_of s.streams r.plan) why → IsRunOn r.plan (lists_of s.streams r.plan) (bytes_read s r) (answer.Refused why)
-      on refusal.Overflow is = is
-      on (refusal.Limit limit.Machine) is = is
-      on _ is = absurd is
+  -- its plan was worked off
+  pub ran_step : (name : List ℕ) (tree : PlainTree) (r : Run) (program : Program) → running t name tree ≡ Ok r → program ≡ r.program → (given : Answer) (new : State)
+      → WorkStep care s (Some program) r.plan program.cuts given new → machine.Step care s (command.Run name tree) given new
+  ran_step name tree r program is program_is given new (inl works) =
+      inl (subst (λ x. RunsTo s x (outcome given new)) (sym (subst (λ x. running x name tree ≡ Ok r) same is)) (subst (λ (p : Program). IsWorkOn s (Some p) r.plan p.cuts given new) program_is works))
+  ran_step name tree r program is program_is given new (inr event) = inr event
 
-      event : (why : ReadRefusal) → IsReadEvent care s why → IsEvent care s (command.Run name tree) (refusal_of why)
-      event reading.Fault is = tt
-      event (reading.Damaged file kept found) is = is
-      event (reading.Unreadable file at) is = absurd is
-      event reading.Memory is = tt
+-- want of memory may come in the course of any command
+pub want_event : (care : Care) (s : State) (c : Command) → IsEvent care s c refusal.Memory
+want_event care s (command.Stream name columns) = tt
+want_event care s (command.Append name lines) = tt
+want_event care s (command.Run name tree) = tt
 
 -- ---- what is recorded
 
@@ -136,17 +124,7 @@ module _ (care : Care) (u v : View) (s new : State) (c : Command) (given : Answe
   pub either_breaks : (result : Result (Session × Answer) Failed) → OnErr result (KeepsNot care u v s new ⊎ KeepsNot care u v s s) → OnErr result (Breaks care u v s c)
   either_breaks (Ok next) broke = tt
   either_breaks (Err failed) (inl broke) = record { answer = given; new = new; step = inl performs; since = broke.since; left = broke.left }
-  either_breaks (Err failed) (inr broke) = record { answer = answer.Refused refusal.Memory; new = s; step = inr (refusal.Memory, tt, refl); since = broke.since; left = broke.left }
-
-  pub keeps_performs : (t : View) → ((other : State) → Since care s other t u) → (result : Result (Session × Answer) Failed) → IfOk result (λ next. Keeps care u v next.0 s new given next.1) → IfOk result (λ next. Performs care t v next.0 s c next.1)
-  keeps_performs t before (Ok next) (inl kept) = record { new = new; step = inl (subst (λ a. machine.Performs s c (outcome a new)) (sym kept.0) performs); stands = kept.1.stands; since = spans_on Everything (IsSoundForOneOf care s new) t u v (before new) kept.1.since }
-  keeps_performs t before (Ok next) (inr none) = record { new = s; step = inr (refusal.Memory, tt, ap (λ a. outcome a s) none.0); stands = none.1.stands; since = spans_on Everything (IsSoundForOneOf care s s) t u v (before s) none.1.since }
-  keeps_performs t before (Err failed) kept = tt
-
--- it was recorded, and the answer is this one
-pub keeps_recorded : (care : Care) (u v : View) (s new : State) (given : Answer) (result : Result (Session × Answer) Failed) → IfOk result (λ next. Records care u v next.0 s new) → IfOk result (λ next. next.1 ≡ given) → IfOk result (λ next. Keeps care u v next.0 s new given next.1)
-keeps_recorded care u v s new given (Ok next) recorded same = inl (same, recorded)
-keeps_recorded care u v s new given (Err failed) recorded same = tt
+  either_breaks (Err failed) (inr broke) = record { answer = answer.Refused refusal.Memory; new = s; step = inr (refusal.Memory, want_event care s c, refl); since = broke.since; left = broke.left }
 
 -- ---- a run before what is recorded, in which nothing changes
 
@@ -162,17 +140,45 @@ module _ (care : Care) (t u v : View) (s new : State) (before : StaysSound care 
   breaks_behind (Ok next) broke = tt
   breaks_behind (Err failed) broke = inl (record { since = spans_on Everything (IsSoundForOneOf care s new) t u v (since_stays new) broke.since; left = broke.left })
 
-  pub keeps_not_behind : KeepsNot care u v s new → KeepsNot care t v s new
-  keeps_not_behind broke = record { since = spans_on Everything (IsSoundForOneOf care s new) t u v (since_stays new) broke.since; left = broke.left }
+  keeps_not_behind : (other : State) → KeepsNot care u v s other → KeepsNot care t v s other
+  keeps_not_behind other broke = record { since = spans_on Everything (IsSoundForOneOf care s other) t u v (since_stays other) broke.since; left = broke.left }
 
-  pub not_behind : (result : Result (Session × Answer) Failed) → OnErr result (KeepsNot care u v s new) → OnErr result (KeepsNot care t v s new)
-  not_behind (Ok next) broke = tt
-  not_behind (Err failed) broke = keeps_not_behind broke
+  pub either_behind : (result : Result (Session × Answer) Failed) → OnErr result (KeepsNot care u v s new ⊎ KeepsNot care u v s s) → OnErr result (KeepsNot care t v s new ⊎ KeepsNot care t v s s)
+  either_behind (Ok next) broke = tt
+  either_behind (Err failed) (inl broke) = inl (keeps_not_behind new broke)
+  either_behind (Err failed) (inr broke) = inr (keeps_not_behind s broke)
 
   -- the store failed in it
   pub breaks_before : IsLeft care u s s → KeepsNot care t u s s
   breaks_before left = record { since = since_stays s; left = inl left }
 
--- a refusal that the machine gives, or that comes in the course of the command
-pub event_step : (care : Care) (s : State) (c : Command) (why : Refusal) → machine.Performs s c (refused s why) ⊎ IsEvent care s c why → machine.Step care s c (answer.Refused why) s
-event_step care s c why either = elim either [ inl given ↦ inl given | inr event ↦ inr (why, event, refl) ]
+-- ---- work
+
+module _ (care : Care) (u v : View) (s new : State) (program : Option Program) (plan : PlainPlan) (cuts : Cuts) (given : Answer) (works : IsWorkOn s program plan cuts given new) where
+  pub kept_works : (result : Result (Session × Answer) Failed) → IfOk result (λ next. Records care u v next.0 s new) → IfOk result (λ next. next.1 ≡ given) → IfOk result (λ next. WorksOff care u v next.0 s program plan cuts next.1)
+  kept_works (Ok next) recorded same = record { new = new; step = inl (subst (λ a. IsWorkOn s program plan cuts a new) (sym same) works); stands = recorded.stands; since = recorded.since }
+  kept_works (Err failed) recorded same = tt
+
+  pub broken_works : (result : Result (Session × Answer) Failed) → OnErr result (KeepsNot care u v s new ⊎ KeepsNot care u v s s) → OnErr result (BreaksOff care u v s program plan cuts)
+  broken_works (Ok next) broke = tt
+  broken_works (Err failed) (inl broke) = record { answer = given; new = new; step = inl works; since = broke.since; left = broke.left }
+  broken_works (Err failed) (inr broke) = record { answer = answer.Refused refusal.Memory; new = s; step = inr (refusal.Memory, tt, refl); since = broke.since; left = broke.left }
+
+-- work that isn't done, as a step
+pub refused_work : (care : Care) (s : State) (program : Option Program) (plan : PlainPlan) (cuts : Cuts) (why : RunRefusal) → IsRefusedWork care s plan cuts why → WorkStep care s program plan cuts (answer.Refused (refusal_of why)) s
+refused_work care s program plan cuts run.Overflow is = inl (is, refl)
+refused_work care s program plan cuts run.Machine is = inl (is, refl)
+refused_work care s program plan cuts run.Fault is = inr (refusal.Fault, tt, refl)
+refused_work care s program plan cuts (run.Damaged file kept found) is = inr (refusal.Damaged file kept found, is, refl)
+refused_work care s program plan cuts (run.Unreadable file at) is = absurd is
+refused_work care s program plan cuts run.Memory is = inr (refusal.Memory, tt, refl)
+
+-- a run whose work is done, or breaks off
+module _ (care : Care) (u v : View) (s : State) (t : Table) (same : t ≡ table s) (name : List ℕ) (tree : PlainTree) (r : Run) (program : Program) (is : running t name tree ≡ Ok r) (program_is : program ≡ r.program) where
+  pub ran_performs : (result : Result (Session × Answer) Failed) → IfOk result (λ next. WorksOff care u v next.0 s (Some program) r.plan program.cuts next.1) → IfOk result (λ next. Performs care u v next.0 s (command.Run name tree) next.1)
+  ran_performs (Ok next) done = record { new = done.new; step = ran_step care t s same name tree r program is program_is next.1 done.new done.step; stands = done.stands; since = done.since }
+  ran_performs (Err failed) done = tt
+
+  pub ran_breaks : (result : Result (Session × Answer) Failed) → OnErr result (BreaksOff care u v s (Some program) r.plan program.cuts) → OnErr result (Breaks care u v s (command.Run name tree))
+  ran_breaks (Ok next) broke = tt
+  ran_breaks (Err failed) broke = record { answer = broke.answer; new = broke.new; step = ran_step care t s same name tree r program is program_is broke.answer broke.new broke.step; since = broke.since; left = broke.left }

@@ -1,8 +1,15 @@
 -- Which refusals are laid to the store, and by which bytes of its files.
-use Rattle.std.specs.Prelude.{ℕ, List, Result, Ok, Err, ⊤}
+use Rattle.std.specs.Prelude.{◌≢◌, ℕ, List, Result, Ok, Err, ⊤}
+use Rattle.plan_core.specs.PlainPlan.{PlainPlan}
+use Rattle.estimator.specs.Cuts.{Cuts}
+use Rattle.rewrite_core.specs.Files.{files_of}
+use Rattle.rewrite_core.specs.PlainRewriting.{PlainRewriting}
+use Rattle.growth_laws.specs.Pieces.{pieces_of}
 use Rattle.catalog_core.specs.Table.{Table}
-use Rattle.catalog_types.specs.declared.snapshot.StreamState.{StreamState}
-use Rattle.plan_core.specs.PlainPlan.{leaves}
+use Rattle.kept_files.specs.declared.refusal.ReadRefusal.{ReadRefusal}
+use Rattle.kept_files.specs.declared.refusal.ReadRefusal.TheVariants as reading
+use Rattle.executor.specs.Running.{EndsOver}
+use Rattle.plan_choice.specs.Taken.{IsTaken}
 use Rattle.planning.specs.Running.{Run, running}
 use Rattle.script_text.specs.declared.answer.Answer.{Answer}
 use Rattle.script_text.specs.declared.answer.Answer.TheVariants as answer
@@ -10,8 +17,7 @@ use Rattle.script_text.specs.declared.answer.Refusal.{Refusal}
 use Rattle.script_text.specs.declared.answer.Refusal.TheVariants as refusal
 use Rattle.script_text.specs.declared.item.Command.{Command}
 use Rattle.script_text.specs.declared.item.Command.TheVariants as command
-use Rattle.folder.specs.Causes.{IsOfStreams}
-use Rattle.folder.specs.declared.refusal.ReadRefusal.TheVariants as reading
+use Rattle.work_run.specs.Ends.{sources_of}
 
 -- it isn't: it tells no failed read, and no file that is damaged or unreadable
 abbrev pub SparesStore : Refusal → Type 0
@@ -26,15 +32,28 @@ TellsOfNoFile (answer.Result rows used kept read) = ⊥
 TellsOfNoFile (answer.Refused why) = SparesStore why
 TellsOfNoFile _ = ⊤
 
--- damage and unreadable bytes are those of a file of the streams with these numbers
-abbrev pub IsOfFiles : List StreamState → List ℕ → (ℕ → List ℕ) → Refusal → Type 0
-IsOfFiles streams numbers files (refusal.Damaged file kept found) = IsOfStreams streams numbers files (reading.Damaged file kept found)
-IsOfFiles streams numbers files (refusal.Unreadable file at) = IsOfStreams streams numbers files (reading.Unreadable file at)
-IsOfFiles streams numbers files _ = ⊤
+-- reading a rewriting's files ends so by the bytes of one of them
+abbrev pub EndsReading : Table → PlainRewriting → (ℕ → List ℕ) → ReadRefusal → Type 0
+EndsReading t r files why = EndsOver (sources_of t files) (pieces_of r) (files_of r) why
 
--- of a run they are those of a file of its plan's streams; one that is refused before reads none
+-- damage and unreadable bytes are those of a file of this rewriting, and damage shows another digest than the kept one
+abbrev pub IsOfFiles : Table → PlainRewriting → (ℕ → List ℕ) → Refusal → Type 0
+IsOfFiles t r files (refusal.Damaged file kept found) = EndsReading t r files (reading.Damaged file kept found) × (found ≢ kept)
+IsOfFiles t r files (refusal.Unreadable file at) = EndsReading t r files (reading.Unreadable file at)
+IsOfFiles t r files _ = ⊤
+
+-- they are those of the rewriting that is taken of a plan at a cut
+pub record IsOfTaken (t : Table) (plan : PlainPlan) (cuts : Cuts) (files : ℕ → List ℕ) (why : Refusal) : Type 0 where
+  pub normal : PlainPlan
+  pub rewriting : PlainRewriting
+  pub taken : IsTaken t plan normal cuts rewriting
+  pub of_files : IsOfFiles t rewriting files why
+
+-- Of a run they are so, unless it is refused before it reads.
 abbrev pub IsOfRun : Table → Result Run Refusal → (ℕ → List ℕ) → Refusal → Type 0
-IsOfRun t (Ok run) files why = IsOfFiles t.streams (leaves run.plan) files why
+IsOfRun t (Ok run) files (refusal.Damaged file kept found) = IsOfTaken t run.plan run.program.cuts files (refusal.Damaged file kept found)
+IsOfRun t (Ok run) files (refusal.Unreadable file at) = IsOfTaken t run.plan run.program.cuts files (refusal.Unreadable file at)
+IsOfRun t (Ok run) files _ = ⊤
 IsOfRun t (Err planned) files why = SparesStore why
 
 -- A refusal that is laid to the store is that of a run, and damage and unreadable bytes are those of a file that it reads.

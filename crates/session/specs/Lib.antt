@@ -1,7 +1,8 @@
 pub mod Causes
 pub mod Machine
-pub mod ReadEvents
+pub mod Outcomes
 pub mod Refusals
 pub mod Standing
 pub mod Taken
-pub mod TypedFor
+pub mod WorkRefusals
+pub mod Working

@@ -1,10 +1,12 @@
 -- How a session stands to its store, and what a step does to both.
-use Rattle.std.specs.Prelude.{◌≡◌, ◌⊎◌, ℕ, ⊤}
+use Rattle.std.specs.Prelude.{◌≡◌, ◌⊎◌, ℕ, ◌≤◌, Option, ⊤}
 use Rattle.outside_traits.specs.Runs.{Narrows, Spans}
 use Rattle.outside_traits.specs.View.{View}
+use Rattle.plan_core.specs.PlainPlan.{PlainPlan}
+use Rattle.estimator.specs.Cuts.{Cuts}
+use Rattle.catalog_types.specs.declared.program.Program.{Program}
 use Rattle.script_text.specs.declared.answer.Answer.{Answer}
 use Rattle.script_text.specs.declared.answer.Answer.TheVariants.{Refused}
-use Rattle.script_text.specs.declared.answer.Refusal.TheVariants.{Memory}
 use Rattle.script_text.specs.declared.item.Command.{Command}
 use Rattle.folder.specs.Folders.{FolderMeans, journal_of, table_in}
 use Rattle.folder.specs.Left.{IsLeft, IsLeftWith, Since}
@@ -14,7 +16,7 @@ use Rattle.folder.specs.declared.folder.Folder.{Folder}
 use Rattle.journal_store.specs.Journals.{generation_of}
 use Rattle.journal_store.specs.Readings.{generation_file}
 use Rattle.session.specs.declared.session.Session.{Session}
-use Rattle.session.specs.Machine.{Step}
+use Rattle.session.specs.Machine.{Step, WorkStep}
 
 abbrev pub folder_of : Session → Folder
 folder_of session = session.folder
@@ -44,9 +46,20 @@ pub record Records (care : Care) (u v : View) (session : Session) (s new : State
   pub stands : Stands care v session new
   pub since : Since care s new u v
 
--- It was recorded, and the answer is this one; or memory was refused, and nothing has changed.
-abbrev pub Keeps : Care → View → View → Session → State → State → Answer → Answer → Type 0
-Keeps care u v session s new answer given = ((given ≡ answer) × Records care u v session s new) ⊎ ((given ≡ Refused Memory) × Records care u v session s s)
+-- work was worked off, or was refused: the session means the state after it, and each crash since leaves the one before or that
+pub record WorksOff (care : Care) (u v : View) (session : Session) (s : State) (program : Option Program) (plan : PlainPlan) (cuts : Cuts) (given : Answer) : Type 0 where
+  pub new : State
+  pub step : WorkStep care s program plan cuts given new
+  pub stands : Stands care v session new
+  pub since : Since care s new u v
+
+-- the store failed in the work
+pub record BreaksOff (care : Care) (u v : View) (s : State) (program : Option Program) (plan : PlainPlan) (cuts : Cuts) : Type 0 where
+  pub answer : Answer
+  pub new : State
+  pub step : WorkStep care s program plan cuts answer new
+  pub since : Since care s new u v
+  pub left : IsLeftWith care v s new
 
 -- the store failed while it was recorded
 pub record KeepsNot (care : Care) (u v : View) (s new : State) : Type 0 where
@@ -58,9 +71,9 @@ abbrev pub LeavesWhereRefused : Answer → View → View → Type 0
 LeavesWhereRefused (Refused why) u v = Narrows u v
 LeavesWhereRefused _ u v = ⊤
 
--- the log in use, and the file that the next extent gets
+-- the log in use, and files that no state names yet
 abbrev pub IsWritten : Folder → ℕ → Type 0
-IsWritten folder file = (file ≡ generation_file (generation_of (journal_of folder))) ⊎ (file ≡ (table_in folder).next_file)
+IsWritten folder file = (file ≡ generation_file (generation_of (journal_of folder))) ⊎ ((table_in folder).next_file ≤ file)
 
 -- no other file is changed, nor what a crash since leaves of one
 abbrev pub WritesAtMost : Folder → View → View → Type 0

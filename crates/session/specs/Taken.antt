@@ -1,26 +1,41 @@
 -- The bytes that a command takes of the files of a state.
-use Rattle.std.specs.Prelude.{ℕ, Result, Ok, Err, ⊤}
+use Rattle.std.specs.Prelude.{◌≡◌, ◌⊎◌, Result, Ok, Err, ⊤}
 use Rattle.outside_traits.specs.View.{Counts}
+use Rattle.plan_core.specs.PlainPlan.{PlainPlan}
+use Rattle.rewrite_core.specs.Files.{files_of}
+use Rattle.rewrite_core.specs.PlainRewriting.{PlainRewriting}
+use Rattle.catalog_core.specs.Named.{bytes_named}
+use Rattle.catalog_core.specs.Table.{Table}
+use Rattle.plan_choice.specs.Taken.{IsTaken}
 use Rattle.planning.specs.Running.{Run, running}
 use Rattle.script_text.specs.declared.answer.Answer.{Answer}
 use Rattle.script_text.specs.declared.answer.Answer.TheVariants as answer
 use Rattle.script_text.specs.declared.answer.Refusal.{Refusal}
 use Rattle.script_text.specs.declared.item.Command.{Command}
 use Rattle.script_text.specs.declared.item.Command.TheVariants as command
-use Rattle.folder.specs.State.{State, table}
-use Rattle.folder.specs.StreamRows.{CountsRead}
-use Rattle.session.specs.Machine.{bytes_read}
+use Rattle.executor.specs.Running.{TookAtMost}
+use Rattle.work_run.specs.Ends.{CountsRead}
 
--- the bytes of the files that a run is to read; one that is refused before reads none
-abbrev pub bytes_of_run : State → Result Run Refusal → ℕ
-bytes_of_run s (Ok run) = bytes_read s run
-bytes_of_run s (Err why) = 0
+-- no byte is taken
+abbrev pub TakesNone : Counts → Counts → Type 0
+TakesNone old new = new.taken ≡ old.taken
 
--- the bytes of the files that a command is to read; only a run reads files
-abbrev pub bytes_to_read : State → Command → ℕ
-bytes_to_read s (command.Stream name columns) = 0
-bytes_to_read s (command.Append name lines) = 0
-bytes_to_read s (command.Run name tree) = bytes_of_run s (running (table s) name tree)
+-- at most as many are as the files have that the rewriting taken of a run names
+pub record TakesForTaken (t : Table) (run : Run) (old new : Counts) : Type 0 where
+  pub normal : PlainPlan
+  pub rewriting : PlainRewriting
+  pub taken : IsTaken t run.plan normal run.program.cuts rewriting
+  pub most : TookAtMost (bytes_named t (files_of rewriting)) old new
+
+-- a run that is refused before its work reads none
+abbrev pub TakesForRun : Table → Result Run Refusal → Counts → Counts → Type 0
+TakesForRun t (Ok run) old new = TakesNone old new ⊎ TakesForTaken t run old new
+TakesForRun t (Err why) old new = TakesNone old new
+
+-- only a run reads files
+abbrev pub TakesFor : Table → Command → Counts → Counts → Type 0
+TakesFor t (command.Run name tree) old new = TakesForRun t (running t name tree) old new
+TakesFor t _ old new = TakesNone old new
 
 -- for a result as many bytes were taken as it tells
 abbrev pub TakesAsTold : Answer → Counts → Counts → Type 0

@@ -7,7 +7,10 @@ ghost use Rattle.script_text.specs.declared.item.Command.{Command};
 ghost use Rattle.folder.specs.Sound.{Care, Whole};
 ghost use Rattle.folder.specs.State.{State};
 ghost use Rattle.session.specs.Machine.{Outcome, outcome, refused, Performs, Step};
+ghost use Rattle.session.specs.Outcomes.{Agree};
 ghost use Rattle.session.specs.Refusals.{HasNoChoice, IsRefusedFor, IsOtherEvent};
+
+use plan_canon::laws::one_normal_form;
 
 /// Where the files hold their bytes no command is refused for damage, and where they are a state's none for
 /// unreadable bytes.
@@ -18,13 +21,16 @@ pub fn files_are_read()
         → Step care s given_to (Answer.Refused (Refusal.Unreadable file at)) new → ⊥ }
 {}
 
-/// In each state a command that leaves no choice has one outcome: its answer and the state after it, where
-/// there is memory and each file is read. A run leaves a choice only where its plan meets an overflow and its
-/// machine time is above the limit.
+/// In each state a command that leaves no choice has one answer, and one state after it, where there is memory
+/// and each file is read; but two results may differ in which kept results were used, which are kept and how
+/// many bytes were read, and not in their rows. A run leaves a choice only where its plan meets an overflow and
+/// its machine time is above the limit.
 pub fn one_outcome()
     ensures { (s : State) (given_to : Command) (a b : Outcome)
-        → HasNoChoice s given_to → Performs s given_to a → Performs s given_to b → a ≡ b }
-{}
+        → HasNoChoice s given_to → Performs s given_to a → Performs s given_to b → Agree a b }
+{
+    one_normal_form();
+}
 
 /// A command is refused only where the cause of that refusal holds; where one holds it is answered that
 /// refusal, or the other one of a run that has two; and no refusal changes the state.
@@ -36,4 +42,6 @@ pub fn refusals_have_causes()
         ⊎ ((other : Refusal) × IsOtherEvent why other × (given ≡ refused s other)) }
     ensures unchanged { (care : Care) (s new : State) (given_to : Command) (why : Refusal)
         → Step care s given_to (Answer.Refused why) new → new ≡ s }
-{}
+{
+    one_normal_form();
+}

@@ -2,8 +2,9 @@
 #![tactic(auto)]
 
 pub mod laws;
-mod running;
+mod refusals;
 pub mod session;
+mod working;
 
 pub use folder::LoadRefusal;
 pub use laws::{files_are_read, one_outcome, refusals_have_causes};

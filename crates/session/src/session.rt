@@ -1,6 +1,6 @@
 //! The session: a folder that was loaded, and the commands performed over it.
 ghost use Rattle.std.specs.Prelude.{◌≡◌, ◌⊎◌, ℕ, ◌+◌, ◌<◌, ◌≤◌, ◌^◌, false, List, length};
-ghost use Rattle.std.specs.Prelude.{IsTrue, IfOk, IfErr, IsErrOf, OnOk, OnErr, sum_by};
+ghost use Rattle.std.specs.Prelude.{IsTrue, IfOk, IsErrOf, OnOk, OnErr};
 ghost use Rattle.outside_traits.specs.Counts.{Rose};
 ghost use Rattle.outside_traits.specs.View.{View, Counts, Now, Only};
 ghost use Rattle.outside_traits.specs.Calls.{Rises, MayRaiseReads, MayRaiseWrites};
@@ -14,35 +14,25 @@ ghost use Rattle.folder.specs.Replay.{ReadsAs, StopsReading, is_checkpoint};
 ghost use Rattle.folder.specs.Sound.{Care};
 ghost use Rattle.folder.specs.Standing.{IsNext};
 ghost use Rattle.folder.specs.State.{State, table};
-ghost use Rattle.folder.specs.StreamRows.{CountsRead, TakesAtMost, bytes_at};
 ghost use Rattle.journal_store.specs.Journals.{generation_of};
 ghost use Rattle.journal_store.specs.Readings.{generation_file, IsUnfinished, LogHasAtMost};
-ghost use Rattle.plan_core.specs.PlainPlan.{leaves};
-ghost use Rattle.plan_grammar.specs.Counts.{IsWithinLimits};
 ghost use Rattle.planning.specs.Appending.{Append, append_change, file_bytes};
 ghost use Rattle.planning.specs.Recorded.{IsRecordOf};
-ghost use Rattle.planning.specs.Running.{HaveFewValues};
-ghost use Rattle.plan_core.specs.TypedPlan.{IsTypedOver};
-ghost use Rattle.catalog_core.specs.Programs.{kinds_of_streams};
 ghost use Rattle.folder.specs.Next.{with_rows, AreRowsOf};
 ghost use Rattle.script_text.specs.Answer.{IsNarrow};
 ghost use Rattle.script_text.specs.Script.{IsWhole};
 ghost use Rattle.script_text.specs.declared.answer.Refusal.{Refusal};
 ghost use Rattle.script_text.specs.declared.item.Command.TheVariants as command;
-ghost use Rattle.session.specs.Machine.{Step, lists_of};
-ghost use Rattle.session.specs.ReadEvents.{HasRows, IsRunRefusal};
-ghost use Rattle.session.specs.Causes.{TellsOfNoFile, IsOfFiles, HasByteCause};
-ghost use Rattle.session.specs.Taken.{TakesAsTold, bytes_to_read};
+ghost use Rattle.session.specs.Machine.{Step};
+ghost use Rattle.session.specs.Causes.{TellsOfNoFile, HasByteCause};
+ghost use Rattle.session.specs.Taken.{TakesAsTold, TakesFor};
 
-use crate::running::{refusal_of, result_of, rows_on};
 use catalog_core::CatalogRefusal;
 use catalog_types::Change;
-use folder::{Folder, LoadRefusal, left_stores, next_states, read_streams};
+use folder::{Folder, LoadRefusal, left_stores, next_states};
 use outside_traits::{Failed, Store};
-use plan_core::Typed;
-use plan_text::NamedPlan;
-use planning::{AppendPlan, Recording, plan_append, plan_run, plan_stream};
-use rows_core::{Column, Memory, Name, Row, Seq, Text};
+use planning::{AppendPlan, Recording, plan_append, plan_stream};
+use rows_core::{Column, Memory, Name, Seq, Text};
 use script_text::{Answer, Command, Refusal};
 use std::alloc::Global;
 
@@ -50,12 +40,12 @@ use std::alloc::Global;
 /// their files alone.
 #[derive(Drop)]
 pub struct Session {
-    folder: Folder,
-    alloc: Global,
+    pub(crate) folder: Folder,
+    pub(crate) alloc: Global,
 }
 
 impl Session {
-    ghost use Rattle.session.specs.Standing.{Stands, Performs, Breaks, Records, Keeps, KeepsNot, folder_of};
+    ghost use Rattle.session.specs.Standing.{Stands, Performs, Breaks, Records, KeepsNot, folder_of};
     ghost use Rattle.session.specs.Standing.{LeavesWhereRefused, WritesAtMost};
 
     /// Loads a folder, which is made where its making isn't finished. `NotAStore` comes exactly where its log
@@ -121,7 +111,7 @@ impl Session {
         ensures err { IsTrue D.tells → (care : Care) (s : State) → Stands care (D.view store.old) self s
             → OnErr result (Breaks care (D.view store.old) (D.view store.new) s command) }
         ensures narrow { IfOk result (λ next. IsNarrow next.1) }
-        // Whatever the answer, only the log in use and the file of a new extent are written.
+        // Whatever the answer, only the log in use and files that no state names yet are written.
         ensures alone { WritesAtMost (folder_of self) (D.view store.old) (D.view store.new) }
         ensures cause { OnErr result (Rose (D.counts store.old).writes (D.counts store.new).writes) }
         ensures no_fault { OnOk result ((D.counts store.new).writes ≡ (D.counts store.old).writes) }
@@ -140,8 +130,8 @@ impl Session {
         // A result has taken the bytes that it tells, and no command more than the files that it reads have.
         ensures taken { IsTrue D.tells → (care : Care) (s : State) → Stands care (D.view store.old) self s
             → IfOk result (λ next. TakesAsTold next.1 (D.counts store.old) (D.counts store.new)) }
-        ensures most { IsTrue D.tells → (care : Care) (s : State) → Stands care (D.view store.old) self s
-            → TakesAtMost (bytes_to_read s command) (D.counts store.old) (D.counts store.new) }
+        ensures most { IsTrue D.tells
+            → TakesFor (table_in (folder_of self)) command (D.counts store.old) (D.counts store.new) }
         // Also on a store that isn't left each crash leaves logs that read as the session's table.
         ensures crash { IsTrue D.tells → FolderStands (D.view store.old) (folder_of self)
             → IfOk result (λ next. FolderStands (D.view store.new) (folder_of next.0)) }
@@ -228,96 +218,11 @@ impl Session {
 }
 
 impl Session {
-    ghost use Rattle.session.specs.Standing.{Stands, Performs, Breaks, Records, Keeps, KeepsNot, folder_of};
+    ghost use Rattle.session.specs.Standing.{Stands, Performs, Breaks, Records, KeepsNot, folder_of};
     ghost use Rattle.session.specs.Standing.{LeavesWhereRefused, WritesAtMost};
 
-    // Runs a plan on the rows of its streams, and records the program that it is stored as where it has a
-    // result.
-    fn run<D: Store>(
-        self,
-        store: &mut D,
-        name: Name,
-        plan: &NamedPlan,
-    ) -> Result<(Session, Answer), Failed>
-        requires { IsWithinLimits plan.now }
-        ensures ok { IsTrue D.tells → (care : Care) (s : State) → Stands care (D.view store.old) self s
-            → IfOk result (λ next. Performs care (D.view store.old) (D.view store.new) next.0 s
-            (command.Run name plan.now) next.1) }
-        ensures err { IsTrue D.tells → (care : Care) (s : State) → Stands care (D.view store.old) self s
-            → OnErr result (Breaks care (D.view store.old) (D.view store.new) s (command.Run name plan.now)) }
-        ensures narrow { IfOk result (λ next. IsNarrow next.1) }
-        ensures alone { WritesAtMost (folder_of self) (D.view store.old) (D.view store.new) }
-        ensures cause { OnErr result (Rose (D.counts store.old).writes (D.counts store.new).writes) }
-        ensures no_fault { OnOk result ((D.counts store.new).writes ≡ (D.counts store.old).writes) }
-        ensures refused { IfOk result
-            (λ next. LeavesWhereRefused next.1 (D.view store.old) (D.view store.new)) }
-        ensures fault { IfOk result (λ next. next.1 ≡ Answer.Refused Refusal.Fault
-            → Rose (D.counts store.old).reads (D.counts store.new).reads) }
-        ensures only_fault { IfOk result (λ next. (next.1 ≡ Answer.Refused Refusal.Fault → ⊥)
-            → (D.counts store.new).reads ≡ (D.counts store.old).reads) }
-        ensures looks { OnErr result ((D.counts store.new).reads ≡ (D.counts store.old).reads) }
-        ensures found { IsTrue D.tells → IfOk result (λ next. HasByteCause (table_in (folder_of self))
-            (command.Run name plan.now) (D.view store.old).files next.1) }
-        ensures taken { IsTrue D.tells → (care : Care) (s : State) → Stands care (D.view store.old) self s
-            → IfOk result (λ next. TakesAsTold next.1 (D.counts store.old) (D.counts store.new)) }
-        ensures most { IsTrue D.tells → (care : Care) (s : State) → Stands care (D.view store.old) self s
-            → TakesAtMost (bytes_to_read s (command.Run name plan.now)) (D.counts store.old)
-            (D.counts store.new) }
-        ensures crash { IsTrue D.tells → FolderStands (D.view store.old) (folder_of self)
-            → IfOk result (λ next. FolderStands (D.view store.new) (folder_of next.0)) }
-        ensures counts { Rises (D.counts store.old) (D.counts store.new) }
-    {
-        next_states::<D>();
-        left_stores::<D>();
-        let plan = match plan_run(self.alloc, self.folder.catalog(), name, plan) {
-            Ok(plan) => plan,
-            Err(refusal) => return Ok((self, Answer::Refused(refusal))),
-        };
-        match self.rows_of(store, &plan.typed) {
-            Ok(rows) => {
-                let answer = result_of(self.alloc, rows, plan.bytes);
-                self.keep(store, plan.recording, answer)
-            }
-            Err(refusal) => Ok((self, Answer::Refused(refusal))),
-        }
-    }
-
-    // Takes the memory that a change wants, and records it.
-    fn keep<D: Store>(
-        self,
-        store: &mut D,
-        recording: Recording,
-        answer: Answer,
-    ) -> Result<(Session, Answer), Failed>
-        requires record { IsRecordOf (table_in (folder_of self)) recording.change recording.body.items }
-        requires no_checkpoint { is_checkpoint recording.change ≡ false }
-        ensures ok { IsTrue D.tells → (care : Care) (s new : State) → Stands care (D.view store.old) self s
-            → IsNext care (D.view store.old) s recording.change new
-            → IfOk result
-            (λ next. Keeps care (D.view store.old) (D.view store.new) next.0 s new answer next.1) }
-        ensures err { IsTrue D.tells → (care : Care) (s new : State) → Stands care (D.view store.old) self s
-            → IsNext care (D.view store.old) s recording.change new
-            → OnErr result (KeepsNot care (D.view store.old) (D.view store.new) s new) }
-        ensures narrow { IsNarrow answer → IfOk result (λ next. IsNarrow next.1) }
-        ensures given { IfOk result (λ next. (next.1 ≡ answer) ⊎ (next.1 ≡ Answer.Refused Refusal.Memory)) }
-        ensures alone { WritesAtMost (folder_of self) (D.view store.old) (D.view store.new) }
-        ensures cause { OnErr result (Rose (D.counts store.old).writes (D.counts store.new).writes) }
-        ensures no_fault { OnOk result ((D.counts store.new).writes ≡ (D.counts store.old).writes) }
-        ensures refused { LeavesWhereRefused answer (D.view store.old) (D.view store.new) → IfOk result
-            (λ next. LeavesWhereRefused next.1 (D.view store.old) (D.view store.new)) }
-        ensures crash { IsTrue D.tells → FolderStands (D.view store.old) (folder_of self)
-            → IfOk result (λ next. FolderStands (D.view store.new) (folder_of next.0)) }
-        ensures counts { MayRaiseWrites (D.counts store.old) (D.counts store.new) }
-    {
-        let mut session = self;
-        match session.prepare(&recording.change) {
-            Ok(()) => session.record(store, recording, answer),
-            Err(Memory) => Ok((session, Answer::Refused(Refusal::Memory))),
-        }
-    }
-
     // Records a change for which the folder is ready.
-    fn record<D: Store>(
+    pub(crate) fn record<D: Store>(
         self,
         store: &mut D,
         recording: Recording,
@@ -387,38 +292,8 @@ impl Session {
         }
     }
 
-    // The rows that a plan means on the rows of its streams, which are read, or why a run of it is refused.
-    fn rows_of<D: Store>(&self, store: &mut D, typed: &Typed) -> Result<Vec<Row>, Refusal>
-        requires { IsTypedOver (kinds_of_streams (table_in (folder_of self.now)).streams) typed.now }
-        ensures ok { IsTrue D.tells → (care : Care) (s : State) → Stands care (D.view store.old) self.now s
-            → IfOk result (λ rows. HasRows typed.now.plan (lists_of s.streams typed.now.plan) rows.items) }
-        ensures err { IsTrue D.tells → (care : Care) (s : State) → Stands care (D.view store.old) self.now s
-            → IfErr result (IsRunRefusal care s typed.now.plan) }
-        ensures narrow { IfOk result (λ rows. HaveFewValues rows.items) }
-        ensures fault { IsErrOf result Refusal.Fault
-            → Rose (D.counts store.old).reads (D.counts store.new).reads }
-        ensures only_fault { IfErr result (λ why. (why ≡ Refusal.Fault → ⊥)
-            → (D.counts store.new).reads ≡ (D.counts store.old).reads) }
-        ensures no_fault { OnOk result ((D.counts store.new).reads ≡ (D.counts store.old).reads) }
-        ensures found { IsTrue D.tells → IfErr result (IsOfFiles (table_in (folder_of self.now)).streams
-            (leaves typed.now.plan) (D.view store.old).files) }
-        ensures taken { IsTrue D.tells → (care : Care) (s : State) → Stands care (D.view store.old) self.now s
-            → OnOk result (CountsRead (sum_by (bytes_at s.streams) (leaves typed.now.plan))
-            (D.counts store.old) (D.counts store.new)) }
-        ensures most { IsTrue D.tells → (care : Care) (s : State) → Stands care (D.view store.old) self.now s
-            → TakesAtMost (sum_by (bytes_at s.streams) (leaves typed.now.plan)) (D.counts store.old)
-            (D.counts store.new) }
-        ensures narrows { Narrows (D.view store.old) (D.view store.new) }
-        ensures counts { MayRaiseReads (D.counts store.old) (D.counts store.new) }
-    {
-        match read_streams(self.alloc, store, self.folder.catalog(), typed.leaves()) {
-            Ok(lists) => rows_on(self.alloc, typed, lists),
-            Err(refusal) => Err(refusal_of(refusal)),
-        }
-    }
-
     // Takes all the memory that recording the change wants.
-    fn prepare(&mut self, change: &Change) -> Result<(), Memory>
+    pub(crate) fn prepare(&mut self, change: &Change) -> Result<(), Memory>
         requires { Fits change.now (table_in (folder_of self.old)) }
         ensures table { table_in (folder_of self.new) ≡ table_in (folder_of self.old) }
         ensures journal { journal_of (folder_of self.new) ≡ journal_of (folder_of self.old) }

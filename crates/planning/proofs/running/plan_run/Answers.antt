@@ -6,8 +6,7 @@ use Rattle.planning.proofs.running.plan_run.Goals as goal
 
 pub returns-in-Ok-clause-ok : goal.returns-in-Ok-clause-ok
 returns-in-Ok-clause-ok c =
-    is_run (table_of c.args.catalog.now) c.args.name c.args.plan.now c.in-Ok.typed c.in-Ok.ensures.bound c.in-Ok.ensures.typed c.run_typed.result
-    c.run_typed.ensures.typed c.run_typed.ensures.ok c.run_typed.ensures.change c.run_typed.ensures.recorded c.run_typed.ensures.bytes
+    is_run (table_of c.args.catalog.now) c.args.name c.args.plan.now c.in-Ok.typed c.in-Ok.ensures.bound c.in-Ok.ensures.typed c.run_typed.result c.run_typed.ensures.ok c.run_typed.ensures.plan
 
 pub returns-in-Ok-clause-err : goal.returns-in-Ok-clause-err
 returns-in-Ok-clause-err c =

@@ -1,4 +1,4 @@
-use Rattle.std.proofs.Common.{◌≡◌, ◌∙◌, ap, List, Err, IfOk, IfErr, subst, ◌⊎◌}
+use Rattle.std.proofs.Common.{◌≡◌, List, Err, IfOk, IfErr, subst, ◌⊎◌}
 use Rattle.plan_core.specs.declared.refusal.PlanRefusal.TheVariants.{Unknown}
 use Rattle.plan_core.specs.PlainPlan.{plan_of}
 use Rattle.plan_core.specs.PlanTyping.{Kinds, plan_typing}
@@ -13,13 +13,13 @@ use Rattle.planning.proofs.typing.type_bound.Goals as goal
 pub type_over-requires : goal.type_over-requires
 type_over-requires c = λ number e.
     never_unknown (table_of c.args.catalog.now).streams c.requires.0 (plan_of c.args.plan) c.requires.1 c.leaves_are_the_streams.ensures number
-    (subst (λ (k : List Kinds). plan_typing k (plan_of c.args.plan) ≡ Err (Unknown number)) (c.in-Ok.ensures ∙ ap kinds_of_streams c.streams.ensures.states) e)
+    (subst (λ (k : List Kinds). plan_typing k (plan_of c.args.plan) ≡ Err (Unknown number)) c.schemas.ensures e)
 
-pub returns-in-Ok-clause-typed : goal.returns-in-Ok-clause-typed
-returns-in-Ok-clause-typed c =
-    subst (λ (k : List Kinds). IfOk c.type_over.result (IsTypedOver k)) (c.in-Ok.ensures ∙ ap kinds_of_streams c.streams.ensures.states) c.type_over.ensures.typed
+pub returns-clause-typed : goal.returns-clause-typed
+returns-clause-typed c =
+    subst (λ (k : List Kinds). IfOk c.type_over.result (IsTypedOver k)) c.schemas.ensures c.type_over.ensures.typed
 
-pub returns-in-Ok-clause-err : goal.returns-in-Ok-clause-err
-returns-in-Ok-clause-err c =
+pub returns-clause-err : goal.returns-clause-err
+returns-clause-err c =
     subst (λ (k : List Kinds). IfErr c.type_over.result (λ why. ((run : Run) → running_typed (table_of c.args.catalog.now) run (plan_typing k (plan_of c.args.plan)) ≡ Err why) ⊎ (why ≡ Memory)))
-    (c.in-Ok.ensures ∙ ap kinds_of_streams c.streams.ensures.states) (c.type_over.ensures.err (table_of c.args.catalog.now))
+    c.schemas.ensures (c.type_over.ensures.err (table_of c.args.catalog.now))

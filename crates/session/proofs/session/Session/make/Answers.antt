@@ -1,6 +1,5 @@
 use Rattle.std.proofs.Common.{◌∙◌, ap, sym, subst, refl, inr}
 use Rattle.catalog_core.specs.Catalogs.{table_of}
-use Rattle.catalog_types.specs.declared.change.Change.TheVariants as change
 use Rattle.script_text.specs.declared.answer.Answer.TheVariants as answer
 use Rattle.script_text.specs.declared.answer.Refusal.TheVariants as refusal
 use Rattle.script_text.specs.declared.item.Command.TheVariants as command

@@ -1,11 +1,10 @@
-use Rattle.std.proofs.Common.{◌≡◌, ◌∙◌, ◌+◌, ◌<◌, ◌^◌, ℕ, sym, ap, subst, inr}
+use Rattle.std.proofs.Common.{◌∙◌, ◌+◌, sym, ap, subst, inr}
 use Rattle.outside_traits.specs.View.{Now, Only}
 use Rattle.catalog_core.specs.Table.{Fits, Table}
 use Rattle.folder.specs.Folders.{table_in}
 use Rattle.folder.specs.Next.{with_rows}
 use Rattle.folder.specs.Standing.{IsNext}
-use Rattle.folder.specs.State.{State, table, file_bytes}
-use Rattle.planning.specs.Appending.{Append}
+use Rattle.folder.specs.State.{table, file_bytes}
 use Rattle.session.specs.Standing.{Stands, folder_of}
 use Rattle.session.proofs.FileLemmas.{file_is, change_of, next_number, none_ahead}
 use Rattle.session.proofs.StepLemmas.{records_behind, breaks_behind, breaks_before}

@@ -1,12 +1,11 @@
 use Rattle.std.proofs.Common.{sym, subst, IfOk}
 use Rattle.script_text.specs.declared.item.Command.{Command}
-use Rattle.folder.specs.StreamRows.{TakesAtMost}
 use Rattle.folder.specs.Folders.{table_in}
 use Rattle.session.specs.Causes.{HasByteCause}
 use Rattle.session.specs.Standing.{Performs, folder_of}
-use Rattle.session.specs.Taken.{bytes_to_read}
+use Rattle.session.specs.Taken.{TakesFor}
 use Rattle.session.proofs.RefusalLemmas.{stream_causes, append_causes, no_fault_in}
-use Rattle.session.proofs.TakenLemmas.{told_of_any, none_taken}
+use Rattle.session.proofs.TakenLemmas.{told_of_any, none_for}
 use Rattle.session.proofs.LeavingLemmas.{looked_before, failed_after}
 use Rattle.session.proofs.session.Session.step.Goals as goal
 
@@ -29,14 +28,14 @@ pub returns-in-Append-clause-taken : goal.returns-in-Append-clause-taken
 returns-in-Append-clause-taken g c = λ told care s stands. told_of_any (g.D.Store.counts c.args.store.now) (g.D.Store.counts c.append.new.store) _ c.append.ensures.of_no_file
 
 pub returns-in-Stream-clause-most : goal.returns-in-Stream-clause-most
-returns-in-Stream-clause-most g c = λ told care s stands. none_taken _ (g.D.Store.counts c.args.store.now) (g.D.Store.counts c.make.new.store) c.make.ensures.counts
+returns-in-Stream-clause-most g c = λ told. none_for (table_in (folder_of c.args.self)) c.args.command (g.D.Store.counts c.args.store.now) (g.D.Store.counts c.make.new.store) c.make.ensures.counts.taken
 
 pub returns-in-Append-clause-most : goal.returns-in-Append-clause-most
-returns-in-Append-clause-most g c = λ told care s stands. none_taken _ (g.D.Store.counts c.args.store.now) (g.D.Store.counts c.append.new.store) c.append.ensures.counts
+returns-in-Append-clause-most g c = λ told. none_for (table_in (folder_of c.args.self)) c.args.command (g.D.Store.counts c.args.store.now) (g.D.Store.counts c.append.new.store) c.append.ensures.counts.taken
 
 pub returns-in-Run-clause-most : goal.returns-in-Run-clause-most
-returns-in-Run-clause-most g c = λ told care s stands.
-    subst (λ (x : Command). TakesAtMost (bytes_to_read s x) (g.D.Store.counts c.args.store.now) (g.D.Store.counts c.run.new.store)) (sym c.in-Run.is) (c.run.ensures.most told care s stands)
+returns-in-Run-clause-most g c = λ told.
+    subst (λ (x : Command). TakesFor (table_in (folder_of c.args.self)) x (g.D.Store.counts c.args.store.now) (g.D.Store.counts c.run.new.store)) (sym c.in-Run.is) (c.run.ensures.most told)
 
 pub returns-in-Stream-clause-found : goal.returns-in-Stream-clause-found
 returns-in-Stream-clause-found g c = λ told. stream_causes (table_in (folder_of c.args.self)) (g.D.Store.view c.args.store.now).files _ _ _ _ c.in-Stream.is c.make.ensures.of_no_file
