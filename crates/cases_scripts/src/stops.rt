@@ -1,8 +1,8 @@
-//! Runs over a store that fails at some call and at each call behind it. Commands stand behind each other
-//! with ` ; ` between them, and each is answered one line; in front of them and of ` : ` stands a probe, a
-//! script whose answers tell the state.
+//! Runs over a store that fails at some call and at each call behind it, and runs that load the folder anew
+//! before each command. Commands stand behind each other with ` ; ` between them; in front of them and of
+//! ` : ` stands a probe, a script whose answers tell the state.
 
-use crate::script;
+use crate::{script, shown};
 use anyhow::{Context, Result};
 use mem_outside::{MemSink, MemSource, MemStore};
 use nectar_top::{Exit, nectar};
@@ -14,19 +14,28 @@ const MAX_CALLS: u64 = 1_000;
 /// How many images `MemStore` makes of a moment.
 const IMAGES: u64 = 8;
 
+// What the first commands of a script come to.
+#[derive(Drop)]
+struct Prefix {
+    /// How many bytes their answers have.
+    answered: usize,
+    /// What the probe is answered after them.
+    state: Vec<u8>,
+}
+
 /// How many calls of the store a whole run makes. From each of them on the store fails in a run of its own:
 /// each image that a crash may then leave has the state after some of the commands, of which each that was
 /// answered is one, and at most one is not.
 pub fn stops(alloc: Global, arguments: &str) -> Result<String> {
     let (probe, commands) = arguments.split_once(" : ").context("no commands")?;
     let probe = script::bytes(alloc, probe)?;
-    let states = states_after(alloc, commands, &probe)?;
-    let script = script_of(alloc, commands, states.len())?;
+    let prefixes = prefixes_of(alloc, commands, &probe)?;
+    let script = script_of(alloc, commands, prefixes.len())?;
     for call in 0..MAX_CALLS {
         let mut store = MemStore::new(alloc, Vec::new(alloc));
         store.fail_from(call);
         let (exit, answers) = outcome(alloc, &script, &mut store)?;
-        check_images(alloc, &store, &probe, &states, count_lines(&answers))?;
+        check_images(alloc, &store, &probe, &prefixes, answers.len())?;
         if exit == Exit::Done {
             return Ok(format!(in alloc; "{call} calls")?);
         }
@@ -34,18 +43,42 @@ pub fn stops(alloc: Global, arguments: &str) -> Result<String> {
     None.context("too many calls")
 }
 
-// What the probe is answered after the first commands, from none of them to all.
-fn states_after(alloc: Global, commands: &str, probe: &[u8]) -> Result<Vec<Vec<u8>>> {
+/// The answers to the commands, each of which is given to a run of its own on the same folder: they are those of
+/// one run.
+pub fn anew(alloc: Global, commands: &str) -> Result<String> {
+    let mut store = MemStore::new(alloc, Vec::new(alloc));
+    let mut answers = Vec::new(alloc);
+    for command in commands.split(" ; ") {
+        let script = script::bytes(alloc, command)?;
+        let (exit, given) = outcome(alloc, &script, &mut store)?;
+        if exit != Exit::Done {
+            return None.context("a run isn't done");
+        }
+        answers.extend_from_slice(&given)?;
+    }
+    let whole = script_of(alloc, commands, usize::MAX)?;
+    let mut other = MemStore::new(alloc, Vec::new(alloc));
+    if outcome(alloc, &whole, &mut other)?.1 != answers {
+        return None.context("one run has other answers");
+    }
+    shown::lines(alloc, &answers)
+}
+
+// What the first commands come to, from none of them to all.
+fn prefixes_of(alloc: Global, commands: &str, probe: &[u8]) -> Result<Vec<Prefix>> {
     let count = commands.split(" ; ").count();
-    let mut states = Vec::new(alloc);
+    let mut prefixes = Vec::new(alloc);
     for taken in 0..=count {
         let script = script_of(alloc, commands, taken)?;
         let mut store = MemStore::new(alloc, Vec::new(alloc));
-        outcome(alloc, &script, &mut store)?;
+        let (_, answers) = outcome(alloc, &script, &mut store)?;
         let (_, state) = outcome(alloc, probe, &mut store)?;
-        states.push(state)?;
+        prefixes.push(Prefix {
+            answered: answers.len(),
+            state,
+        })?;
     }
-    Ok(states)
+    Ok(prefixes)
 }
 
 // The script of the first commands, as many as count.
@@ -57,27 +90,27 @@ fn script_of(alloc: Global, commands: &str, count: usize) -> Result<Vec<u8>> {
     Ok(whole)
 }
 
-// Each image has a state after so many commands as were answered, or one more.
+// Each image has the state after the commands whose answers have so many bytes, or after one more.
 fn check_images(
     alloc: Global,
     store: &MemStore,
     probe: &[u8],
-    states: &[Vec<u8>],
+    prefixes: &[Prefix],
     answered: usize,
 ) -> Result<()> {
+    let within = prefixes
+        .iter()
+        .filter(|prefix| prefix.answered <= answered)
+        .count();
+    let next = prefixes.get(within.saturating_sub(1)..).unwrap_or(&[]);
     for pick in 0..IMAGES {
         let mut image = store.image(pick)?;
         let (_, state) = outcome(alloc, probe, &mut image)?;
-        let next = states.get(answered..).unwrap_or(&[]);
-        if !next.iter().take(2).any(|other| *other == state) {
+        if !next.iter().take(2).any(|prefix| prefix.state == state) {
             return None.context("the state of no prefix that holds each answer");
         }
     }
     Ok(())
-}
-
-fn count_lines(answers: &[u8]) -> usize {
-    answers.iter().filter(|byte| **byte == b'\n').count()
 }
 
 // The exit of a run, and its answers.
