@@ -12,9 +12,11 @@ use Rattle.catalog_types.specs.declared.program.Program.{Program}
 use Rattle.catalog_types.specs.PlainEntry.{PlainNewEntry}
 use Rattle.catalog_types.specs.declared.snapshot.StreamState.{StreamState}
 use Rattle.plan_binder.specs.Binding.{has_repeat, is_there}
-use Rattle.catalog_core.specs.Programs.{names_of, extents_at, AreByName}
+use Rattle.catalog_core.specs.Programs.{names_of, extents_at, AreByName, IsStored}
 use Rattle.catalog_core.specs.IsTable.{IsStream, IsTable}
 use Rattle.catalog_core.proofs.ByName.{by-name-kept}
+use Rattle.catalog_core.proofs.OwnNumbers.{files-stream, files-append}
+use Rattle.catalog_core.proofs.StoredPrograms.{stored-stream, stored-append, stored-more}
 use Rattle.catalog_core.proofs.OverStreams.{over-stream, over-append, past-tick, work-keeps-table, collection-keeps-table}
 use Rattle.catalog_core.specs.Table.{Table, place_of, extent_count, new_stream, with_extent, updated, most_ticks, most_extents, most_rows, most_programs, Fits, FitsStream, FitsAppend, FitsProgram, FitsWork, FitsCollection, after, with_programs, with_stored, with_tick}
 
@@ -83,10 +85,12 @@ stream-keeps name columns t fits is = record {
   few_extents = let n = sum_by-append (λ (s : StreamState). length s.extents) t.streams (new_stream name columns ∷ []) in omega (arith, n, is.few_extents);
   few_programs = is.few_programs;
   by_name = is.by_name;
+  stored = stored-stream t.streams (new_stream name columns) t.programs is.stored;
   kept = is.kept;
   over = over-stream t.streams (new_stream name columns) t.entries is.over;
   past = is.past;
   ids = is.ids;
+  own_files = files-stream t.next_file t.streams t.entries (new_stream name columns) refl is.own_files;
 }
   where
     untrue : (b : Bool) → not b ≡ true → b ≡ false
@@ -147,13 +151,19 @@ append-keeps place extent t fits is = record {
   few_extents = let n = extents-counted t.streams place extent fits.has_place.0 in omega (arith, n, fits.room_in_all);
   few_programs = is.few_programs;
   by_name = is.by_name;
+  stored = stored-append t.streams place extent t.programs is.stored;
   kept = is.kept;
   over = over-append t.streams place extent t.entries is.over;
   past = is.past;
   ids = omega (arith, is.ids);
+  own_files = files-append t.next_file t.streams t.entries place extent fits.is_next.next is.own_files;
 }
 
 -- ---- a program stored, and a tick
+
+stored-are : (program : Option Program) (t : Table) → FitsProgram program t → IsTable t → AllByRecursion (IsStored t.streams) (with_stored program t.programs)
+stored-are None t fits is = is.stored
+stored-are (Some program) t fits is = stored-more t.streams program t.programs fits.0 is.stored
 
 stored-few : (program : Option Program) (t : Table) → FitsProgram program t → IsTable t → (length (with_stored program t.programs) ≤ most_programs) × AreByName (with_stored program t.programs)
 stored-few None t fits is = (is.few_programs, is.by_name)
@@ -170,10 +180,12 @@ program-keeps program t fits is = record {
   few_extents = is.few_extents;
   few_programs = (stored-few program t fits is).0;
   by_name = (stored-few program t fits is).1;
+  stored = stored-are program t fits is;
   kept = is.kept;
   over = is.over;
   past = is.past;
   ids = is.ids;
+  own_files = is.own_files;
 }
 
 pub tick-keeps : (t : Table) → t.tick < most_ticks → IsTable t → IsTable (with_tick t)
@@ -187,10 +199,12 @@ tick-keeps t low is = record {
   few_extents = is.few_extents;
   few_programs = is.few_programs;
   by_name = is.by_name;
+  stored = is.stored;
   kept = is.kept;
   over = is.over;
   past = past-tick t.tick t.entries is.past;
   ids = is.ids;
+  own_files = is.own_files;
 }
 
 -- a stream without an extent adds none

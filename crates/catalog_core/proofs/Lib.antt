@@ -1,4 +1,5 @@
 pub mod AskedResults
+pub mod Bindings
 pub mod ByName
 pub mod ChainLemmas
 pub mod ExtentFiles
@@ -7,6 +8,8 @@ pub mod IdleWork
 pub mod Kept
 pub mod Nested
 pub mod OverStreams
+pub mod OwnNumbers
 pub mod Places
+pub mod StoredPrograms
 pub mod Texts
 pub mod Typings

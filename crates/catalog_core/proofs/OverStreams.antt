@@ -1,5 +1,5 @@
 -- Kept results stay over the streams as these grow, and work and collections make others that are over them.
-use Rattle.std.proofs.Common.{◌≡◌, ◌↔◌, refl, sym, ap, subst, ◌∙◌, ℕ, zero, suc, ◌+◌, ◌≤◌, Bool, true, false, IsTrue, List, [], ◌∷◌, ◌++◌, length, map, Result, Ok, Err, IsOk, is_ok, le_refl, length-append, arith}
+use Rattle.std.proofs.Common.{◌≡◌, ◌↔◌, refl, sym, ap, subst, ◌∙◌, ℕ, zero, suc, ◌+◌, ◌≤◌, Bool, false, IsTrue, List, [], ◌∷◌, ◌++◌, length, map, Result, Ok, Err, IsOk, is_ok, le_refl, length-append, arith}
 use Rattle.std.specs.List.{AllByRecursion}
 use Rattle.std.proofs.lemmas.List.{length-map}
 use Rattle.rows_core.specs.declared.cut.Cut.{Cut}
@@ -21,15 +21,16 @@ use Rattle.entry_table.proofs.Past.{past-work, past-collection}
 use Rattle.catalog_core.specs.Programs.{kinds_of_streams, extents_at, AreCuts}
 use Rattle.catalog_core.specs.Results.{IsOver, IsEntryOver, IsResultOver, digests_of}
 use Rattle.catalog_core.specs.IsTable.{IsTable}
-use Rattle.catalog_core.specs.Table.{Table, kept_of_table, updated, with_extent, new_stream, with_kept, with_work, file_end, FitsResults}
+use Rattle.catalog_core.specs.Table.{Table, kept_of_table, updated, with_extent, with_kept, with_work, FitsResults}
+use Rattle.catalog_core.proofs.OwnNumbers.{files-work, files-collection}
 use Rattle.catalog_core.proofs.Typings.{typed_still}
 
 -- ---- streams that grow
 
-abbrev Grow : List StreamState → List StreamState → Type 0
+abbrev pub Grow : List StreamState → List StreamState → Type 0
 Grow streams others = (leaf : ℕ) → length (extents_at streams leaf) ≤ length (extents_at others leaf)
 
-cuts-stay : (streams others : List StreamState) → Grow streams others → (leaves : List ℕ) (cuts : List Cut) → AreCuts streams leaves cuts → AreCuts others leaves cuts
+pub cuts-stay : (streams others : List StreamState) → Grow streams others → (leaves : List ℕ) (cuts : List Cut) → AreCuts streams leaves cuts → AreCuts others leaves cuts
 cuts-stay streams others grow [] [] are = tt
 cuts-stay streams others grow [] (cut ∷ cuts) are = absurd are
 cuts-stay streams others grow (leaf ∷ leaves) [] are = absurd are
@@ -48,7 +49,7 @@ pub kinds-added : (streams : List StreamState) (s : StreamState) → kinds_of_st
 kinds-added [] s = refl
 kinds-added (x ∷ xs) s = ap (λ (ks : List Kinds). kinds_of x.columns ∷ ks) (kinds-added xs s)
 
-extents-added : (streams : List StreamState) (s : StreamState) → Grow streams (streams ++ s ∷ [])
+pub extents-added : (streams : List StreamState) (s : StreamState) → Grow streams (streams ++ s ∷ [])
 extents-added [] s leaf = omega arith
 extents-added (x ∷ xs) s zero = omega arith
 extents-added (x ∷ xs) s (suc leaf) = extents-added xs s leaf
@@ -65,7 +66,7 @@ kinds-grown [] place extent = refl
 kinds-grown (x ∷ xs) zero extent = refl
 kinds-grown (x ∷ xs) (suc n) extent = ap (λ (ks : List Kinds). kinds_of x.columns ∷ ks) (kinds-grown xs n extent)
 
-extents-grown : (streams : List StreamState) (place : ℕ) (extent : Extent) → Grow streams (updated (with_extent extent) streams place)
+pub extents-grown : (streams : List StreamState) (place : ℕ) (extent : Extent) → Grow streams (updated (with_extent extent) streams place)
 extents-grown [] place extent leaf = omega arith
 extents-grown (x ∷ xs) zero extent zero = let long = length-append x.extents (extent ∷ []) in omega (arith, long)
 extents-grown (x ∷ xs) zero extent (suc leaf) = omega arith
@@ -109,6 +110,7 @@ work-keeps-table reads dropped kept t fits is =
       few_extents = is.few_extents;
       few_programs = is.few_programs;
       by_name = is.by_name;
+      stored = is.stored;
       kept = subst AreKept (worked-is digests t.tick reads dropped keys kept k refl)
           (work-keeps t.tick reads dropped keys kept k (length-map kept (keys_of digests)) fits.results.kept.are_new is.kept);
       over = all-append (IsEntryOver t.streams) (with_uses t.tick reads (without dropped t.entries)) (new_entries digests t.tick t.next_id kept)
@@ -116,6 +118,7 @@ work-keeps-table reads dropped kept t fits is =
           (over-new t.streams digests t.tick t.next_id kept fits.over);
       past = past-work digests t.tick t.tick reads dropped kept k (le_refl t.tick) is.past;
       ids = omega (arith, is.ids);
+      own_files = files-work digests t.tick t.next_id t.next_file reads dropped kept t.streams t.entries is.first_file fits.results.kept.files is.own_files;
     }
 
 -- ---- a collection
@@ -131,10 +134,12 @@ collection-keeps-table ids t is = record {
   few_extents = is.few_extents;
   few_programs = is.few_programs;
   by_name = is.by_name;
+  stored = is.stored;
   kept = collection-keeps ids (kept_of_table t) is.kept;
   over = all-without (IsEntryOver t.streams) ids t.entries is.over;
   past = past-collection t.tick t.tick ids (kept_of_table t) (le_refl t.tick) is.past;
   ids = is.ids;
+  own_files = files-collection ids t.next_file t.streams t.entries is.own_files;
 }
 
 -- ---- whether a result is over the streams

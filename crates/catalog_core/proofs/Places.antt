@@ -56,10 +56,12 @@ first-table [] [] k e f same =
       few_extents = omega arith;
       few_programs = omega arith;
       by_name = no-names;
+      stored = tt;
       kept = record { first = omega arith; ascend = refl; below = refl; few = omega arith; are_entries = tt; differ = tt };
       over = tt;
       past = tt;
       ids = omega arith;
+      own_files = record { extents = tt; results = tt; ascend = tt; apart = tt };
     })
 first-table (x ∷ xs) programs k e f same = absurd (cc)
 first-table [] (p ∷ ps) k e f same = absurd (cc)

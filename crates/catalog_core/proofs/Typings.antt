@@ -1,5 +1,5 @@
 -- A plan has the same typing over more streams, where those of its leaves are the same.
-use Rattle.std.proofs.Common.{◌≡◌, refl, sym, ap, ◌∙◌, subst, ℕ, zero, suc, ◌+◌, ◌<◌, ◌≤◌, Bool, true, false, ◌||◌, cond, nat_le, List, [], ◌∷◌, ◌++◌, length, Option, None, Some, Result, Ok, Err, IsOk, slice_get, unwrap_or, length-append, arith}
+use Rattle.std.proofs.Common.{◌≡◌, refl, sym, ap, ◌∙◌, ℕ, zero, suc, ◌+◌, ◌<◌, ◌≤◌, Bool, true, false, ◌||◌, cond, nat_le, List, [], ◌∷◌, ◌++◌, length, Option, None, Some, Result, Ok, Err, IsOk, slice_get, unwrap_or, length-append, arith}
 use Rattle.std.specs.List.{AllByRecursion, find}
 use Rattle.std.specs.Option.{option_and_then}
 use Rattle.std.proofs.lemmas.Bool.Decides.{nat_tests}
@@ -11,7 +11,7 @@ use Rattle.plan_core.specs.PlanTyping.{Kinds, plan_typing, plan_kinds, has_too_m
 
 -- ---- where the leaves' streams are the same
 
-sides : (P : ℕ → Type 0) (xs ys : List ℕ) → AllByRecursion P (xs ++ ys) → AllByRecursion P xs × AllByRecursion P ys
+pub sides : {A : Type 0} (P : A → Type 0) (xs ys : List A) → AllByRecursion P (xs ++ ys) → AllByRecursion P xs × AllByRecursion P ys
 sides P [] ys all = (tt, all)
 sides P (x ∷ xs) ys all = let rest = sides P xs ys all.1 in ((all.0, rest.0), rest.1)
 
@@ -50,7 +50,7 @@ module _ (old new : List Kinds) where
 -- ---- where there are more streams
 
 -- the first streams are the same
-there_still : (xs ys : List Kinds) (i : ℕ) → i < length xs → slice_get (xs ++ ys) i ≡ slice_get xs i
+pub there_still : {A : Type 0} (xs ys : List A) (i : ℕ) → i < length xs → slice_get (xs ++ ys) i ≡ slice_get xs i
 there_still [] ys i low = absurd (omega (arith, low))
 there_still (x ∷ xs) ys zero low = refl
 there_still (x ∷ xs) ys (suc i) low = there_still xs ys i (omega (arith, low))

@@ -7,11 +7,12 @@ use Rattle.rows_core.specs.declared.schema.Column.{Column}
 use Rattle.rows_core.specs.Schema.{IsSchema}
 use Rattle.plan_binder.specs.Binding.{has_repeat}
 use Rattle.catalog_types.specs.declared.snapshot.StreamState.{StreamState}
-use Rattle.entry_table.specs.AreKept.{AreKept, AreKept-prop, IsPast}
+use Rattle.entry_table.specs.AreKept.{AreKept, AreKept-prop, IsPast, not-prop}
 use Rattle.catalog_types.specs.PlainEntry.{PlainEntry}
 use Rattle.plan_core.specs.PlainPlan.{PlainPlan, leaves}
 use Rattle.rows_core.specs.declared.cut.Cut.{Cut}
-use Rattle.catalog_core.specs.Programs.{names_of, AreByName, AreCuts}
+use Rattle.catalog_core.specs.OwnFiles.{HaveOwnFiles, HaveOwnFiles-prop}
+use Rattle.catalog_core.specs.Programs.{names_of, AreByName, AreCuts, IsProgram, IsStored}
 use Rattle.catalog_core.specs.Results.{IsOver, IsEntryOver}
 use Rattle.catalog_core.specs.Table.{Table, kept_of_table, most_ticks, file_end, most_streams, most_extents, most_extents_in_all, most_rows, most_programs, extent_count, row_count}
 
@@ -21,8 +22,9 @@ pub record IsStream (stream : StreamState) : Type 0 where
   pub extents : length stream.extents ≤ most_extents
   pub rows : row_count stream ≤ length stream.extents * most_rows
 
--- Names differ, the counts are within their limits, and kept results are what they are to be: of plans and cuts over the
--- streams, with ids that differ, no two alike, made and used at or before the tick. There are as many files as ids, or more.
+-- Names differ, the counts are within their limits, programs are of plans over the streams, and kept results are what they are
+-- to be: of plans and cuts over the streams, with ids that differ, no two alike, made and used at or before the tick. There are as
+-- many files as ids, or more, and each has its own number.
 pub record IsTable (t : Table) : Type 0 where
   pub counted : t.tick ≤ most_ticks
   pub first_file : 0 < t.next_file
@@ -33,10 +35,12 @@ pub record IsTable (t : Table) : Type 0 where
   pub few_extents : extent_count t.streams ≤ most_extents_in_all
   pub few_programs : length t.programs ≤ most_programs
   pub by_name : AreByName t.programs
+  pub stored : AllByRecursion (IsStored t.streams) t.programs
   pub kept : AreKept (kept_of_table t)
   pub over : AllByRecursion (IsEntryOver t.streams) t.entries
   pub past : AllByRecursion (IsPast t.tick) t.entries
   pub ids : t.next_id ≤ t.next_file
+  pub own_files : HaveOwnFiles t.next_file t.streams t.entries
 
 -- ---- each of these facts has one proof, so that it may stand in a field
 
@@ -77,8 +81,10 @@ IsTable-prop t x y = λ i. record {
   few_extents = le_prop x.few_extents y.few_extents i;
   few_programs = le_prop x.few_programs y.few_programs i;
   by_name = IsStrictlySortedBy-prop _ _ x.by_name y.by_name i;
+  stored = AllByRecursion-prop (IsStored t.streams) (λ program. not-prop (¬ (IsProgram t.streams program))) t.programs x.stored y.stored i;
   kept = AreKept-prop (kept_of_table t) x.kept y.kept i;
   over = AllByRecursion-prop (IsEntryOver t.streams) (λ e. IsOver-prop t.streams e.plan e.cuts) t.entries x.over y.over i;
   past = AllByRecursion-prop (IsPast t.tick) (λ e. IsPast-prop t.tick e) t.entries x.past y.past i;
   ids = le_prop x.ids y.ids i;
+  own_files = HaveOwnFiles-prop t.next_file t.streams t.entries x.own_files y.own_files i;
 }

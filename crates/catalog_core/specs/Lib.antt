@@ -1,8 +1,10 @@
 pub mod Programs
 pub mod Results
+pub mod Stored
 pub mod Chains
 pub mod Table
 pub mod IsTable
 pub mod Streams
 pub mod Catalogs
 pub mod Named
+pub mod OwnFiles

@@ -1,5 +1,6 @@
 -- Programs: the plan that a program's text is, and the programs in the byte order of their names.
-use Rattle.std.specs.Prelude.{◌≡◌, ℕ, ◌≤◌, Bool, List, [], ◌∷◌, ◌++◌, length, map, filter, slice_get, unwrap_or, Ok}
+use Rattle.std.specs.Prelude.{◌≡◌, ℕ, ◌≤◌, Bool, List, [], ◌∷◌, ◌++◌, length, map, filter, slice_get, bytes_eq, Option, unwrap_or, Ok}
+use Rattle.std.specs.List.{find}
 use Rattle.std.specs.Option.{option_map}
 use Rattle.std.specs.Ordering.{is_lt, nat_cmp}
 use Rattle.std.specs.List.Sorted.{IsStrictlySortedBy}
@@ -67,7 +68,15 @@ pub record IsProgram (streams : List StreamState) (program : Program) : Type 0 w
   pub are_cuts : AreCuts streams (leaves plan) program.cuts
   pub short : length program.text ≤ most_text_bytes
 
+-- It can't be that the program isn't one over the streams. What is denied twice has one proof, so that it may stand in a field.
+abbrev pub IsStored : List StreamState → Program → Type 0
+IsStored streams program = ¬ (¬ (IsProgram streams program))
+
 -- ---- the programs by name
+
+-- the first program of this name
+abbrev pub program_named : List Program → List ℕ → Option Program
+program_named programs name = find (λ program. bytes_eq program.name name) programs
 
 -- in the byte order
 abbrev pub is_below : List ℕ → List ℕ → Bool

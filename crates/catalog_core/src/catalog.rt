@@ -8,11 +8,12 @@ ghost use Rattle.catalog_core.specs.Table.{table_with, extent_count};
 
 use crate::columns::are_schema;
 use crate::program::is_program;
-use crate::programs::{has_room_for, make_room_to_store, store_any};
+use crate::programs::{has_room_for, make_room_to_store, program_named, store_any};
 use crate::refusal::CatalogRefusal;
 use crate::results::{are_over, make_room_for_results};
 use crate::schemas::with_stream;
 use crate::snapshot::copy_streams;
+use crate::stored::{StoredPlan, stored_plan};
 use crate::stream::CatalogStream;
 use cache_index::View;
 use catalog_types::{
@@ -84,6 +85,7 @@ impl Catalog {
     ghost use Rattle.catalog_core.specs.Catalogs.{table_of, HasRoom, HasRoomForStream, HasRoomAt};
     ghost use Rattle.catalog_core.specs.Catalogs.{HasRoomForWork, AreSpelled, IsReady};
     ghost use Rattle.catalog_core.specs.Programs.{names_of, columns_of};
+    ghost use Rattle.catalog_core.specs.Stored.{GoesBy};
     ghost use Rattle.catalog_core.specs.Streams as stream;
     ghost use Rattle.catalog_core.specs.Table.{empty_table, place_of, most_ticks, Fits, FitsStream};
     ghost use Rattle.catalog_core.specs.Table.{FitsAppend, IsNextExtent, HasPlaceForExtent, FitsProgram};
@@ -153,6 +155,20 @@ impl Catalog {
         ensures { result.now ≡ (table_of self.now).programs }
     {
         self.programs.as_slice()
+    }
+
+    /// The plan that goes by a name, with its typing, and the extents of its last run. `None` exactly where no
+    /// program has the name.
+    pub fn stored_plan(&self, alloc: Global, name: &Name) -> Result<Option<StoredPlan>, Memory>
+        ensures { IfOk result (GoesBy (table_of self.now) name.now) }
+    {
+        match program_named(self.programs.as_slice(), name) {
+            Some(program) => {
+                let streams = self.streams.as_slice();
+                Ok(Some(stored_plan(alloc, streams, &self.schemas, program)?))
+            }
+            None => Ok(None),
+        }
     }
 
     /// The kept results by their ids.

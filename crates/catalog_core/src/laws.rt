@@ -1,5 +1,5 @@
 //! Laws of changes, and of the files of a table.
-ghost use Rattle.std.specs.Prelude.{◌≡◌, ◌<◌, ℕ, List, [], Option, length, slice_index};
+ghost use Rattle.std.specs.Prelude.{◌≡◌, ◌≢◌, ◌<◌, ℕ, List, [], Option, length, slice_index};
 ghost use Rattle.std.specs.List.{Contains};
 ghost use Rattle.rows_core.specs.declared.cut.Cut.{Cut};
 ghost use Rattle.plan_core.specs.PlainPlan.{PlainPlan, leaves};
@@ -9,7 +9,9 @@ ghost use Rattle.rewrite_core.specs.Files.{Extent, Result};
 ghost use Rattle.catalog_types.specs.PlainEntry.{PlainEntry};
 ghost use Rattle.catalog_types.specs.declared.change.Change.{Change};
 ghost use Rattle.catalog_types.specs.declared.change.Change.TheVariants as change;
+ghost use Rattle.catalog_types.specs.declared.extent.Extent as of_table;
 ghost use Rattle.catalog_types.specs.declared.program.Program.{Program};
+ghost use Rattle.catalog_types.specs.declared.snapshot.StreamState.{StreamState};
 ghost use Rattle.cache_index.specs.Asked.{asked};
 ghost use Rattle.catalog_core.specs.IsTable.{IsTable};
 ghost use Rattle.catalog_core.specs.Named.{lengths_of, HasFile, file_at, machine_at};
@@ -42,6 +44,18 @@ pub fn kept_results_of_tables()
         → Contains (asked left_out t.entries) e → (file_at t (Result e.id)).len ≡ e.len }
     ensures found { (t : Table) (e : PlainEntry) → IsTable t → Contains t.entries e
         → (file_at t (Result e.id) ≡ e.file) × (machine_at t e.id ≡ e.machine) }
+{}
+
+/// Each file of a table has a number of its own: that of a kept result was given before the next one, and is no other
+/// kept result's and no extent's.
+pub fn files_of_tables()
+    ensures given { (t : Table) (e : PlainEntry) → IsTable t → Contains t.entries e
+        → (0 < e.file.file) × (e.file.file < t.next_file) }
+    ensures own { (t : Table) (e other : PlainEntry) → IsTable t → Contains t.entries e
+        → Contains t.entries other → e.file.file ≡ other.file.file → e ≡ other }
+    ensures apart { (t : Table) (e : PlainEntry) (stream : StreamState) (extent : of_table.Extent) → IsTable t
+        → Contains t.entries e → Contains t.streams stream → Contains stream.extents extent
+        → e.file.file ≢ extent.file.file }
 {}
 
 /// Cuts over the streams of a table are cuts of the lengths of their extents, and an extent's length is that of

@@ -13,9 +13,13 @@ pub mod refusal;
 mod results;
 mod schemas;
 mod snapshot;
+pub mod stored;
 pub mod stream;
 
 pub use catalog::Catalog;
-pub use laws::{cuts_of_tables, idle_work, kept_results_of_tables, tables_stay_tables};
+pub use laws::{
+    cuts_of_tables, files_of_tables, idle_work, kept_results_of_tables, tables_stay_tables,
+};
 pub use refusal::CatalogRefusal;
+pub use stored::StoredPlan;
 pub use stream::CatalogStream;

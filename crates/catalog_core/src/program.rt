@@ -2,6 +2,7 @@
 ghost use Rattle.std.specs.Prelude.{◌≡◌, ◌↔◌, Ok, IfOk, IfSome, IfNone, IsTrue, length};
 ghost use Rattle.plan_core.specs.PlainPlan.{PlainPlan, leaves, plan_of};
 ghost use Rattle.plan_core.specs.PlanTyping.{Kinds, plan_typing};
+ghost use Rattle.plan_core.specs.TypedPlan.{IsTypedOver};
 ghost use Rattle.plan_grammar.specs.PlainNamed.{PlainTree};
 ghost use Rattle.plan_printer.specs.Canonical.{canonical_text};
 ghost use Rattle.plan_binder.specs.Binding.{Binds, binding};
@@ -44,8 +45,8 @@ pub(crate) fn is_program(
     }
 }
 
-// The plan that a text is over the streams.
-fn plan_of_text(
+/// The plan that a text is over the streams.
+pub(crate) fn plan_of_text(
     alloc: Global,
     streams: &[CatalogStream],
     schemas: &Schemas,
@@ -55,6 +56,8 @@ fn plan_of_text(
     ensures found { IfOk result (λ found. IfSome found
         (λ typed. IsPlanOf (states_of streams.now) text.now typed.plan
         × (typed.leaves ≡ leaves typed.plan))) }
+    ensures typed { IfOk result (λ found. IfSome found
+        (IsTypedOver (kinds_of_streams (states_of streams.now)))) }
     ensures only { IfOk result (λ found. IfSome found (λ typed. (plan : PlainPlan)
         → IsPlanOf (states_of streams.now) text.now plan → plan ≡ typed.plan)) }
     ensures none { IfOk result (λ found. IfNone found

@@ -1,8 +1,8 @@
 //! The programs in the byte order of their names.
 ghost use Rattle.std.specs.Prelude.{◌≡◌, ◌↔◌, ◌<◌, ◌≤◌, List, length, slice_get, IsTrue, Some};
-ghost use Rattle.std.specs.Prelude.{vec_len, vec_capacity, IfSome, OnOk};
+ghost use Rattle.std.specs.Prelude.{vec_len, vec_capacity, option_copied, IfSome, OnOk};
 ghost use Rattle.catalog_types.specs.declared.program.Program as plain;
-ghost use Rattle.catalog_core.specs.Programs.{AreByName, is_below, below, with_program};
+ghost use Rattle.catalog_core.specs.Programs.{AreByName, is_below, below, with_program, program_named};
 ghost use Rattle.catalog_core.specs.Table.{most_programs, with_stored};
 
 use catalog_types::Program;
@@ -10,6 +10,13 @@ use rows_core::{Memory, Name};
 
 /// The most programs.
 const MAX_PROGRAMS: usize = 1_024;
+
+/// The program of this name.
+pub(crate) fn program_named<'a>(programs: &'a [Program], name: &Name) -> Option<&'a Program>
+    ensures { option_copied result ≡ program_named programs.entry.now name.now }
+{
+    programs.iter().find(|program| program.name.is_same(name))
+}
 
 /// Whether the programs stay within their limit where a program of this name is put among them.
 pub(crate) fn has_room_for(programs: &[Program], program: &Program) -> bool

@@ -17,3 +17,6 @@ returns-in-Ok-Some-clause-only c =
 pub returns-in-Ok-Some-clause-none : goal.returns-in-Ok-Some-clause-none
 returns-in-Ok-Some-clause-none c =
     ok-none c.typed_plan.result (λ none. none-bound (states_of c.args.streams.now) c.args.text.now c.in-Ok-Some.plan (some-at (λ plan. (tree : PlainTree) → IsCanonical tree c.args.text.now → tree ≡ plan) c.in-Ok-Some.field-0 c.in-Ok-Some.plan c.in-Ok-Some.field-0-is c.in-Ok-Some.ensures.only) none) c.typed_plan.ensures.none
+
+pub returns-in-Ok-Some-clause-typed : goal.returns-in-Ok-Some-clause-typed
+returns-in-Ok-Some-clause-typed c = ok-some c.typed_plan.result (λ typed is. is.1) c.typed_plan.ensures.found

@@ -1,4 +1,4 @@
-use Rattle.std.proofs.Common.{◌≡◌, ◌∙◌, sym, ap, Ok}
+use Rattle.std.proofs.Common.{◌∙◌, sym, ap, Ok}
 use Rattle.plan_core.specs.PlainPlan.{leaves}
 use Rattle.plan_core.specs.PlanTyping.{plan_typing}
 use Rattle.catalog_core.proofs.Nested.{ok-some, ok-none}

@@ -1,6 +1,5 @@
 use Rattle.std.proofs.Common.{◌≡◌, ◌∙◌, ◌↔◌, ap, sym, subst, ℕ, List, IsTrue, Ok}
-use Rattle.rows_core.specs.declared.cut.Cut.{Cut}
-use Rattle.plan_core.specs.PlainPlan.{PlainPlan, leaves, plan_of}
+use Rattle.plan_core.specs.PlainPlan.{leaves, plan_of}
 use Rattle.plan_core.specs.PlanTyping.{Kinds, plan_typing}
 use Rattle.plan_core.specs.TypedPlan.{TypedPlan}
 use Rattle.plan_spelling.specs.Spelling.{HasPlanSpelling}

@@ -1,14 +1,11 @@
-use Rattle.std.proofs.Common.{◌≡◌, ◌∙◌, ◌+◌, ◌<◌, ◌≤◌, ◌^◌, sym, ap, subst, length, List, arith, le_refl}
-use Rattle.catalog_types.specs.declared.change.Change.TheVariants as change
-use Rattle.catalog_types.specs.declared.program.Program.{Program}
+use Rattle.std.proofs.Common.{◌≡◌, ◌+◌, sym, ap, subst, length}
 use Rattle.entry_table.specs.Tables.{kept_of}
-use Rattle.entry_table.specs.Work.{after_work}
 use Rattle.entry_table.proofs.Files.{files-fit}
 use Rattle.catalog_core.specs.Catalogs.{table_of}
 use Rattle.catalog_core.specs.IsTable.{IsTable}
 use Rattle.catalog_core.specs.Results.{digests_of}
 use Rattle.catalog_core.specs.Streams.{states_of}
-use Rattle.catalog_core.specs.Table.{table_with, with_stored, after}
+use Rattle.catalog_core.specs.Table.{table_with}
 use Rattle.catalog_core.proofs.Kept.{work-keeps}
 use Rattle.catalog_core.proofs.catalog.Catalog.add_work.Goals as goal
 

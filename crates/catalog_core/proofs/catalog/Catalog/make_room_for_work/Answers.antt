@@ -1,6 +1,6 @@
-use Rattle.std.proofs.Common.{◌≡◌, sym, subst, List, OnOk}
+use Rattle.std.proofs.Common.{sym, subst, List, OnOk}
 use Rattle.catalog_types.specs.declared.program.Program.{Program}
-use Rattle.entry_table.specs.Tables.{kept_of, HasRoom, HasKeys}
+use Rattle.entry_table.specs.Tables.{kept_of, HasKeys}
 use Rattle.catalog_core.specs.declared.stream.CatalogStream.{CatalogStream}
 use Rattle.catalog_core.specs.IsTable.{IsTable}
 use Rattle.catalog_core.specs.Results.{digests_of}

@@ -1,6 +1,4 @@
-use Rattle.std.proofs.Common.{◌≡◌, ◌∙◌, ap, sym, List, [], take, Option, Some, None, unwrap_or, option_map}
-use Rattle.rows_core.specs.declared.file_ref.Digest.{Digest}
-use Rattle.fingerprints.specs.Keys.{chain_start, chain_of}
+use Rattle.std.proofs.Common.{◌∙◌}
 use Rattle.catalog_core.proofs.ChainLemmas.{chain-there-at, chain-nowhere}
 use Rattle.catalog_core.proofs.chains.StreamChainsChains.chain.Goals as goal
 

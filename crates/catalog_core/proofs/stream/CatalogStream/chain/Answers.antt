@@ -1,4 +1,4 @@
-use Rattle.std.proofs.Common.{◌≡◌, ◌∙◌, ◌-◌, suc, min, ap, sym, List, length, get_or, arith}
+use Rattle.std.proofs.Common.{◌≡◌, ◌∙◌, ◌-◌, suc, min, ap, List, length, get_or, arith}
 use Rattle.rows_core.specs.declared.file_ref.Digest.{Digest}
 use Rattle.fingerprints.specs.Keys.{chain_start}
 use Rattle.catalog_core.specs.Results.{extent_digests}
