@@ -1,10 +1,9 @@
 -- What a crash leaves while a change is recorded.
-use Rattle.std.proofs.Common.{◌≡◌, ◌≢◌, inl, inr, ℕ, ◌+◌, ◌==◌, false, List, [], ◌∷◌, ◌++◌, refl, sym, ap, ◌∙◌, subst, arith}
+use Rattle.std.proofs.Common.{◌≡◌, ◌≢◌, inl, inr, ℕ, ◌+◌, Bool, false, List, [], ◌∷◌, ◌++◌, refl, sym, ap, ◌∙◌, subst, arith}
 use Rattle.std.specs.Prelude.{IsTrue}
-use Rattle.std.proofs.lemmas.Bool.{eqb-true, eq-eqb}
 use Rattle.outside_traits.specs.View.{View, Now, IsImageAt}
-use Rattle.outside_traits.specs.Runs.{Touches}
-use Rattle.outside_traits.proofs.RunLemmas.{spans_of, image_has, files_have}
+use Rattle.outside_traits.specs.Runs.{Spans, Touches}
+use Rattle.outside_traits.proofs.RunLemmas.{spans_of, spans_on, spans_wider, image_has, files_have}
 use Rattle.gated_log.specs.Stands.{IsBeforeOrAfter}
 use Rattle.catalog_types.specs.declared.change.Change.{Change}
 use Rattle.catalog_core.specs.Table.{Table, empty_table, after}
@@ -15,10 +14,10 @@ use Rattle.journal_store.specs.declared.journal.Journal.{Journal}
 use Rattle.folder.specs.State.{State, IsValid, table}
 use Rattle.folder.specs.Replay.{IsBodyOf, MayBeMade, Replays, due_in}
 use Rattle.folder.specs.Sound.{Care, HoldsAll, Speaks, IsSound}
-use Rattle.folder.specs.Left.{Near, IsSoundForOneOf, IsSettled, IsLeft, IsLeftWith, Everything, Since, StaysSound}
+use Rattle.folder.specs.Left.{Near, IsSoundForOneOf, IsLeft, IsLeftWith, Everything, Since, StaysSound}
 use Rattle.folder.specs.Standing.{Stands, Means, IsNext}
 use Rattle.folder.proofs.Replays.{Replays-push}
-use Rattle.folder.proofs.Frames.{root_is_journal, log_is_journal, named_is_no_journal, sound_beside, holds_beside}
+use Rattle.folder.proofs.Frames.{log_is_journal, named_is_no_journal, sound_beside, holds_beside, stands_same}
 
 root_is_no_generation : (g : ℕ) → 0 ≢ generation_file g
 root_is_no_generation g is = let e : 0 ≡ 4294967296 + g = is in absurd (omega (arith, e))
@@ -37,26 +36,10 @@ commit_stands u v t t' journal journal' c body stands is_body may t_is keeps sta
   stable = stable;
 }
 
--- and after a run on a file that is no log
-pub beside_stands : (u v : View) (t : Table) (journal : Journal) (file : ℕ) (P : List ℕ → Type 0) → ((g : ℕ) → IsJournalFile g → g ≢ file) → Touches file P u v → Stands u t journal → Stands v t journal
-beside_stands u v t journal file P other run stands =
-    let here = λ (g : ℕ) (x : List ℕ) (log : IsJournalFile g) (now : Now v g x). run.others v.moment g x run.time.later (omega arith) (other g log) now in
-    let log : IsJournalFile (generation_file stands.generation) = log_is_journal stands.generation in
-    record {
-      generation = stands.generation;
-      bodies = stands.bodies;
-      keeps = record {
-        is_generation = stands.keeps.is_generation;
-        end = stands.keeps.end;
-        root = λ x now. stands.keeps.root x (here 0 x root_is_journal now);
-        log = λ x now. stands.keeps.log x (here (generation_file stands.generation) x log now);
-      };
-      replays = stands.replays;
-      stable = record {
-        root = λ x now. stands.stable.root x (here 0 x root_is_journal now) ∙ sym (run.same 0 (other 0 root_is_journal));
-        log = λ x now. stands.stable.log x (here (generation_file stands.generation) x log now) ∙ sym (run.same (generation_file stands.generation) (other (generation_file stands.generation) log));
-      };
-    }
+-- and after a run on files that are no logs
+pub beside_stands : (mine : ℕ → Type 0) (u v : View) (t : Table) (journal : Journal) → ((g : ℕ) → IsJournalFile g → mine g → ⊥) → Spans mine (λ image. Unit {0}) u v → Stands u t journal → Stands v t journal
+beside_stands mine u v t journal other run =
+    stands_same u v t journal (λ g x log now. run.others v.moment g x run.time.later (omega arith) (other g log) now) (λ g log. run.same g (other g log))
 
 -- ---- a commit
 
@@ -124,30 +107,29 @@ module _ (care : Care) (u v : View) (t : Table) (journal : Journal) (s s' : Stat
         };
       }
 
--- ---- a run on a file of which neither the logs nor the state speak
+-- ---- a run on files of which neither the logs nor the state speak
 
-module _ (care : Care) (u v : View) (t : Table) (journal : Journal) (s : State) (file : ℕ) (P : List ℕ → Type 0)
-    (law : (g : ℕ) → Now u g (u.files g)) (means : Means care u t journal s) (unnamed : Speaks s file → ⊥) (run : Touches file P u v) where
-  beside_one : (image : ℕ → List ℕ) → ((g : ℕ) → g ≢ file → Now u g (image g)) → IsSound care image s
-  beside_one image others = sound_beside care u (λ g. g == file) law image (λ g plain. others g (λ is. plain (eq-eqb g file is))) s means.settled
-      (λ g is speaks. unnamed (subst (λ n. Speaks s n) (eqb-true g file is) speaks))
-
+module _ (mine : ℕ → Bool) (care : Care) (u v : View) (t : Table) (journal : Journal) (s : State) (law : (g : ℕ) → Now u g (u.files g)) (means : Means care u t journal s)
+    (unnamed : (g : ℕ) → IsTrue (mine g) → Speaks s g → ⊥) (run : Spans (λ g. IsTrue (mine g)) (λ image. Unit {0}) u v) where
   pub beside_stays : StaysSound care s u v
-  beside_stays = spans_of file P Everything (λ image. IsSound care image s) u v run tt (λ image any others. beside_one image others)
-
-  pub beside_settled : IsSettled care v s
-  beside_settled image is = beside_one image (λ g other. run.others v.moment g (image g) run.time.later (omega arith) other (is g))
-
-  other_log : (g : ℕ) → IsJournalFile g → g ≢ file
-  other_log g is same = unnamed (inl (subst IsJournalFile same is))
+  beside_stays =
+      spans_wider (λ g. IsTrue (mine g)) Everything (λ image. Unit {0}) (λ image. IsSound care image s) u v run (λ g is. tt)
+      (λ image any others. sound_beside care u mine law image others s means.settled unnamed)
 
   pub beside_means : Means care v t journal s
   beside_means = record {
     table_is = means.table_is;
-    stands = beside_stands u v t journal file P other_log run means.stands;
+    stands = beside_stands (λ g. IsTrue (mine g)) u v t journal (λ g log is. unnamed g is (inl log)) run means.stands;
     valid = means.valid;
-    settled = beside_settled;
+    settled = image_has Everything (λ image. IsSound care image s) u v beside_stays;
   }
+
+-- ---- a run behind another one, in which the second state stays
+
+pub since_then_stays : (care : Care) (a b : State) (u v w : View) → Since care a b u v → StaysSound care b v w → Since care a b u w
+since_then_stays care a b u v w since stays =
+    spans_on Everything (IsSoundForOneOf care a b) u v w since
+    (spans_wider Everything Everything (λ image. IsSound care image b) (IsSoundForOneOf care a b) v w stays (λ g any. any) (λ image is others. inr is))
 
 -- ---- what stands after a call that failed
 

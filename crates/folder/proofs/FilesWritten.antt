@@ -1,5 +1,5 @@
 -- Files that are written one behind the other.
-use Rattle.std.proofs.Common.{◌≡◌, ◌≢◌, ◌∙◌, refl, sym, ap, subst, ℕ, ◌+◌, ◌-◌, ◌<◌, ◌≤◌, List, [], ◌∷◌, length, get_or, take, drop, Ok, Err, Result, OnOk, OnErr, arith}
+use Rattle.std.proofs.Common.{◌≡◌, ◌≢◌, ◌∙◌, subst, ℕ, ◌+◌, ◌-◌, ◌<◌, ◌≤◌, List, [], ◌∷◌, length, get_or, take, drop, Ok, Err, Result, OnOk, arith}
 use Rattle.std.proofs.lemmas.List.{take_all}
 use Rattle.outside_traits.specs.Runs.{ChangesOnly}
 use Rattle.outside_traits.specs.View.{View, Now, Only}

@@ -1,5 +1,5 @@
 -- The soundness of a state speaks of the logs and of the files that the state names, and of no others.
-use Rattle.std.proofs.Common.{◌≡◌, ◌≢◌, inl, inr, ℕ, ◌+◌, ◌<◌, ◌≤◌, true, false, Bool, List, refl, sym, subst, arith}
+use Rattle.std.proofs.Common.{◌≡◌, ◌≢◌, ◌∙◌, inl, inr, ℕ, ◌+◌, ◌<◌, ◌≤◌, true, false, Bool, List, refl, sym, subst, arith}
 use Rattle.std.proofs.lemmas.Bool.Decides.{nat_tests}
 use Rattle.std.specs.Prelude.{IsTrue}
 use Rattle.std.proofs.lemmas.Bool.{both_ways}
@@ -9,10 +9,12 @@ use Rattle.outside_traits.proofs.RunLemmas.{put_back_other, image_before}
 use Rattle.rows_core.specs.declared.file_ref.FileRef.{FileRef}
 use Rattle.catalog_core.specs.Table.{Table}
 use Rattle.journal_store.specs.Readings.{generation_file, IsJournalFile, is_journal_file}
+use Rattle.journal_store.specs.declared.journal.Journal.{Journal}
 use Rattle.folder.specs.State.{State, Names, IsValid}
 use Rattle.folder.specs.Replay.{ReadsAs}
 use Rattle.folder.specs.Sound.{Care, Holds, HoldsAll, Speaks, IsSound}
 use Rattle.folder.specs.Left.{IsSettled}
+use Rattle.folder.specs.Standing.{Stands}
 use Rattle.folder.proofs.JournalLemmas.{have_same}
 
 pub root_is_journal : IsJournalFile 0
@@ -52,6 +54,28 @@ reads_same a b t same reading = record {
   logs = have_same a b reading.generation reading.bodies (same 0 root_is_journal) (same (generation_file reading.generation) (log_is_journal reading.generation)) reading.logs;
   replays = reading.replays;
 }
+
+-- what stands is kept where the logs read as before, and no more is left of them
+pub stands_same : (u v : View) (t : Table) (journal : Journal) → ((g : ℕ) (x : List ℕ) → IsJournalFile g → Now v g x → Now u g x) → ((g : ℕ) → IsJournalFile g → v.files g ≡ u.files g)
+    → Stands u t journal → Stands v t journal
+stands_same u v t journal here same stands =
+    let file : ℕ = generation_file stands.generation in
+    let log : IsJournalFile (generation_file stands.generation) = log_is_journal stands.generation in
+    record {
+      generation = stands.generation;
+      bodies = stands.bodies;
+      keeps = record {
+        is_generation = stands.keeps.is_generation;
+        end = stands.keeps.end;
+        root = λ x now. stands.keeps.root x (here 0 x root_is_journal now);
+        log = λ x now. stands.keeps.log x (here file x log now);
+      };
+      replays = stands.replays;
+      stable = record {
+        root = λ x now. stands.stable.root x (here 0 x root_is_journal now) ∙ sym (same 0 root_is_journal);
+        log = λ x now. stands.stable.log x (here file x log now) ∙ sym (same file log);
+      };
+    }
 
 -- soundness passes between files that agree where it speaks
 pub sound_same : (care : Care) (a b : ℕ → List ℕ) (s : State) → IsSound care a s → ((g : ℕ) → Speaks s g → b g ≡ a g) → IsSound care b s

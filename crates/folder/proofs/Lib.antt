@@ -14,6 +14,10 @@ pub mod Steps
 pub mod LoadLemmas
 pub mod Recording
 pub mod Going
+pub mod Tables
 pub mod Writing
 pub mod FilesWritten
+pub mod Removals
+pub mod FreeFiles
+pub mod Collecting
 pub mod Unread

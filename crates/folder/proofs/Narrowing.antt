@@ -1,16 +1,15 @@
 -- What stands is kept by runs that change no file.
-use Rattle.std.proofs.Common.{◌∙◌, sym, ℕ, List, arith}
+use Rattle.std.proofs.Common.{ℕ, List, arith}
 use Rattle.outside_traits.specs.View.{View, Now, IsImageAt}
 use Rattle.outside_traits.specs.Runs.{Narrows}
 use Rattle.outside_traits.proofs.RunLemmas.{spans_on, spans_narrowed, image_has}
 use Rattle.catalog_core.specs.Table.{Table}
-use Rattle.journal_store.specs.Readings.{generation_file}
 use Rattle.journal_store.specs.declared.journal.Journal.{Journal}
 use Rattle.folder.specs.State.{State}
 use Rattle.folder.specs.Sound.{Care, IsSound}
 use Rattle.folder.specs.Left.{IsSoundForOneOf, IsLeft, Everything, Since, StaysSound}
 use Rattle.folder.specs.Standing.{Stands, Means}
-use Rattle.folder.proofs.Frames.{sound_same}
+use Rattle.folder.proofs.Frames.{sound_same, stands_same}
 
 module _ (u v : View) (narrow : Narrows u v) where
   now_before : (g : ℕ) (x : List ℕ) → Now v g x → Now u g x
@@ -27,21 +26,7 @@ module _ (u v : View) (narrow : Narrows u v) where
   }
 
   pub stands_narrowed : (t : Table) (journal : Journal) → Stands u t journal → Stands v t journal
-  stands_narrowed t journal stands = record {
-    generation = stands.generation;
-    bodies = stands.bodies;
-    keeps = record {
-      is_generation = stands.keeps.is_generation;
-      end = stands.keeps.end;
-      root = λ x now. stands.keeps.root x (now_before 0 x now);
-      log = λ x now. stands.keeps.log x (now_before (generation_file stands.generation) x now);
-    };
-    replays = stands.replays;
-    stable = record {
-      root = λ x now. stands.stable.root x (now_before 0 x now) ∙ sym (narrow.same 0);
-      log = λ x now. stands.stable.log x (now_before (generation_file stands.generation) x now) ∙ sym (narrow.same (generation_file stands.generation));
-    };
-  }
+  stands_narrowed t journal stands = stands_same u v t journal (λ g x log now. now_before g x now) (λ g log. narrow.same g) stands
 
   pub means_narrowed : (care : Care) (t : Table) (journal : Journal) (s : State) → Means care u t journal s → Means care v t journal s
   means_narrowed care t journal s means = record {

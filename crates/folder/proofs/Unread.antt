@@ -1,5 +1,5 @@
 -- A body that isn't read as a change stops where reading of it stops.
-use Rattle.std.proofs.Common.{◌≡◌, ◌⊎◌, inl, inr, ℕ, Bool, List}
+use Rattle.std.proofs.Common.{◌≡◌, inl, ℕ, Bool, List}
 use Rattle.catalog_types.specs.declared.change.Change.{Change}
 use Rattle.record_codec.specs.Spelling.{change_spelling, HasChangeSpelling}
 use Rattle.record_codec.specs.Place.{IsPlace}

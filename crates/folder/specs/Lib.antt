@@ -4,6 +4,7 @@ pub mod Sound
 pub mod Left
 pub mod Standing
 pub mod Written
+pub mod Removing
 pub mod Next
 pub mod Files
 pub mod Refusals

@@ -1,5 +1,5 @@
 //! Stores that are left, states that follow, and what the files of a state hold.
-ghost use Rattle.std.specs.Prelude.{◌≡◌, ℕ, List, [], Option, length, ◌<◌, ◌≤◌};
+ghost use Rattle.std.specs.Prelude.{◌≡◌, ℕ, List, [], Option, length, ◌<◌, ◌≤◌, IsTrue};
 ghost use Rattle.outside_traits.specs.View.{View, Now, Only};
 ghost use Rattle.outside_traits.specs.Runs.{Narrows};
 ghost use Rattle.rows_core.specs.declared.schema.Column.{Column};
@@ -16,23 +16,27 @@ ghost use Rattle.growth_laws.specs.Lists.{extents_of};
 ghost use Rattle.growth_laws.specs.Pieces.{pieces_of};
 ghost use Rattle.cache_index.specs.Asked.{asked};
 ghost use Rattle.entry_table.specs.AreKept.{AreKept};
+ghost use Rattle.entry_table.specs.Ids.{is_among};
 ghost use Rattle.entry_table.specs.Work.{kept_with};
 ghost use Rattle.catalog_types.specs.PlainEntry.{PlainEntry, PlainNewEntry};
 ghost use Rattle.catalog_types.specs.declared.change.Change.{Change};
 ghost use Rattle.catalog_types.specs.declared.program.Program.{Program};
 ghost use Rattle.catalog_core.specs.Programs.{AreCuts};
-ghost use Rattle.catalog_core.specs.Table.{Table, Fits};
+ghost use Rattle.catalog_core.specs.Table.{Table, Fits, after};
+ghost use Rattle.catalog_core.specs.IsTable.{IsTable};
 ghost use Rattle.folder.specs.State.{State, IsValid, extent_of, empty_state, table, file_bytes};
 ghost use Rattle.folder.specs.State.{states_of, kinds_in, extents_in, lists_in};
 ghost use Rattle.folder.specs.Files.{results_in, IsPieceIn, HoldsExtent, HoldsResult};
 ghost use Rattle.folder.specs.Replay.{ReadsAs, StopsReading};
 ghost use Rattle.folder.specs.Sound.{Care, IsSound};
-ghost use Rattle.folder.specs.Left.{IsLeft, IsSettled, Since};
+ghost use Rattle.folder.specs.Left.{IsLeft, IsSettled, Since, StaysSound};
+ghost use Rattle.folder.specs.Removing.{IsFree};
 ghost use Rattle.folder.specs.Standing.{Stands, Means, IsNext};
 ghost use Rattle.folder.specs.Next.{with_stream, with_rows, with_run, with_work, with_collection};
 ghost use Rattle.folder.specs.Next.{new_extent, AreRowsOf, IsReadyResult};
 ghost use Rattle.journal_store.specs.declared.journal.Journal.{Journal};
 
+use catalog_core::files_of_tables;
 use outside_traits::Store;
 use row_blob::one_spelling;
 
@@ -46,7 +50,8 @@ pub fn one_table()
 {}
 
 /// A store without files is left with the state of a new folder, and one that was begun from files of a state
-/// with that state. So is one whose state a folder means. Calls that change no file keep what is left.
+/// with that state. So is one whose state a folder means. Calls that change no file keep what is left. Where
+/// crashes leave one of two states, they still do once calls that keep the second one have followed.
 pub fn left_stores<D: Store>()
     ensures new { (care : Care) (store : D) → ((file : ℕ) → Only [] (Now (D.view store) file))
         → IsLeft care (D.view store) empty_state empty_state }
@@ -60,6 +65,9 @@ pub fn left_stores<D: Store>()
         → IsLeft care (D.view then) a b }
     ensures since { (care : Care) (a b : State) (origin before then : D)
         → Narrows (D.view before) (D.view then) → Since care a b (D.view origin) (D.view before)
+        → Since care a b (D.view origin) (D.view then) }
+    ensures stays { (care : Care) (a b : State) (origin before then : D)
+        → Since care a b (D.view origin) (D.view before) → StaysSound care b (D.view before) (D.view then)
         → Since care a b (D.view origin) (D.view then) }
     ensures means { (care : Care) (before then : D) (t : Table) (journal : Journal) (s : State)
         → Narrows (D.view before) (D.view then) → Means care (D.view before) t journal s
@@ -99,6 +107,14 @@ pub fn next_states<D: Store>()
     ensures nothing_kept { (s : State) (program : Option Program)
         → with_work s program [] [] [] ≡ with_run s program }
 {}
+
+/// The file of each kept result that a collection takes out is one that the table names no more.
+pub fn files_that_went()
+    ensures { (t : Table) (ids : List ℕ) (e : PlainEntry) → IsTable t → Contains t.entries e
+        → IsTrue (is_among ids e.id) → IsFree (after (Change.Collect ids) t) e.file.file }
+{
+    files_of_tables();
+}
 
 /// What the files hold that rewritings over the kept results of a state name, but for those whose ids are
 /// left out. Each piece of such a rewriting, at a cut that ends within the extents, is a kept result of the

@@ -5,8 +5,11 @@ mod files;
 pub mod folder;
 pub mod laws;
 pub mod refusal;
+mod removing;
 pub mod replay;
 
 pub use folder::Folder;
-pub use laws::{files_of_states, left_stores, next_states, one_table, rows_of_states};
+pub use laws::{
+    files_of_states, files_that_went, left_stores, next_states, one_table, rows_of_states,
+};
 pub use refusal::LoadRefusal;

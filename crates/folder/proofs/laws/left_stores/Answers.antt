@@ -3,7 +3,7 @@ use Rattle.folder.specs.State.{empty_state}
 use Rattle.folder.specs.Sound.{Care, IsSound}
 use Rattle.folder.proofs.NextStates.{valid-empty}
 use Rattle.folder.proofs.Frames.{sound_same}
-use Rattle.folder.proofs.Crash.{left_of_means}
+use Rattle.folder.proofs.Crash.{left_of_means, since_then_stays}
 use Rattle.folder.proofs.Loading.{empty_names_none}
 use Rattle.folder.proofs.Narrowing.{left_narrowed, since_narrowed, means_narrowed, stands_narrowed}
 use Rattle.folder.proofs.laws.left_stores.Goals as goal
@@ -37,6 +37,9 @@ returns-clause-kept g c = λ care a b before then narrow left. left_narrowed _ _
 
 pub returns-clause-since : goal.returns-clause-since
 returns-clause-since g c = λ care a b origin before then narrow since. since_narrowed _ _ narrow care a b _ since
+
+pub returns-clause-stays : goal.returns-clause-stays
+returns-clause-stays g c = λ care a b origin before then since stays. since_then_stays care a b _ _ _ since stays
 
 pub returns-clause-means : goal.returns-clause-means
 returns-clause-means g c = λ care before then t journal s narrow means. means_narrowed _ _ narrow care t journal s means

@@ -1,4 +1,4 @@
-use Rattle.std.proofs.Common.{◌≡◌, sym, subst}
+use Rattle.std.proofs.Common.{sym, subst}
 use Rattle.catalog_core.specs.Catalogs.{table_of}
 use Rattle.folder.specs.Refusals.{IsStop}
 use Rattle.folder.proofs.Unread.{unread_stops}
