@@ -1,0 +1,5 @@
+pub mod Entries
+pub mod Going
+pub mod Ascending
+pub mod Recorded
+pub mod Collections
