@@ -68,12 +68,16 @@ fn push_refusal(refusal: Refusal, to: &mut Vec<u8>) -> Result<()> {
     Ok(())
 }
 
-// A stream with its columns, an append with its row lines behind `>`, or a run with its plan.
+// A stream with its columns, an append with its row lines behind `>`, a run with its plan, or a command that
+// asks for what is kept, as it is written.
 fn push_command(alloc: Global, command: &Command, to: &mut Vec<u8>) -> Result<()> {
     match command {
         Command::Stream { name, columns } => push_stream(name, columns.items(), to),
         Command::Append { name, lines } => push_append(name, lines.items(), to),
         Command::Run { name, plan } => push_run(alloc, name, plan, to),
+        Command::Fetch { name, as_run } => push_fetch(name, *as_run, to),
+        Command::Collect { bytes } => push_collect(alloc, *bytes, to),
+        Command::Entries => push_entries(to),
     }
 }
 
@@ -108,5 +112,26 @@ fn push_run(alloc: Global, name: &Name, plan: &NamedPlan, to: &mut Vec<u8>) -> R
     to.extend_from_slice(b" = ")?;
     to.extend_from_slice(text.as_slice())?;
     to.push(b'\n')?;
+    Ok(())
+}
+
+fn push_fetch(name: &Name, as_run: bool, to: &mut Vec<u8>) -> Result<()> {
+    to.extend_from_slice(b"fetch ")?;
+    to.extend_from_slice(name.bytes())?;
+    if as_run {
+        to.extend_from_slice(b" as-run")?;
+    }
+    to.push(b'\n')?;
+    Ok(())
+}
+
+fn push_collect(alloc: Global, bytes: u64, to: &mut Vec<u8>) -> Result<()> {
+    let text = format!(in alloc; "collect {bytes}\n")?;
+    to.extend_from_slice(text.as_bytes())?;
+    Ok(())
+}
+
+fn push_entries(to: &mut Vec<u8>) -> Result<()> {
+    to.extend_from_slice(b"entries\n")?;
     Ok(())
 }

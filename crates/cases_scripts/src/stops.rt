@@ -43,8 +43,8 @@ pub fn stops(alloc: Global, arguments: &str) -> Result<String> {
     None.context("too many calls")
 }
 
-/// The answers to the commands, each of which is given to a run of its own on the same folder: they are those of
-/// one run.
+/// The answers to the commands, each of which is given to a run of its own on the same folder: they are those
+/// of one run.
 pub fn anew(alloc: Global, commands: &str) -> Result<String> {
     let mut store = MemStore::new(alloc, Vec::new(alloc));
     let mut answers = Vec::new(alloc);

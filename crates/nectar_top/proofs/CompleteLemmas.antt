@@ -46,6 +46,8 @@ step_sparing old new (item.Refused w) (answer.Refused why) (inr is) sparing none
 step_sparing old new i answer.Ok step sparing none = tt
 step_sparing old new i (answer.Held n) step sparing none = tt
 step_sparing old new i (answer.Result rows used kept read) step sparing none = tt
+step_sparing old new i (answer.Evicted ids bytes) step sparing none = tt
+step_sparing old new i (answer.Entries summaries) step sparing none = tt
 
 run_sparing : (old new : State) (commands : List Item) (answers : List Answer) → Run Whole old commands answers new → AllByRecursion IsSparingItem commands → faults_in answers ≡ 0 → AllByRecursion IsSparing answers
 run_sparing old new [] [] run sparing none = tt

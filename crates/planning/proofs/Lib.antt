@@ -1,5 +1,6 @@
 pub mod AppendFits
 pub mod AppendLemmas
+pub mod Fetches
 pub mod ReadingLemmas
 pub mod RunLemmas
 pub mod Stored

@@ -15,7 +15,7 @@ use Rattle.planning.specs.Running.{bound_plan, whole_cut, cuts_of, run_of, IsRun
 
 -- ---- the cuts of the leaves
 
-are_cuts : (streams : List StreamState) (ls : List ℕ) → AreCuts streams ls (map (whole_cut streams) ls)
+pub are_cuts : (streams : List StreamState) (ls : List ℕ) → AreCuts streams ls (map (whole_cut streams) ls)
 are_cuts streams [] = tt
 are_cuts streams (l ∷ ls) = ((omega arith, omega arith), are_cuts streams ls)
 
@@ -35,10 +35,17 @@ module _ (t : Table) (name : List ℕ) (tree : PlainTree) (typed : TypedPlan) (w
   planned program named text spells cuts stored limits =
       let are : AreCuts t.streams (leaves typed.plan) program.cuts = subst (AreCuts t.streams (leaves typed.plan)) (sym cuts) (are_cuts t.streams (leaves typed.plan)) in
       record {
-        plan = refl;
-        over = over;
+        planned = record {
+          plan = refl;
+          over = over;
+          cuts_are = cuts;
+          are_cuts = are;
+          counted = stored.counted;
+          nodes = limits.0;
+          exprs = limits.1;
+          few_leaves = limits.2;
+        };
         program_is = λ i. record { name = named i; text = text i; cuts = cuts i };
-        are_cuts = are;
         fits = (
           record {
             plan = typed.plan;
@@ -48,10 +55,6 @@ module _ (t : Table) (name : List ℕ) (tree : PlainTree) (typed : TypedPlan) (w
           },
           stored.programs,
         );
-        counted = stored.counted;
-        nodes = limits.0;
-        exprs = limits.1;
-        few_leaves = limits.2;
       }
 
 -- ---- how many programs there are

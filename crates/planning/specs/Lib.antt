@@ -3,3 +3,4 @@ pub mod Making
 pub mod Appending
 pub mod Running
 pub mod Recorded
+pub mod Fetching

@@ -53,10 +53,18 @@ whole_cut streams leaf = record { from = 0; to = length (extents_at streams leaf
 abbrev pub cuts_of : List StreamState → PlainPlan → List Cut
 cuts_of streams plan = map (whole_cut streams) (leaves plan)
 
+-- a plan over the streams, and the cut that it is worked off at
+pub record Target : Type 0 where
+  pub plan : PlainPlan
+  pub cuts : List Cut
+
 -- a plan over the streams, and the program that it is stored as
 pub record Run : Type 0 where
   pub plan : PlainPlan
   pub program : Program
+
+abbrev pub target_of : Run → Target
+target_of run = record { plan = run.plan; cuts = run.program.cuts }
 
 abbrev pub run_of : List StreamState → List ℕ → PlainTree → PlainPlan → Run
 run_of streams name tree plan = record {
@@ -86,15 +94,20 @@ running t name tree = running_bound t name tree (bound_plan t.streams tree)
 
 -- ---- what is planned
 
--- The plan has this typing; the program fits the table, which counts one command more; and the plan is within the limits of
--- written plans.
-pub record IsRunPlan (t : Table) (run : Run) (typed : TypedPlan) (program : Program) : Type 0 where
-  pub plan : typed.plan ≡ run.plan
+-- The plan has this typing, the cut ends within the extents, the table counts one command more, and the plan is within the
+-- limits of written plans.
+pub record IsPlanned (t : Table) (target : Target) (typed : TypedPlan) (cuts : List Cut) : Type 0 where
+  pub plan : typed.plan ≡ target.plan
   pub over : IsTypedOver (kinds_of_streams t.streams) typed
-  pub program_is : program ≡ run.program
-  pub are_cuts : AreCuts t.streams (leaves run.plan) program.cuts
-  pub fits : FitsProgram (Some program) t
+  pub cuts_are : cuts ≡ target.cuts
+  pub are_cuts : AreCuts t.streams (leaves target.plan) cuts
   pub counted : t.tick < most_ticks
-  pub nodes : node_count run.plan ≤ 40
-  pub exprs : expr_count run.plan ≤ 512
-  pub few_leaves : length (leaves run.plan) ≤ 9
+  pub nodes : node_count target.plan ≤ 40
+  pub exprs : expr_count target.plan ≤ 512
+  pub few_leaves : length (leaves target.plan) ≤ 9
+
+-- so is the plan of a run, and the program fits the table
+pub record IsRunPlan (t : Table) (run : Run) (typed : TypedPlan) (program : Program) : Type 0 where
+  pub planned : IsPlanned t (target_of run) typed program.cuts
+  pub program_is : program ≡ run.program
+  pub fits : FitsProgram (Some program) t

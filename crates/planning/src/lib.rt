@@ -7,6 +7,7 @@ pub mod append_plan;
 mod appending;
 mod columns;
 mod extents;
+pub mod fetching;
 pub mod making;
 mod program;
 mod reading;
@@ -16,6 +17,7 @@ mod typing;
 
 pub use accepting::{Accepted, accept_append};
 pub use append_plan::{AppendPlan, plan_append};
+pub use fetching::{FetchPlan, plan_fetch};
 pub use making::plan_stream;
 pub use recording::Recording;
 pub use running::{RunPlan, plan_run};

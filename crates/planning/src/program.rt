@@ -50,8 +50,12 @@ pub(crate) fn program_of(
     })
 }
 
-// For each leaf all extents that its stream has now.
-fn whole_cuts(alloc: Global, streams: &[CatalogStream], leaves: &[u32]) -> Result<Vec<Cut>, Memory>
+/// For each leaf all extents that its stream has now.
+pub(crate) fn whole_cuts(
+    alloc: Global,
+    streams: &[CatalogStream],
+    leaves: &[u32],
+) -> Result<Vec<Cut>, Memory>
     ensures { IfOk result (λ cuts. cuts.items ≡ map (whole_cut (states_of streams.now)) leaves.now) }
 {
     let mut cuts = Vec::with_capacity(alloc, leaves.len())?;

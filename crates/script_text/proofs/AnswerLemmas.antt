@@ -5,7 +5,8 @@ use Rattle.std.proofs.lemmas.Fmt.{length-decimal-le}
 use Rattle.std.proofs.lemmas.List.{get_or-map, get_or_append_left, get_or-append_right, length-map}
 use Rattle.rows_core.specs.declared.value.Value.{Value}
 use Rattle.row_text.specs.RowSpelling.{row_spelling}
-use Rattle.script_text.specs.Answer.{IsShort, ids_text, refusal_line}
+use Rattle.script_text.specs.Answer.{IsShort, ids_text, refusal_line, told, entry_line, printed_line}
+use Rattle.script_text.specs.declared.answer.EntrySummary.{EntrySummary}
 use Rattle.script_text.specs.declared.answer.Refusal.{Refusal}
 use Rattle.script_text.specs.declared.answer.Refusal.TheVariants.{Unknown, Exists, Row}
 
@@ -66,3 +67,17 @@ IsShort-ids words ids few_words few short = omega (arith, length-append (words +
 -- words and three texts, each with the byte behind it, appended one after another
 pub in_parts : (old words first second third start a b c d : List ℕ) → start ≡ old → a ≡ start ++ words → b ≡ a ++ (first ++ 32 ∷ []) → c ≡ b ++ (second ++ 32 ∷ []) → d ≡ c ++ (third ++ 10 ∷ []) → d ≡ old ++ (words ++ (first ++ 32 ∷ (second ++ 32 ∷ (third ++ 10 ∷ []))))
 in_parts old words first second third start a b c d e0 e1 e2 e3 e4 = rw (e4, e3, e2, e1, e0) (simp append_assoc)
+
+-- a word, with a space before it and behind it, appended in parts
+pub between_spaces : (old word a b c : List ℕ) → a ≡ old ++ 32 ∷ [] → b ≡ a ++ word → c ≡ b ++ 32 ∷ [] → c ≡ old ++ 32 ∷ (word ++ 32 ∷ [])
+between_spaces old word a b c e0 e1 e2 = rw (e2, e1, e0) (simp append_assoc)
+
+-- the line of a kept result, appended in parts
+pub in_entry : (entry : EntrySummary) (old a b c d e f g : List ℕ) → a ≡ old ++ decimal entry.id → b ≡ a ++ told (codes "size") entry.size → c ≡ b ++ told (codes "machine") entry.machine
+    → d ≡ c ++ told (codes "uses") entry.uses → e ≡ d ++ told (codes "last") entry.last → f ≡ e ++ told (codes "made") entry.made → g ≡ f ++ 10 ∷ [] → g ≡ old ++ printed_line (entry_line entry)
+in_entry entry old a b c d e f g e0 e1 e2 e3 e4 e5 e6 =
+    by (decimal entry.id) (told (codes "size") entry.size) (told (codes "machine") entry.machine) (told (codes "uses") entry.uses) (told (codes "last") entry.last) (told (codes "made") entry.made) e0 e1 e2 e3 e4 e5 e6
+  where
+    by : (id size machine uses last made : List ℕ) → a ≡ old ++ id → b ≡ a ++ size → c ≡ b ++ machine → d ≡ c ++ uses → e ≡ d ++ last → f ≡ e ++ made → g ≡ f ++ 10 ∷ []
+        → g ≡ old ++ ((id ++ (size ++ (machine ++ (uses ++ (last ++ made))))) ++ 10 ∷ [])
+    by id size machine uses last made h0 h1 h2 h3 h4 h5 h6 = rw (h6, h5, h4, h3, h2, h1, h0) (simp append_assoc)

@@ -1,5 +1,5 @@
 -- The definitions, held against worked examples.
-use Rattle.std.proofs.Common.{◌≡◌, [], ◌∷◌, codes, refl}
+use Rattle.std.proofs.Common.{◌≡◌, true, false, [], ◌∷◌, codes, refl}
 use Rattle.std.specs.Fmt.{digits}
 use Rattle.rows_core.specs.Name.{is_name, is_reserved}
 use Rattle.rows_core.specs.Kind.{kind_with_word}
@@ -7,11 +7,13 @@ use Rattle.rows_core.specs.declared.kind.Kind.TheVariants.{Int, Text}
 use Rattle.script_text.specs.Answer.{answer_text}
 use Rattle.script_text.specs.Script.{items_by, items, all_items}
 use Rattle.script_text.specs.StreamLine.{parts_at, columns_of}
+use Rattle.script_text.specs.CollectLine.{number_of}
 use Rattle.script_text.specs.Words.{only_word}
-use Rattle.script_text.specs.declared.answer.Answer.TheVariants.{Held, Refused}
+use Rattle.script_text.specs.declared.answer.Answer.TheVariants.{Held, Evicted, Refused}
+use Rattle.script_text.specs.declared.answer.Answer.TheVariants as answer
 use Rattle.script_text.specs.declared.answer.LimitKind.TheVariants as limit
 use Rattle.script_text.specs.declared.answer.Refusal.TheVariants.{Limit, Syntax, Unknown, Row}
-use Rattle.script_text.specs.declared.item.Command.TheVariants.{Stream, Append}
+use Rattle.script_text.specs.declared.item.Command.TheVariants.{Stream, Append, Fetch, Collect, Entries}
 use Rattle.script_text.specs.declared.item.Item.TheVariants as item
 
 -- a stream, with and without spaces
@@ -57,6 +59,27 @@ last_line_counts : all_items (codes " append t \n end\nend") ≡ item.Command (A
 unfolding items_by only_word is_name is_reserved
 last_line_counts = refl
 
+-- what asks for what is kept
+fetches_are_read : items (codes "fetch p\n fetch  p  as-run \n") ≡ item.Command (Fetch (codes "p") false) ∷ item.Command (Fetch (codes "p") true) ∷ []
+unfolding items_by only_word is_name is_reserved
+fetches_are_read = refl
+
+other_fetches_are_refused : items (codes "fetch\nfetch p q\nfetch p as-run q\nfetchp\n") ≡ item.Refused Syntax ∷ item.Refused Syntax ∷ item.Refused Syntax ∷ item.Refused Syntax ∷ []
+unfolding items_by only_word is_name is_reserved
+other_fetches_are_refused = refl
+
+collections_are_read : items (codes "collect 0\ncollect  18446744073709551615 \n") ≡ item.Command (Collect 0) ∷ item.Command (Collect 18446744073709551615) ∷ []
+unfolding items_by only_word number_of digits
+collections_are_read = refl
+
+other_numbers_are_refused : items (codes "collect\ncollect 00\ncollect 01\ncollect -1\ncollect 18446744073709551616\ncollect 5 6\n") ≡ item.Refused Syntax ∷ item.Refused Syntax ∷ item.Refused Syntax ∷ item.Refused Syntax ∷ item.Refused Syntax ∷ item.Refused Syntax ∷ []
+unfolding items_by only_word number_of digits
+other_numbers_are_refused = refl
+
+entries_are_asked_for : items (codes " entries \nentries x\n") ≡ item.Command Entries ∷ item.Refused Syntax ∷ []
+unfolding items_by
+entries_are_asked_for = refl
+
 held_text : answer_text (Held 12) ≡ codes "ok 12\n"
 unfolding digits
 held_text = refl
@@ -70,3 +93,15 @@ unknown_text = refl
 
 limit_is_printed : answer_text (Refused (Limit limit.Text)) ≡ codes "refused limit text 1000\n"
 limit_is_printed = refl
+
+evicted_text : answer_text (Evicted (7 ∷ 3 ∷ []) 120) ≡ codes "evicted 7 3\nreclaimed 120\n"
+unfolding digits
+evicted_text = refl
+
+none_evicted : answer_text (Evicted [] 0) ≡ codes "evicted none\nreclaimed 0\n"
+unfolding digits
+none_evicted = refl
+
+entries_text : answer_text (answer.Entries (record { id = 4; size = 88; machine = 12; uses = 2; last = 9; made = 5 } ∷ [])) ≡ codes "entries 1\n4 size 88 machine 12 uses 2 last 9 made 5\n"
+unfolding digits
+entries_text = refl

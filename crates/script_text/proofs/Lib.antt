@@ -1,7 +1,10 @@
 pub mod AnswerLemmas
 pub mod BlockLemmas
+pub mod CommandKinds
 pub mod Examples
+pub mod KeptSpelling
 pub mod LineLemmas
+pub mod NumberLemmas
 pub mod OptionLemmas
 pub mod ReaderLemmas
 pub mod RunSpelling

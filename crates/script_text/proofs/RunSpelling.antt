@@ -6,14 +6,15 @@ use Rattle.plan_grammar.specs.declared.limit.PlanLimit.{PlanLimit}
 use Rattle.plan_grammar.specs.declared.limit.PlanLimit.TheVariants.{Nodes, Wide, Exprs}
 use Rattle.plan_parser.specs.Answer.{TextReading, AsPlan, AsTooLarge, AsNone, text_reading}
 use Rattle.rows_core.specs.declared.schema.Column.{Column}
-use Rattle.script_text.specs.Dispatch.{behind_or, command_of, stream_command, line_command}
+use Rattle.script_text.specs.Dispatch.{behind_or, command_of, stream_command, kept_command, line_command}
 use Rattle.script_text.specs.RunLine.{limit_of, run_with, run_of_text, run_named, run_of_parts, run_of}
 use Rattle.script_text.specs.Spelled.{Spelled, or_syntax}
 use Rattle.script_text.specs.Spelling.{SpellsRunOf}
 use Rattle.script_text.specs.StreamLine.{Parts, parts_at, closed_columns, stream_with, stream_of_parts}
 use Rattle.script_text.specs.Words.{trimmed, behind_word, only_name}
-use Rattle.script_text.specs.declared.answer.Refusal.TheVariants.{Limit, Syntax}
-use Rattle.script_text.specs.declared.item.Command.TheVariants.{Stream, Append, Run}
+use Rattle.script_text.specs.declared.answer.Refusal.TheVariants.{Limit}
+use Rattle.script_text.specs.declared.item.Command.TheVariants.{Run}
+use Rattle.script_text.proofs.CommandKinds.{IsKept, IsSyntax, Only, kept_command-only}
 use Rattle.script_text.proofs.Spellings.{trimmed-spaces, trimmed-whole, parts_at-first, parts_at-whole}
 use Rattle.script_text.proofs.StreamSpelling.{Lacks-padded, name_bytes, only_name-space, only_name-spelled, SpellsNamed-read, StandsBehind, behind_word-whole}
 
@@ -31,9 +32,8 @@ run_of_text-is name text reading e = ap (run_with name) e
 
 -- a run, or a limit
 abbrev IsOfRun : Spelled → Type 0
-IsOfRun (Ok (Stream name columns)) = ⊥
-IsOfRun (Ok (Append name lines)) = ⊥
 IsOfRun (Ok (Run name plan)) = ⊤
+IsOfRun (Ok _) = ⊥
 IsOfRun (Err (Limit kind)) = ⊤
 IsOfRun (Err _) = ⊥
 
@@ -56,7 +56,7 @@ stream_command-other rest h = by (parts_at 40 rest) h
     by (Some parts) h = stream_with-other (only_name parts.before) (closed_columns parts.behind) h
     by None h = h
 
-module _ (line : List ℕ) (spelled : Spelled) (of_run : IsOfRun spelled) where
+module _ (line : List ℕ) (spelled : Spelled) (of_run : IsOfRun spelled) (not_kept : Only IsKept IsSyntax spelled → ⊥) where
   read_named : (rest : List ℕ) → StandsBehind (codes "run") (trimmed line) rest → (parts : Parts) → parts_at 61 rest ≡ Some parts → (name : Option (List ℕ)) → only_name parts.before ≡ name → run_named name parts.behind ≡ spelled → ReadsRun line spelled
   read_named rest behind parts parted (Some name) is e =
       let cut = trimmed-whole line in
@@ -79,11 +79,11 @@ module _ (line : List ℕ) (spelled : Spelled) (of_run : IsOfRun spelled) where
   read_parts rest behind (Some parts) parted e = read_named rest behind parts parted (only_name parts.before) refl e
   read_parts rest behind None parted e = absurd (subst IsOfRun (sym e) of_run)
 
-  read_run : (rest : Option (List ℕ)) → behind_word (codes "run") (trimmed line) ≡ rest → behind_or rest run_of (Err Syntax) ≡ spelled → ReadsRun line spelled
+  read_run : (rest : Option (List ℕ)) → behind_word (codes "run") (trimmed line) ≡ rest → behind_or rest run_of (kept_command (trimmed line)) ≡ spelled → ReadsRun line spelled
   read_run (Some rest) is e = read_parts rest (behind_word-whole (codes "run") (trimmed line) rest is) (parts_at 61 rest) refl e
-  read_run None is e = absurd (subst IsOfRun (sym e) of_run)
+  read_run None is e = absurd (not_kept (subst (Only IsKept IsSyntax) e (kept_command-only (trimmed line))))
 
-  read_line : (rest : Option (List ℕ)) → behind_or rest stream_command (behind_or (behind_word (codes "run") (trimmed line)) run_of (Err Syntax)) ≡ spelled → ReadsRun line spelled
+  read_line : (rest : Option (List ℕ)) → behind_or rest stream_command (behind_or (behind_word (codes "run") (trimmed line)) run_of (kept_command (trimmed line))) ≡ spelled → ReadsRun line spelled
   read_line (Some rest) e = absurd (stream_command-other rest (subst IsOfRun (sym e) of_run))
   read_line None e = read_run (behind_word (codes "run") (trimmed line)) refl e
 
@@ -107,7 +107,7 @@ with_plan line named name plan text spells AsNone is e = absurd (cc)
 pub plan_is_read : (line name : List ℕ) (plan : PlainTree) → line_command line ≡ Ok (Run name plan) → ReadsText line name (AsPlan plan)
 unfolding run_of_text
 plan_is_read line name plan e =
-    let read = ReadsRun-read line (Ok (Run name plan)) tt e in
+    let read = ReadsRun-read line (Ok (Run name plan)) tt (λ no. no) e in
     with_plan line read.name name plan read.text read.spells (text_reading read.text) refl read.is
 
 same_limit : (a b : PlanLimit) → limit_of a ≡ limit_of b → a ≡ b
@@ -136,5 +136,5 @@ with_limit line name what text spells AsNone is e = absurd (cc)
 pub limit_is_read : (line : List ℕ) (what : PlanLimit) → line_command line ≡ Err (Limit (limit_of what)) → ReadsLarge line what
 unfolding run_of_text
 limit_is_read line what e =
-    let read = ReadsRun-read line (Err (Limit (limit_of what))) tt e in
+    let read = ReadsRun-read line (Err (Limit (limit_of what))) tt (λ no. no) e in
     with_limit line read.name what read.text read.spells (text_reading read.text) refl read.is

@@ -1,10 +1,11 @@
 -- Words between spaces, and texts that a mark parts.
-use Rattle.std.proofs.Common.{◌≡◌, ℕ, ◌+◌, ◌<◌, ◌≤◌, Bool, true, false, cond, ◌&&◌, not, nat_eq, nat_lt, List, [], ◌∷◌, ◌++◌, length, take, drop, get_or, Some, None, refl, sym, ap, ◌∙◌, subst, append-nil, length-append, arith}
+use Rattle.std.proofs.Common.{◌≡◌, ℕ, ◌+◌, ◌<◌, ◌≤◌, Bool, true, false, cond, ◌&&◌, not, nat_eq, nat_lt, List, [], ◌∷◌, ◌++◌, length, take, drop, get_or, Some, None, refl, sym, ap, ◌∙◌, subst, append-nil, length-append, inl, inr, arith}
 use Rattle.std.specs.List.{position_or_len, before_first, after_first, AllByRecursion}
 use Rattle.std.specs.Option.{option_map}
 use Rattle.std.proofs.Math.Seq.{drop-append-add}
 use Rattle.std.proofs.lemmas.Bool.Decides.{Decides-ltb, nat_tests}
-use Rattle.std.proofs.lemmas.List.{take_at, take_all}
+use Rattle.std.specs.Prelude.{◌⊎◌}
+use Rattle.std.proofs.lemmas.List.{take_at, take_all, drop_all}
 use Rattle.std.proofs.lemmas.List.Sums.{split_at_first, passes_at_first}
 use Rattle.script_text.specs.Spelling.{AreSpaces, Padded}
 use Rattle.script_text.specs.StreamLine.{is_mark, Parts, parts_round, parts_at}
@@ -102,7 +103,7 @@ parts_at-whole mark text parts e = by (nat_lt (position_or_len (is_mark mark) te
     by false test e = absurd (cc)
 
 -- one word
-trimmed-word : (word back : List ℕ) → 0 < length word → Lacks is_space word → trimmed (word ++ back) ≡ word ++ back
+pub trimmed-word : (word back : List ℕ) → 0 < length word → Lacks is_space word → trimmed (word ++ back) ≡ word ++ back
 trimmed-word [] back some none = absurd (omega (arith, some))
 trimmed-word (c ∷ cs) back some none = ap (λ b. cond b (trimmed (cs ++ back)) (c ∷ (cs ++ back))) none.0
 
@@ -159,3 +160,40 @@ Padded-only_word text word e =
     let cut = trimmed-whole text in
     let alone = word_alone-whole (trimmed text) word e in
     record { front = cut.front; back = alone.back; before = cut.before; behind = alone.behind; whole = cut.whole ∙ ap (λ t. cut.front ++ t) alone.whole }
+
+-- the first word of a text that begins with it, and what stands behind it
+pub before_first-space : (word rest : List ℕ) → Lacks is_space word → before_first is_space (word ++ 32 ∷ rest) ≡ word
+before_first-space word rest none = ap (λ k. take k (word ++ 32 ∷ rest)) (position_at is_space word 32 rest none refl) ∙ take_at word (32 ∷ rest) (length word) refl
+
+pub after_first-space : (word rest : List ℕ) → Lacks is_space word → after_first is_space (word ++ 32 ∷ rest) ≡ rest
+after_first-space word rest none = ap (λ k. drop (k + 1) (word ++ 32 ∷ rest)) (position_at is_space word 32 rest none refl) ∙ drop-append-add word (32 ∷ rest) 1
+
+pub before_first-spaces : (word back : List ℕ) → Lacks is_space word → AreSpaces back → before_first is_space (word ++ back) ≡ word
+before_first-spaces word [] none spaces =
+    let whole : position_or_len is_space (word ++ []) ≡ length word = omega (arith, position_behind is_space word [] none) in
+    ap (λ k. take k (word ++ [])) whole ∙ take_at word [] (length word) refl
+before_first-spaces word (c ∷ cs) none spaces = ap (λ b. before_first is_space (word ++ b ∷ cs)) spaces.0 ∙ before_first-space word cs none
+
+pub after_first-spaces : (word back : List ℕ) → Lacks is_space word → AreSpaces back → AreSpaces (after_first is_space (word ++ back))
+after_first-spaces word [] none spaces =
+    let whole : position_or_len is_space (word ++ []) ≡ length word = omega (arith, position_behind is_space word [] none) in
+    subst AreSpaces (sym (ap (λ k. drop (k + 1) (word ++ [])) whole ∙ drop-append-add word [] 1)) tt
+after_first-spaces word (c ∷ cs) none spaces = subst AreSpaces (sym (ap (λ b. after_first is_space (word ++ b ∷ cs)) spaces.0 ∙ after_first-space word cs none)) spaces.1
+
+-- a text is its first word, a space and what stands behind it, or the one word
+pub first_word-whole : (text : List ℕ) → (text ≡ before_first is_space text ++ 32 ∷ after_first is_space text) ⊎ ((text ≡ before_first is_space text) × (after_first is_space text ≡ []))
+first_word-whole text = by (nat_lt (position_or_len is_space text) (length text)) refl
+  where
+    by : (b : Bool) → nat_lt (position_or_len is_space text) (length text) ≡ b → (text ≡ before_first is_space text ++ 32 ∷ after_first is_space text) ⊎ ((text ≡ before_first is_space text) × (after_first is_space text ≡ []))
+    by true test =
+        let within = (Decides-ltb (position_or_len is_space text) (length text)).0 test in
+        let here : get_or text (position_or_len is_space text) 0 ≡ 32 = same_byte _ 32 (passes_at_first is_space text 0 within) in
+        inl (split_at_first is_space text 0 within ∙ ap (λ c. before_first is_space text ++ c ∷ after_first is_space text) here)
+    by false test =
+        let all : length text ≤ (position_or_len is_space text) = grind (arith, nat_tests) in
+        inr (sym (take_all (position_or_len is_space text) text all), drop_all (position_or_len is_space text + 1) text (omega (arith, all)))
+
+-- spaces alone have no word
+pub only_word-spaces : (text : List ℕ) → AreSpaces text → only_word text ≡ Some []
+unfolding only_word
+only_word-spaces text spaces = ap word_alone (ap trimmed (sym (append-nil text)) ∙ trimmed-spaces text [] spaces)

@@ -1,5 +1,5 @@
 -- A line spells a stream or a head exactly where one is read from it.
-use Rattle.std.proofs.Common.{◌≡◌, ℕ, ◌<◌, Bool, true, false, cond, ◌&&◌, nat_eq, List, [], ◌∷◌, ◌++◌, length, codes, Option, Some, None, Ok, Err, option_and_then, bytes_eq, refl, sym, ap, ◌∙◌, subst, length-append, arith}
+use Rattle.std.proofs.Common.{◌≡◌, ℕ, ◌<◌, Bool, true, false, cond, ◌&&◌, nat_eq, List, [], ◌∷◌, ◌++◌, length, codes, Option, Some, None, Ok, option_and_then, bytes_eq, refl, sym, ap, ◌∙◌, subst, length-append, arith}
 use Rattle.std.specs.List.{slice_split, list_all, join_with_byte}
 use Rattle.std.proofs.lemmas.Bool.Decides.{nat_tests}
 use Rattle.std.proofs.lemmas.Slice.Eq.{bytes_eq-Decides}
@@ -11,15 +11,14 @@ use Rattle.rows_core.specs.declared.kind.Kind.TheVariants.{Int, Text}
 use Rattle.rows_core.specs.declared.schema.Column.{Column}
 use Rattle.script_text.specs.Spelling.{AreSpaces, Padded, SpellsName, SpellsColumn, SpellsColumns, SpellsStream, SpellsAppend}
 use Rattle.script_text.specs.StreamLine.{is_mark, Parts, parts_at, only_kind, column_with, column_of_parts, column_of, columns_with, columns_of_parts, columns_of, columns_before, closed_columns, stream_with, stream_of_parts, stream_of}
-use Rattle.script_text.specs.Dispatch.{behind_or, command_of, stream_command, line_command}
-use Rattle.script_text.specs.RunLine.{run_with, run_of_text, run_named, run_of_parts, run_of}
-use Rattle.plan_parser.specs.Answer.{TextReading, AsPlan, AsTooLarge, AsNone, text_reading}
-use Rattle.script_text.specs.Spelled.{Spelled, or_syntax}
+use Rattle.script_text.specs.Dispatch.{behind_or, command_of, stream_command, kept_command, line_command}
+use Rattle.script_text.specs.RunLine.{run_of}
+use Rattle.script_text.specs.Spelled.{or_syntax}
 use Rattle.script_text.specs.Words.{is_blank, trimmed, ends_word, behind_word, only_word, name_if, only_name, head_name}
 use Rattle.script_text.specs.declared.item.Command.{Command}
-use Rattle.script_text.specs.declared.item.Command.TheVariants.{Stream, Append, Run}
-use Rattle.script_text.specs.declared.answer.Refusal.TheVariants.{Syntax}
-use Rattle.std.specs.Prelude.{⊤}
+use Rattle.script_text.specs.declared.item.Command.TheVariants.{Stream}
+use Rattle.script_text.specs.Script.{IsForBytes}
+use Rattle.script_text.proofs.CommandKinds.{IsRun, IsKept, IsSyntax, Only, run_of-only, kept_command-only}
 use Rattle.script_text.proofs.StreamLemmas.{columns_of-next, columns_of-last}
 use Rattle.script_text.proofs.Spellings.{same_byte, is_blank-spaces, AreSpaces-blank, trimmed-spaces, trimmed-whole, Lacks, Lacks-append, parts_at-first, parts_at-lacking, parts_at-whole, only_word-padded, Padded-only_word}
 
@@ -32,7 +31,7 @@ and_second true b e = e
 and_second false b e = absurd (cc)
 
 -- a byte that is no name's stands in no name
-Lacks-from_all : (mark : ℕ) → is_name_byte mark ≡ false → (text : List ℕ) → list_all is_name_byte text ≡ true → Lacks (is_mark mark) text
+pub Lacks-from_all : (mark : ℕ) → is_name_byte mark ≡ false → (text : List ℕ) → list_all is_name_byte text ≡ true → Lacks (is_mark mark) text
 Lacks-from_all mark other [] all = tt
 Lacks-from_all mark other (c ∷ cs) all = (by (nat_eq c mark) refl, Lacks-from_all mark other cs (and_second (is_name_byte c) (list_all is_name_byte cs) all))
   where
@@ -47,7 +46,7 @@ pub name_bytes : (name : List ℕ) → IsName name → list_all is_name_byte nam
 unfolding is_name
 name_bytes name h = grind (arith, nat_tests)
 
-name_some : (name : List ℕ) → IsName name → 0 < length name
+pub name_some : (name : List ℕ) → IsName name → 0 < length name
 unfolding is_name
 name_some [] h = absurd (cc)
 name_some (c ∷ cs) h = omega arith
@@ -72,7 +71,7 @@ only_name-spelled name text spells =
     ap (option_and_then name_if) (only_word-padded name text (name_some name spells.is_name) (Lacks-from_all 32 refl name (name_bytes name spells.is_name)) spells.padded)
     ∙ ap (λ b. cond b (Some name) None) spells.is_name
 
-SpellsName-read : (name text : List ℕ) → only_name text ≡ Some name → SpellsName name text
+pub SpellsName-read : (name text : List ℕ) → only_name text ≡ Some name → SpellsName name text
 SpellsName-read name text e = by (only_word text) refl e
   where
     named : (word : List ℕ) → only_word text ≡ Some word → (b : Bool) → is_name word ≡ b → cond b (Some word) None ≡ Some name → SpellsName name text
@@ -285,32 +284,6 @@ behind_word-whole (w ∷ ws) (c ∷ cs) rest e = by (behind_word-whole ws cs res
     by later false test e = absurd (cc)
 
 -- a stream
-abbrev IsNoRun : Spelled → Type 0
-IsNoRun (Ok (Stream name columns)) = ⊤
-IsNoRun (Ok (Append name lines)) = ⊥
-IsNoRun (Ok (Run name plan)) = ⊥
-IsNoRun (Err why) = ⊥
-
-run_with-other : (name : List ℕ) (reading : TextReading) → IsNoRun (run_with name reading) → ⊥
-run_with-other name (AsPlan plan) h = h
-run_with-other name (AsTooLarge what) h = h
-run_with-other name AsNone h = h
-
-run_of_text-other : (name text : List ℕ) → IsNoRun (run_of_text name text) → ⊥
-unfolding run_of_text
-run_of_text-other name text h = run_with-other name (text_reading text) h
-
-run_of-other : (rest : List ℕ) → IsNoRun (run_of rest) → ⊥
-run_of-other rest h = by (parts_at 61 rest) h
-  where
-    named : (name : Option (List ℕ)) (text : List ℕ) → IsNoRun (run_named name text) → ⊥
-    named (Some name) text h = run_of_text-other name text h
-    named None text h = h
-
-    by : (parts : Option Parts) → IsNoRun (run_of_parts parts) → ⊥
-    by (Some parts) h = named (only_name parts.before) parts.behind h
-    by None h = h
-
 module _ (name : List ℕ) (columns : List Column) (line : List ℕ) where
   read_parts : (rest : List ℕ) → StandsBehind (codes "stream") (trimmed line) rest → (parts : Parts) → parts_at 40 rest ≡ Some parts
       → (n : Option (List ℕ)) (cs : Option (List Column)) → only_name parts.before ≡ n → closed_columns parts.behind ≡ cs → stream_with n cs ≡ Some (Stream name columns) → SpellsStream name columns line
@@ -342,14 +315,14 @@ module _ (name : List ℕ) (columns : List Column) (line : List ℕ) where
   read_command (Some command) e = cc
   read_command None e = absurd (cc)
 
-  other_command : (rest : Option (List ℕ)) → behind_or rest run_of (Err Syntax) ≡ Ok (Stream name columns) → ⊥
-  other_command (Some rest) e = run_of-other rest (subst IsNoRun (sym e) tt)
-  other_command None e = absurd (cc)
+  other_command : (rest : Option (List ℕ)) → behind_or rest run_of (kept_command (trimmed line)) ≡ Ok (Stream name columns) → ⊥
+  other_command (Some rest) e = subst (Only IsRun IsForBytes) e (run_of-only rest)
+  other_command None e = subst (Only IsKept IsSyntax) e (kept_command-only (trimmed line))
 
   pub SpellsStream-read : line_command line ≡ Ok (Stream name columns) → SpellsStream name columns line
   SpellsStream-read e = by (behind_word (codes "stream") (trimmed line)) refl e
     where
-      by : (o : Option (List ℕ)) → behind_word (codes "stream") (trimmed line) ≡ o → behind_or o stream_command (behind_or (behind_word (codes "run") (trimmed line)) run_of (Err Syntax)) ≡ Ok (Stream name columns) → SpellsStream name columns line
+      by : (o : Option (List ℕ)) → behind_word (codes "stream") (trimmed line) ≡ o → behind_or o stream_command (behind_or (behind_word (codes "run") (trimmed line)) run_of (kept_command (trimmed line))) ≡ Ok (Stream name columns) → SpellsStream name columns line
       by None is e = absurd (other_command (behind_word (codes "run") (trimmed line)) e)
       by (Some rest) is e = read_rest rest (behind_word-whole (codes "stream") (trimmed line) rest is) (parts_at 40 rest) refl (read_command (stream_of rest) e)
 
@@ -360,12 +333,12 @@ head_name-spelled name line spells =
     ∙ only_name-space spells.named ∙ only_name-spelled name spells.named spells.spells_name
 
 -- a name behind a space
-record SpellsSpaced (name text : List ℕ) : Type 0 where
-  named : List ℕ
-  spells_name : SpellsName name named
-  whole : text ≡ 32 ∷ named
+pub record SpellsSpaced (name text : List ℕ) : Type 0 where
+  pub named : List ℕ
+  pub spells_name : SpellsName name named
+  pub whole : text ≡ 32 ∷ named
 
-SpellsSpaced-read : (name text : List ℕ) → ends_word text ≡ true → only_name text ≡ Some name → SpellsSpaced name text
+pub SpellsSpaced-read : (name text : List ℕ) → ends_word text ≡ true → only_name text ≡ Some name → SpellsSpaced name text
 SpellsSpaced-read name [] ends e =
     let spells = SpellsName-read name [] e in
     let whole = spells.padded.whole in

@@ -7,7 +7,7 @@ use Rattle.std.proofs.lemmas.List.Splits.{length-slice_split}
 use Rattle.rows_core.specs.declared.schema.Column.{Column}
 use Rattle.script_text.specs.Words.{is_skipped, is_blank, only_name, begins_block, trimmed, behind_word, head_name}
 use Rattle.script_text.specs.StreamLine.{is_mark, Parts, parts_at, column_of, columns_with, columns_of_parts, columns_of, columns_before, closed_columns, stream_with, stream_of_parts, stream_of}
-use Rattle.script_text.specs.Dispatch.{behind_or, stream_command, command_of, line_command}
+use Rattle.script_text.specs.Dispatch.{behind_or, stream_command, kept_command, command_of, line_command}
 use Rattle.script_text.specs.RunLine.{run_with, run_of_text, run_named, run_of_parts, run_of}
 use Rattle.script_text.specs.Spelled.{Spelled, or_syntax}
 use Rattle.plan_grammar.specs.Counts.{IsWithinLimits}
@@ -17,7 +17,9 @@ use Rattle.script_text.specs.Script.{Block, block_limit, line_limit, spelled_ite
 use Rattle.script_text.specs.declared.answer.LimitKind.{LimitKind}
 use Rattle.script_text.specs.declared.answer.Refusal.TheVariants.{Syntax}
 use Rattle.script_text.specs.declared.item.Command.{Command}
+use Rattle.script_text.specs.declared.item.Command.TheVariants.{Stream, Append, Run, Fetch, Collect, Entries}
 use Rattle.script_text.specs.declared.item.Item.{Item}
+use Rattle.script_text.proofs.CommandKinds.{IsKept, IsSyntax, IsForBytes-syntax, Only, kept_command-only}
 
 -- columns, where there are any, are one or more
 abbrev HasColumns : Option (List Column) → Type 0
@@ -105,10 +107,23 @@ IsSpelled-behind : (rest : Option (List ℕ)) (command : List ℕ → Spelled) (
 IsSpelled-behind (Some rest) command other is others = is rest
 IsSpelled-behind None command other is others = others
 
+-- what is read of a line that asks for what is kept
+IsSpelled-kept : (text : List ℕ) → IsSpelled (kept_command text)
+IsSpelled-kept text = by (kept_command text) (kept_command-only text)
+  where
+    by : (spelled : Spelled) → Only IsKept IsSyntax spelled → IsSpelled spelled
+    by (Ok (Stream name columns)) is = absurd is
+    by (Ok (Append name lines)) is = absurd is
+    by (Ok (Run name plan)) is = absurd is
+    by (Ok (Fetch name as_run)) is = tt
+    by (Ok (Collect bytes)) is = tt
+    by (Ok Entries) is = tt
+    by (Err why) is = IsForBytes-syntax why is
+
 IsSpelled-command : (text : List ℕ) → IsSpelled (command_of text)
 IsSpelled-command text =
-    IsSpelled-behind (behind_word (codes "stream") text) stream_command (behind_or (behind_word (codes "run") text) run_of (Err Syntax)) (λ rest. IsSpelled-or_syntax (stream_of rest) (IsWhole-line (Some rest)))
-    (IsSpelled-behind (behind_word (codes "run") text) run_of (Err Syntax) (λ rest. IsSpelled-run (parts_at 61 rest)) tt)
+    IsSpelled-behind (behind_word (codes "stream") text) stream_command (behind_or (behind_word (codes "run") text) run_of (kept_command text)) (λ rest. IsSpelled-or_syntax (stream_of rest) (IsWhole-line (Some rest)))
+    (IsSpelled-behind (behind_word (codes "run") text) run_of (kept_command text) (λ rest. IsSpelled-run (parts_at 61 rest)) (IsSpelled-kept text))
 
 -- what is read of a stream's line
 pub stream_is_whole : (rest : List ℕ) (command : Command) → option_and_then stream_of (Some rest) ≡ Some command → IsWhole command

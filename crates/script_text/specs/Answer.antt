@@ -8,8 +8,9 @@ use Rattle.script_text.specs.declared.answer.LimitKind.{LimitKind}
 use Rattle.script_text.specs.declared.answer.LimitKind.TheVariants.{Line, Block, Nodes, Wide, Expr, Text, Extent, Columns, Streams, Extents, AllExtents, PlanText, Programs, Files, Commands, Machine}
 use Rattle.script_text.specs.declared.answer.Refusal.{Refusal}
 use Rattle.script_text.specs.declared.answer.Refusal.TheVariants.{Limit, Syntax, Unknown, Exists, IllTyped, Row, Fault, Damaged, Unreadable, Overflow, Memory}
+use Rattle.script_text.specs.declared.answer.EntrySummary.{EntrySummary}
 use Rattle.script_text.specs.declared.answer.Answer.{Answer}
-use Rattle.script_text.specs.declared.answer.Answer.TheVariants.{Ok, Held, Result, Refused}
+use Rattle.script_text.specs.declared.answer.Answer.TheVariants.{Ok, Held, Result, Evicted, Entries, Refused}
 
 -- what is counted, and the most that there may be
 abbrev pub limit_text : LimitKind → List ℕ
@@ -60,11 +61,31 @@ row_lines quiet rows = if quiet then [] else map row_spelling rows
 abbrev pub last_lines : List ℕ → List ℕ → ℕ → List (List ℕ)
 last_lines used kept read = (codes "used " ++ ids_text used) ∷ (codes "kept " ++ ids_text kept) ∷ (codes "read " ++ decimal read) ∷ []
 
+-- which kept results went, and the bytes that their files had
+abbrev pub evicted_lines : List ℕ → ℕ → List (List ℕ)
+evicted_lines ids bytes = (codes "evicted " ++ ids_text ids) ∷ (codes "reclaimed " ++ decimal bytes) ∷ []
+
+-- ` WORD N`
+abbrev pub told : List ℕ → ℕ → List ℕ
+told word number = 32 ∷ (word ++ 32 ∷ decimal number)
+
+-- what is told of a kept result
+abbrev pub entry_line : EntrySummary → List ℕ
+entry_line entry =
+    decimal entry.id ++ (told (codes "size") entry.size ++ (told (codes "machine") entry.machine
+    ++ (told (codes "uses") entry.uses ++ (told (codes "last") entry.last ++ told (codes "made") entry.made))))
+
+-- how many kept results there are, and a line for each
+abbrev pub entry_lines : List EntrySummary → List (List ℕ)
+entry_lines entries = (codes "entries " ++ decimal (length entries)) ∷ map entry_line entries
+
 -- the lines of the answer's text, without their LF; a quiet one leaves the row lines out
 abbrev pub answer_lines : Bool → Answer → List (List ℕ)
 answer_lines quiet Ok = codes "ok" ∷ []
 answer_lines quiet (Held rows) = (codes "ok " ++ decimal rows) ∷ []
 answer_lines quiet (Result rows used kept read) = (codes "rows " ++ decimal (length rows)) ∷ (row_lines quiet rows ++ last_lines used kept read)
+answer_lines quiet (Evicted ids bytes) = evicted_lines ids bytes
+answer_lines quiet (Entries entries) = entry_lines entries
 answer_lines quiet (Refused refusal) = refusal_line refusal ∷ []
 
 -- a line with its LF
@@ -78,9 +99,10 @@ longest_printed_line = 65536
 abbrev pub IsShort : List ℕ → Type 0
 IsShort line = length (printed_line line) ≤ longest_printed_line
 
--- each row of a result has at most 32 values, and it names at most 4,096 results that were used and kept
+-- each row of a result has at most 32 values, and an answer names at most 4,096 results that were used, kept or evicted
 abbrev pub IsNarrow : Answer → Type 0
 IsNarrow (Result rows used kept read) = All (λ row. length row ≤ 32) rows × (length used ≤ 4096) × (length kept ≤ 4096)
+IsNarrow (Evicted ids bytes) = length ids ≤ 4096
 IsNarrow _ = ⊤
 
 -- the text of an answer

@@ -3,6 +3,8 @@ use Rattle.std.specs.Prelude.{ℕ, List, Option, Some, None, Err, codes}
 use Rattle.script_text.specs.Words.{trimmed, behind_word}
 use Rattle.script_text.specs.StreamLine.{stream_of}
 use Rattle.script_text.specs.RunLine.{run_of}
+use Rattle.script_text.specs.FetchLine.{fetch_of}
+use Rattle.script_text.specs.CollectLine.{collect_of, entries_of}
 use Rattle.script_text.specs.Spelled.{Spelled, or_syntax}
 use Rattle.script_text.specs.declared.answer.Refusal.TheVariants.{Syntax}
 
@@ -15,9 +17,16 @@ behind_or None command other = other
 abbrev pub stream_command : List ℕ → Spelled
 stream_command rest = or_syntax (stream_of rest)
 
+-- what a line spells that asks for what is kept: rows, room or the list
+abbrev pub kept_command : List ℕ → Spelled
+kept_command text =
+    behind_or (behind_word (codes "fetch") text) fetch_of
+    (behind_or (behind_word (codes "collect") text) collect_of
+    (behind_or (behind_word (codes "entries") text) entries_of (Err Syntax)))
+
 -- what a line spells that has no spaces at its front
 abbrev pub command_of : List ℕ → Spelled
-command_of text = behind_or (behind_word (codes "stream") text) stream_command (behind_or (behind_word (codes "run") text) run_of (Err Syntax))
+command_of text = behind_or (behind_word (codes "stream") text) stream_command (behind_or (behind_word (codes "run") text) run_of (kept_command text))
 
 -- what the line spells
 abbrev pub line_command : List ℕ → Spelled

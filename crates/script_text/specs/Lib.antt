@@ -1,6 +1,8 @@
 pub mod Answer
 pub mod AnswerLine
+pub mod CollectLine
 pub mod Dispatch
+pub mod FetchLine
 pub mod Line
 pub mod Reader
 pub mod RunLine

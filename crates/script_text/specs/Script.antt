@@ -10,7 +10,7 @@ use Rattle.script_text.specs.declared.answer.LimitKind.TheVariants as limit
 use Rattle.script_text.specs.declared.answer.Refusal.{Refusal}
 use Rattle.script_text.specs.declared.answer.Refusal.TheVariants.{Limit, Syntax, Memory}
 use Rattle.script_text.specs.declared.item.Command.{Command}
-use Rattle.script_text.specs.declared.item.Command.TheVariants.{Stream, Append, Run}
+use Rattle.script_text.specs.declared.item.Command.TheVariants.{Stream, Append, Run, Fetch, Collect, Entries}
 use Rattle.script_text.specs.declared.item.Item.{Item}
 use Rattle.script_text.specs.declared.item.Item.TheVariants as item
 
@@ -139,6 +139,9 @@ abbrev pub IsWhole : Command → Type 0
 IsWhole (Stream name columns) = 0 < length columns
 IsWhole (Append name lines) = 0 < length lines
 IsWhole (Run name plan) = IsWithinLimits plan
+IsWhole (Fetch name as_run) = ⊤
+IsWhole (Collect bytes) = ⊤
+IsWhole Entries = ⊤
 
 abbrev pub IsWholeItem : Item → Type 0
 IsWholeItem (item.Command command) = IsWhole command

@@ -1,5 +1,5 @@
 -- The spellings of a command's line: its parts, with any number of spaces before and behind each.
-use Rattle.std.specs.Prelude.{◌≡◌, ℕ, List, [], ◌∷◌, ◌++◌, codes}
+use Rattle.std.specs.Prelude.{◌≡◌, ℕ, ◌^◌, ◌<◌, List, [], ◌∷◌, ◌++◌, codes, decimal}
 use Rattle.std.specs.List.{AllByRecursion}
 use Rattle.rows_core.specs.Kind.{kind_word}
 use Rattle.rows_core.specs.Name.{IsName}
@@ -82,3 +82,35 @@ SpellsRun name plan line = (text : List ℕ) × SpellsRunOf name text line × Sp
 -- `run NAME = PLAN`, with a plan of which this is the first limit that it passes
 abbrev pub SpellsTooLarge : PlanLimit → List ℕ → Type 0
 SpellsTooLarge what line = (name : List ℕ) × (text : List ℕ) × SpellsRunOf name text line × ((plan : PlainTree) × SpellsText plan text × IsFirstPassed what plan)
+
+-- `fetch NAME`
+pub record SpellsFetch (name line : List ℕ) : Type 0 where
+  pub front : List ℕ
+  pub named : List ℕ
+  pub before : AreSpaces front
+  pub spells_name : SpellsName name named
+  pub whole : line ≡ front ++ (codes "fetch" ++ 32 ∷ named)
+
+-- `fetch NAME as-run`
+pub record SpellsFetchAsRun (name line : List ℕ) : Type 0 where
+  pub front : List ℕ
+  pub between : List ℕ
+  pub asked : List ℕ
+  pub before : AreSpaces front
+  pub before_name : AreSpaces between
+  pub is_name : IsName name
+  pub asks : Padded (codes "as-run") asked
+  pub whole : line ≡ front ++ (codes "fetch" ++ 32 ∷ (between ++ (name ++ 32 ∷ asked)))
+
+-- `collect NUM`, with the decimal of a number that fits 64 bits
+pub record SpellsCollect (bytes : ℕ) (line : List ℕ) : Type 0 where
+  pub front : List ℕ
+  pub number : List ℕ
+  pub before : AreSpaces front
+  pub fits : bytes < 2 ^ 64
+  pub spells_number : Padded (decimal bytes) number
+  pub whole : line ≡ front ++ (codes "collect" ++ 32 ∷ number)
+
+-- `entries`
+abbrev pub SpellsEntries : List ℕ → Type 0
+SpellsEntries line = Padded (codes "entries") line

@@ -4,6 +4,7 @@ ghost use Rattle.std.specs.Prelude.{OnErr, IsOk, slice_index_or, [], decimal};
 ghost use Rattle.script_text.specs.Answer.{answer_lines, refusal_line, limit_text, printed_line};
 ghost use Rattle.script_text.specs.AnswerLine.{line_text};
 
+use crate::entry_line::print_entry;
 use crate::file_lines::{print_damage, print_place};
 use crate::line_of_answer::{AnswerLine, line_of};
 use crate::long_lines::{print_ids, print_row_line};
@@ -90,6 +91,22 @@ pub enum Refusal {
     Memory,
 }
 
+/// What is told of a kept result.
+#[derive(Clone, Copy, Debug, PartialEq, Eq)]
+pub struct EntrySummary {
+    pub id: u32,
+    /// The bytes of its file.
+    pub size: u64,
+    /// The machine time of its plan on its extents: 1 and the rows that the operators take in.
+    pub machine: u32,
+    /// How often it was used, its making counted.
+    pub uses: u32,
+    /// The tick of its last use.
+    pub last: u32,
+    /// The tick of its making.
+    pub made: u32,
+}
+
 /// What a command is answered.
 #[derive(Debug, PartialEq, Eq, Drop)]
 pub enum Answer {
@@ -108,6 +125,15 @@ pub enum Answer {
         /// The bytes that were read of files.
         read: u64,
     },
+    /// `evicted IDS` and `reclaimed B`.
+    Evicted {
+        /// The kept results that went, in the order of going.
+        ids: Seq<u32>,
+        /// The bytes that their files had.
+        bytes: u64,
+    },
+    /// `entries N`, and then for each kept result `ID size B machine M uses N last T made T`.
+    Entries(Seq<EntrySummary>),
     Refused(Refusal),
 }
 
@@ -119,6 +145,8 @@ pub fn line_count(answer: &Answer, quiet: bool) -> u64
         Answer::Ok | Answer::Held(_) | Answer::Refused(_) => 1,
         Answer::Result { .. } if quiet => 4,
         Answer::Result { rows, .. } => rows.items().len() as u64 + 4,
+        Answer::Evicted { .. } => 2,
+        Answer::Entries(entries) => entries.items().len() as u64 + 1,
     }
 }
 
@@ -154,6 +182,10 @@ fn print_answer_line(line: &AnswerLine, to: &mut Vec<u8>) -> Result<(), Memory>
         AnswerLine::Used(ids) => print_ids(b"used ", ids, to),
         AnswerLine::Kept(ids) => print_ids(b"kept ", ids, to),
         AnswerLine::Read(bytes) => append_number_line(to, b"read ", *bytes),
+        AnswerLine::Evicted(ids) => print_ids(b"evicted ", ids, to),
+        AnswerLine::Reclaimed(bytes) => append_number_line(to, b"reclaimed ", *bytes),
+        AnswerLine::Entries(entries) => append_number_line(to, b"entries ", *entries),
+        AnswerLine::Entry(entry) => print_entry(entry, to),
         AnswerLine::Refused(refusal) => print_refusal(refusal, to),
     }
 }

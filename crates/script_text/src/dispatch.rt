@@ -1,14 +1,16 @@
 //! A command's line, by its first word.
 ghost use Rattle.std.specs.Prelude.{IfOk};
-ghost use Rattle.script_text.specs.Dispatch.{command_of, stream_command};
+ghost use Rattle.script_text.specs.Dispatch.{command_of, kept_command, stream_command};
 ghost use Rattle.script_text.specs.Script.{IsWhole};
 ghost use Rattle.script_text.specs.Spelled.{IsReadOf};
 
 use crate::answer::Refusal;
+use crate::collect_line::{collect_of, entries_of};
+use crate::fetch_line::fetch_of;
 use crate::item::Command;
 use crate::run_line::run_of;
 use crate::stream_line::stream_of;
-use crate::words::{behind_run, behind_stream};
+use crate::words::{behind_collect, behind_entries, behind_fetch, behind_run, behind_stream};
 use rows_core::Memory;
 use std::alloc::Global;
 
@@ -23,6 +25,23 @@ pub fn line_command(alloc: Global, text: &[u8]) -> Result<Command, Refusal>
     }
     match behind_run(text) {
         Some(rest) => run_of(alloc, rest),
+        None => kept_command(alloc, text),
+    }
+}
+
+// The command of a line that asks for what is kept: rows, room or the list.
+fn kept_command(alloc: Global, text: &[u8]) -> Result<Command, Refusal>
+    ensures read { IsReadOf (kept_command text.now) result }
+    ensures whole { IfOk result IsWhole }
+{
+    if let Some(rest) = behind_fetch(text) {
+        return fetch_of(alloc, rest);
+    }
+    if let Some(rest) = behind_collect(text) {
+        return collect_of(rest);
+    }
+    match behind_entries(text) {
+        Some(rest) => entries_of(rest),
         None => Err(Refusal::Syntax),
     }
 }

@@ -18,6 +18,13 @@ pub enum Command {
     Append { name: Name, lines: Seq<Text> },
     /// Runs a plan, which then goes by the name. It passes no limit of plans as written.
     Run { name: Name, plan: NamedPlan },
+    /// Answers the rows of the plan that goes by the name: on all extents, or with `as_run` on those of its
+    /// last run.
+    Fetch { name: Name, as_run: bool },
+    /// Evicts kept results until their files had this many bytes together, or none is left that may go.
+    Collect { bytes: u64 },
+    /// Tells the kept results.
+    Entries,
 }
 
 /// What the reader of a script gives for each command, in the order of the script.

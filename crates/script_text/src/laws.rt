@@ -1,11 +1,12 @@
 //! How long the lines of answers are.
 ghost use Rattle.std.specs.Prelude.{◌≡◌, ◌+◌, ◌*◌, ◌<◌, ◌≤◌, [], length, decimal, slice_index_or};
-ghost use Rattle.script_text.specs.Answer.{IsNarrow, IsShort, answer_lines, ids_text, refusal_line};
+ghost use Rattle.script_text.specs.Answer.{IsNarrow, IsShort, answer_lines, entry_line, ids_text};
+ghost use Rattle.script_text.specs.Answer.{refusal_line};
 ghost use Rattle.script_text.specs.AnswerLine.{IsNarrowLine, line_text};
 ghost use Rattle.script_text.specs.declared.answer.Refusal.TheVariants.{Damaged, Unreadable};
 ghost use Rattle.hex.specs.Hex.{encode_lower};
 
-use crate::answer::{Answer, Refusal};
+use crate::answer::{Answer, EntrySummary, Refusal};
 use crate::file_lines::hex_of;
 use crate::line_of_answer::{AnswerLine, line_of};
 use row_text::row_is_short;
@@ -27,11 +28,16 @@ fn answer_line_is_short(line: &AnswerLine)
 {
     match line {
         AnswerLine::Ok => {}
-        AnswerLine::Held(number) | AnswerLine::Count(number) | AnswerLine::Read(number) => {
-            number_is_short(*number);
-        }
+        AnswerLine::Held(number)
+        | AnswerLine::Count(number)
+        | AnswerLine::Read(number)
+        | AnswerLine::Reclaimed(number)
+        | AnswerLine::Entries(number) => number_is_short(*number),
         AnswerLine::Row(row) => row_is_short(row),
-        AnswerLine::Used(ids) | AnswerLine::Kept(ids) => ids_are_short(ids),
+        AnswerLine::Used(ids) | AnswerLine::Kept(ids) | AnswerLine::Evicted(ids) => {
+            ids_are_short(ids);
+        }
+        AnswerLine::Entry(entry) => entry_is_short(entry),
         AnswerLine::Refused(refusal) => refusal_is_short(refusal),
     }
 }
@@ -67,6 +73,18 @@ fn place_is_short(file: u64, at: u64)
 {
     number_is_short(file);
     number_is_short(at);
+}
+
+// The line of a kept result has at most 65,536 bytes with its LF.
+fn entry_is_short(entry: &EntrySummary)
+    ensures { IsShort (entry_line entry.now) }
+{
+    number_is_short(entry.id as u64);
+    number_is_short(entry.size);
+    number_is_short(entry.machine as u64);
+    number_is_short(entry.uses as u64);
+    number_is_short(entry.last as u64);
+    number_is_short(entry.made as u64);
 }
 
 fn digest_is_short(digest: &Digest)

@@ -3,7 +3,10 @@
 
 pub mod answer;
 mod block;
+mod collect_line;
 mod dispatch;
+mod entry_line;
+mod fetch_line;
 mod file_lines;
 pub mod item;
 pub mod laws;
@@ -17,8 +20,11 @@ mod spelling;
 mod stream_line;
 mod words;
 
-pub use answer::{Answer, LimitKind, Refusal, line_count, print_line};
+pub use answer::{Answer, EntrySummary, LimitKind, Refusal, line_count, print_line};
 pub use item::{Command, Item, commands_are_whole, refusals_are_for_the_bytes};
 pub use laws::line_is_short;
 pub use lines::Lines;
-pub use spelling::{append_spelling, run_spelling, stream_spelling};
+pub use spelling::{
+    append_spelling, collect_spelling, entries_spelling, fetch_spelling, run_spelling,
+    stream_spelling,
+};

@@ -2,10 +2,11 @@
 ghost use Rattle.std.specs.Prelude.{◌≡◌, ◌+◌, ◌<◌, ◌≤◌, ◌++◌, ◌∷◌, [], length, map, All, codes, decimal};
 ghost use Rattle.std.specs.Prelude.{slice_index_or};
 ghost use Rattle.row_text.specs.RowSpelling.{row_spelling};
-ghost use Rattle.script_text.specs.Answer.{answer_lines, row_lines, last_lines, IsNarrow};
+ghost use Rattle.script_text.specs.Answer.{answer_lines, row_lines, last_lines, evicted_lines, entry_lines};
+ghost use Rattle.script_text.specs.Answer.{IsNarrow};
 ghost use Rattle.script_text.specs.AnswerLine.{line_text, IsNarrowLine};
 
-use crate::answer::{Answer, Refusal};
+use crate::answer::{Answer, EntrySummary, Refusal};
 use rows_core::Row;
 
 /// What a line of an answer's text tells.
@@ -24,6 +25,14 @@ pub enum AnswerLine<'a> {
     Kept(&'a [u32]),
     /// The bytes that were read of files.
     Read(u64),
+    /// The kept results that went.
+    Evicted(&'a [u32]),
+    /// The bytes that their files had.
+    Reclaimed(u64),
+    /// The number of kept results.
+    Entries(u64),
+    /// A kept result.
+    Entry(&'a EntrySummary),
     Refused(&'a Refusal),
 }
 
@@ -47,6 +56,8 @@ pub fn line_of(answer: &Answer, quiet: bool, line: u64) -> AnswerLine
             let shown = shown_rows(rows, quiet);
             line_of_result(rows.len(), shown, used.items(), kept.items(), *read, line)
         }
+        Answer::Evicted { ids, bytes } => line_of_evicted(ids.items(), *bytes, line),
+        Answer::Entries(entries) => line_of_entries(entries.items(), line),
     }
 }
 
@@ -95,4 +106,28 @@ fn last_line<'a>(used: &'a [u32], kept: &'a [u32], read: u64, line: usize) -> An
         1 => AnswerLine::Kept(kept),
         _ => AnswerLine::Read(read),
     }
+}
+
+// The line of this number of what tells which kept results went, and the bytes that their files had.
+fn line_of_evicted<'a>(ids: &'a [u32], bytes: u64, line: u64) -> AnswerLine<'a>
+    requires { line < 2 }
+    ensures text { line_text result ≡ slice_index_or (evicted_lines ids.now bytes) line [] }
+    ensures narrow { length ids.now ≤ 4096 → IsNarrowLine result }
+{
+    match line {
+        0 => AnswerLine::Evicted(ids),
+        _ => AnswerLine::Reclaimed(bytes),
+    }
+}
+
+// The line of this number of what tells these kept results.
+fn line_of_entries(entries: &[EntrySummary], line: u64) -> AnswerLine
+    requires { line < length entries.now + 1 }
+    ensures text { line_text result ≡ slice_index_or (entry_lines entries.now) line [] }
+    ensures narrow { IsNarrowLine result }
+{
+    if line == 0 {
+        return AnswerLine::Entries(entries.len() as u64);
+    }
+    AnswerLine::Entry(&entries[(line - 1) as usize])
 }

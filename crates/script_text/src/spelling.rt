@@ -1,5 +1,5 @@
 //! What is read from a command's line is exactly what the line spells.
-ghost use Rattle.std.specs.Prelude.{◌≡◌, ◌↔◌, ℕ, List, Some, Ok, Err};
+ghost use Rattle.std.specs.Prelude.{◌≡◌, ◌↔◌, ℕ, true, false, List, Some, Ok, Err};
 ghost use Rattle.rows_core.specs.declared.schema.Column.{Column};
 ghost use Rattle.script_text.specs.Words.{head_name};
 ghost use Rattle.script_text.specs.Dispatch.{line_command};
@@ -7,8 +7,9 @@ ghost use Rattle.plan_grammar.specs.PlainNamed.{PlainTree};
 ghost use Rattle.plan_grammar.specs.declared.limit.PlanLimit.{PlanLimit};
 ghost use Rattle.script_text.specs.RunLine.{limit_of};
 ghost use Rattle.script_text.specs.Spelling.{SpellsStream, SpellsAppend, SpellsRun, SpellsTooLarge};
+ghost use Rattle.script_text.specs.Spelling.{SpellsFetch, SpellsFetchAsRun, SpellsCollect, SpellsEntries};
 ghost use Rattle.script_text.specs.declared.answer.Refusal.TheVariants.{Limit};
-ghost use Rattle.script_text.specs.declared.item.Command.TheVariants.{Stream, Run};
+ghost use Rattle.script_text.specs.declared.item.Command.TheVariants.{Stream, Run, Fetch, Collect, Entries};
 
 use plan_parser::plan_laws::texts_are_read;
 
@@ -36,3 +37,25 @@ pub fn run_spelling()
 {
     texts_are_read();
 }
+
+/// A fetch is read from a line exactly where the line spells `fetch NAME`, and one of the last run exactly
+/// where it spells `fetch NAME as-run`, with any number of spaces before, between and behind the words, and
+/// at least one between two.
+pub fn fetch_spelling()
+    ensures present { (name line : List ℕ) →
+        ((line_command line ≡ Ok (Fetch name false)) ↔ SpellsFetch name line) }
+    ensures as_run { (name line : List ℕ) →
+        ((line_command line ≡ Ok (Fetch name true)) ↔ SpellsFetchAsRun name line) }
+{}
+
+/// A collection is read from a line exactly where the line spells `collect NUM`, with the decimal of a number
+/// that fits 64 bits.
+pub fn collect_spelling()
+    ensures { (bytes : ℕ) (line : List ℕ) →
+        ((line_command line ≡ Ok (Collect bytes)) ↔ SpellsCollect bytes line) }
+{}
+
+/// The list of kept results is asked for exactly by the lines that are `entries` and spaces.
+pub fn entries_spelling()
+    ensures { (line : List ℕ) → ((line_command line ≡ Ok Entries) ↔ SpellsEntries line) }
+{}

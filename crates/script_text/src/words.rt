@@ -2,7 +2,7 @@
 ghost use Rattle.std.specs.Prelude.{◌≡◌, ◌<◌, length, option_copied, IfSome, IfOk, position, codes};
 ghost use Rattle.std.specs.List.{before_first, after_first};
 ghost use Rattle.script_text.specs.Words.{is_space, is_blank, trimmed, is_empty_or_remark, ends_word};
-ghost use Rattle.script_text.specs.Words.{behind_word, word_alone, only_word, only_name};
+ghost use Rattle.script_text.specs.Words.{behind_word, word_alone, only_word, name_if, only_name};
 
 use rows_core::{Memory, Name, NameRefusal};
 use std::alloc::Global;
@@ -52,13 +52,41 @@ pub fn behind_run(text: &[u8]) -> Option<&[u8]>
     behind_word(b"run", text)
 }
 
+/// What stands behind `fetch`, where it is the first word of a line without spaces at its front.
+pub fn behind_fetch(text: &[u8]) -> Option<&[u8]>
+    ensures { option_copied result ≡ behind_word (codes "fetch") text.now }
+{
+    behind_word(b"fetch", text)
+}
+
+/// What stands behind `collect`, where it is the first word of a line without spaces at its front.
+pub fn behind_collect(text: &[u8]) -> Option<&[u8]>
+    ensures { option_copied result ≡ behind_word (codes "collect") text.now }
+{
+    behind_word(b"collect", text)
+}
+
+/// What stands behind `entries`, where it is the first word of a line without spaces at its front.
+pub fn behind_entries(text: &[u8]) -> Option<&[u8]>
+    ensures { option_copied result ≡ behind_word (codes "entries") text.now }
+{
+    behind_word(b"entries", text)
+}
+
 /// The one word of a text, where it is a name.
 pub fn only_name(alloc: Global, text: &[u8]) -> Result<Option<Name>, Memory>
     ensures { IfOk result (λ name. name ≡ only_name text.now) }
 {
-    let Some(word) = only_word(text) else {
-        return Ok(None);
-    };
+    match only_word(text) {
+        Some(word) => name_if(alloc, word),
+        None => Ok(None),
+    }
+}
+
+/// The word, where it is a name.
+pub fn name_if(alloc: Global, word: &[u8]) -> Result<Option<Name>, Memory>
+    ensures { IfOk result (λ name. name ≡ name_if word.now) }
+{
     match Name::new(alloc, word) {
         Ok(name) => Ok(Some(name)),
         Err(NameRefusal::NotName) => Ok(None),
@@ -101,8 +129,8 @@ fn word_alone(text: &[u8]) -> Option<&[u8]>
     if is_blank(behind) { Some(word) } else { None }
 }
 
-// What stands before the first space, and behind it.
-fn split_first_word(text: &[u8]) -> (&[u8], &[u8])
+/// What stands before the first space, and behind it.
+pub fn split_first_word(text: &[u8]) -> (&[u8], &[u8])
     ensures word { result.0.now ≡ before_first is_space text.now }
     ensures behind { result.1.now ≡ after_first is_space text.now }
 {

@@ -1,4 +1,4 @@
--- The choice for a run is one for its plan at its cut.
+-- The choice for a plan that is worked off is one for that plan at its cut.
 use Rattle.std.proofs.Common.{◌≡◌, ◌≤◌, length, IsOk, refl, sym, ap, subst, arith}
 use Rattle.plan_core.specs.Literals.{HasValidLiterals}
 use Rattle.plan_core.specs.Nesting.{node_count, expr_count, nesting}
@@ -9,13 +9,12 @@ use Rattle.plan_spelling.specs.Spelling.{HasPlanSpelling}
 use Rattle.plan_canon.specs.Normal.{IsNormal}
 use Rattle.estimator.specs.Cuts.{Cuts}
 use Rattle.rewrite_core.specs.PlainRewriting.{PlainRewriting, rewriting_of}
-use Rattle.catalog_types.specs.declared.program.Program.{Program}
 use Rattle.catalog_core.specs.Programs.{AreCuts, kinds_of_streams}
 use Rattle.catalog_core.specs.Results.{IsOver}
 use Rattle.catalog_core.specs.Table.{Table}
 use Rattle.plan_choice.specs.Taken.{IsTaken, IsChoice}
 use Rattle.plan_choice.specs.declared.choosing.Choice.{Choice}
-use Rattle.planning.specs.Running.{Run, IsRunPlan}
+use Rattle.planning.specs.Running.{Target, IsPlanned}
 use Rattle.work_plan.specs.Fitting.{IsFit}
 use Rattle.work_run.specs.Chosen.{IsChosen}
 
@@ -23,31 +22,31 @@ module _ (over : (t : Table) (plan normal : PlainPlan) (cuts : Cuts) (r : PlainR
     (same_leaves : (t : Table) (plan normal : PlainPlan) (cuts : Cuts) (r : PlainRewriting) → IsTaken t plan normal cuts r → leaves normal ≡ leaves plan)
     (is_normal : (t : Table) (plan normal : PlainPlan) (cuts : Cuts) (r : PlainRewriting) → IsTaken t plan normal cuts r → IsNormal (kinds_of_streams t.streams) normal)
     (deep : (t : Table) (plan normal : PlainPlan) (cuts : Cuts) (r : PlainRewriting) → IsTaken t plan normal cuts r → node_count plan ≤ 40 → expr_count plan ≤ 512 → nesting normal ≤ 1024)
-    (t : Table) (run : Run) (typed : TypedPlan) (program : Program) (choice : Choice) (plan_is : IsRunPlan t run typed program)
+    (t : Table) (target : Target) (typed : TypedPlan) (cuts : Cuts) (choice : Choice) (plan_is : IsPlanned t target typed cuts)
     (spelled : HasPlanSpelling (plan_of choice.rewriting.plan)) (literals : HasValidLiterals (plan_of choice.rewriting.plan)) where
-  has_typing : IsOk (plan_typing (kinds_of_streams t.streams) run.plan)
+  has_typing : IsOk (plan_typing (kinds_of_streams t.streams) target.plan)
   has_typing = subst (λ (p : PlainPlan). IsOk (plan_typing (kinds_of_streams t.streams) p)) plan_is.plan (subst IsOk (sym plan_is.over) refl)
 
-  fit_for : (is : IsChoice t run.plan program.cuts choice) → IsFit t.streams is.normal program.cuts
+  fit_for : (is : IsChoice t target.plan cuts choice) → IsFit t.streams is.normal cuts
   fit_for is =
       let r = rewriting_of choice.rewriting in
       let root : plan_of choice.rewriting.plan ≡ is.normal = is.taken.least.is.0 in
       let nine = plan_is.few_leaves in
       record {
-        over = over t run.plan is.normal program.cuts r is.taken has_typing plan_is.are_cuts;
-        normal = is_normal t run.plan is.normal program.cuts r is.taken;
+        over = over t target.plan is.normal cuts r is.taken has_typing plan_is.are_cuts;
+        normal = is_normal t target.plan is.normal cuts r is.taken;
         spelled = subst HasPlanSpelling root spelled;
         literals = subst HasValidLiterals root literals;
-        deep = deep t run.plan is.normal program.cuts r is.taken plan_is.nodes plan_is.exprs;
-        few = omega (arith, ap length (same_leaves t run.plan is.normal program.cuts r is.taken), nine);
+        deep = deep t target.plan is.normal cuts r is.taken plan_is.nodes plan_is.exprs;
+        few = omega (arith, ap length (same_leaves t target.plan is.normal cuts r is.taken), nine);
       }
 
-  pub chosen_for : (cuts : Cuts) → cuts ≡ program.cuts → IsChoice t typed.plan cuts choice → IsChosen t run.plan program.cuts choice
-  chosen_for cuts same is =
-      let choice_is : IsChoice t run.plan program.cuts choice =
-      subst (λ (p : PlainPlan). IsChoice t p program.cuts choice) plan_is.plan (subst (λ (c : Cuts). IsChoice t typed.plan c choice) same is) in
+  pub chosen_for : (given : Cuts) → given ≡ cuts → IsChoice t typed.plan given choice → IsChosen t target.plan cuts choice
+  chosen_for given same is =
+      let choice_is : IsChoice t target.plan cuts choice =
+      subst (λ (p : PlainPlan). IsChoice t p cuts choice) plan_is.plan (subst (λ (c : Cuts). IsChoice t typed.plan c choice) same is) in
       record { choice_is = choice_is; typed = has_typing; are_cuts = plan_is.are_cuts; fit = fit_for choice_is }
 
--- the rewriting of such a choice is taken of the run's plan
-pub taken_of : (t : Table) (run : Run) (program : Program) (choice : Choice) → program ≡ run.program → (is : IsChosen t run.plan program.cuts choice) → IsTaken t run.plan is.choice_is.normal run.program.cuts (rewriting_of choice.rewriting)
-taken_of t run program choice same is = subst (λ (p : Program). IsTaken t run.plan is.choice_is.normal p.cuts (rewriting_of choice.rewriting)) same is.choice_is.taken
+-- the rewriting of such a choice is taken of the plan
+pub taken_of : (t : Table) (target : Target) (cuts : Cuts) (choice : Choice) → cuts ≡ target.cuts → (is : IsChosen t target.plan cuts choice) → IsTaken t target.plan is.choice_is.normal target.cuts (rewriting_of choice.rewriting)
+taken_of t target cuts choice same is = subst (λ (c : Cuts). IsTaken t target.plan is.choice_is.normal c (rewriting_of choice.rewriting)) same is.choice_is.taken

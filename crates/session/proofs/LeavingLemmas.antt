@@ -22,7 +22,10 @@ use Rattle.folder.specs.Folders.{journal_of, table_in}
 use Rattle.folder.specs.Written.{ChangesFrom}
 use Rattle.folder.specs.declared.folder.Folder.{Folder}
 use Rattle.session.specs.declared.session.Session.{Session}
-use Rattle.session.specs.Standing.{LeavesWhereRefused, IsWritten, WritesAtMost, folder_of}
+use Rattle.rows_core.specs.declared.schema.Column.{Column}
+use Rattle.script_text.specs.declared.item.Command.{Command}
+use Rattle.script_text.specs.declared.item.Command.TheVariants as command
+use Rattle.session.specs.Standing.{LeavesWhereRefused, IsAppended, IsWritten, AppendsAtMost, ChangesAtMost, MayChange, WritesAtMost, folder_of}
 use Rattle.session.specs.WorkRefusals.{refusal_of}
 
 -- the answer is this one
@@ -62,8 +65,23 @@ module _ (folder : Folder) where
   pub writes_log : (u v : View) → ChangesOnly (generation_file (generation_of (journal_of folder))) u v → WritesAtMost folder u v
   writes_log u v run = spans_of (generation_file (generation_of (journal_of folder))) (λ x. Unit {0}) (IsWritten folder) (λ image. Unit {0}) u v run (inl refl) (λ image here others. tt)
 
-  pub writes_file : (u v : View) → ChangesOnly ((table_in folder).next_file + 0) u v → WritesAtMost folder u v
-  writes_file u v run = spans_of ((table_in folder).next_file + 0) (λ x. Unit {0}) (IsWritten folder) (λ image. Unit {0}) u v run (inr (omega arith)) (λ image here others. tt)
+  -- so it is where a stream is made
+  pub streams_log : (name : List ℕ) (columns : List Column) (u v : View) → ChangesOnly (generation_file (generation_of (journal_of folder))) u v → ChangesAtMost folder (command.Stream name columns) u v
+  streams_log name columns u v run =
+      spans_of (generation_file (generation_of (journal_of folder))) (λ x. Unit {0}) (MayChange folder (command.Stream name columns)) (λ image. Unit {0}) u v run refl (λ image here others. tt)
+
+  -- an append, its file before the log
+  pub appends_file : (u v : View) → ChangesOnly ((table_in folder).next_file + 0) u v → AppendsAtMost folder u v
+  appends_file u v run = spans_of ((table_in folder).next_file + 0) (λ x. Unit {0}) (IsAppended folder) (λ image. Unit {0}) u v run (inr (omega arith)) (λ image here others. tt)
+
+  pub appends_both : (u v w : View) → ChangesOnly ((table_in folder).next_file + 0) u v → ChangesOnly (generation_file (generation_of (journal_of folder))) v w → AppendsAtMost folder u w
+  appends_both u v w first then =
+      spans_on (IsAppended folder) (λ image. Unit {0}) u v w (appends_file u v first)
+      (spans_of (generation_file (generation_of (journal_of folder))) (λ x. Unit {0}) (IsAppended folder) (λ image. Unit {0}) v w then (inl refl) (λ image here others. tt))
+
+  -- a command that changes nothing
+  pub changes_none : (c : Command) (v : View) → ChangesAtMost folder c v v
+  changes_none c v = spans_none (MayChange folder c) (λ image. Unit {0}) v (λ image is. tt)
 
   -- new files
   pub writes_files : (u v : View) → ChangesFrom ((table_in folder).next_file + 0) u v → WritesAtMost folder u v
@@ -77,6 +95,15 @@ writes_prepared u v session session' t j writes =
     (λ file is. subst (λ (x : Table). (file ≡ generation_file (generation_of (journal_of (folder_of session)))) ⊎ (x.next_file ≤ file)) t
     (subst (λ (x : Journal). (file ≡ generation_file (generation_of x)) ⊎ ((table_in (folder_of session')).next_file ≤ file)) j is))
     (λ image any others. tt)
+
+pub appends_prepared : (u v : View) (session session' : Session) → table_in (folder_of session') ≡ table_in (folder_of session) → journal_of (folder_of session') ≡ journal_of (folder_of session)
+    → AppendsAtMost (folder_of session') u v → AppendsAtMost (folder_of session) u v
+appends_prepared u v session session' t j appends =
+    spans_wider (IsAppended (folder_of session')) (IsAppended (folder_of session)) (λ image. Unit {0}) (λ image. Unit {0}) u v appends (λ file is. either file is) (λ image any others. tt)
+  where
+    either : (file : ℕ) → IsAppended (folder_of session') file → IsAppended (folder_of session) file
+    either file (inl log) = inl (subst (λ (x : Journal). file ≡ generation_file (generation_of x)) j log)
+    either file (inr next) = inr (subst (λ (x : Table). file ≡ x.next_file) t next)
 
 -- ---- counts of failed looks
 

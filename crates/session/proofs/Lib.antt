@@ -1,4 +1,5 @@
 pub mod ChosenLemmas
+pub mod CollectLemmas
 pub mod FileLemmas
 pub mod LeavingLemmas
 pub mod LoadLemmas

@@ -1,9 +1,17 @@
 -- A command that leaves no choice has one outcome, and each refusal comes where its cause holds.
-use Rattle.std.proofs.Common.{◌≡◌, ◌≤◌, ℕ, List, Option, Some, Result, Ok, Err, refl, sym, ap, ◌∙◌, subst, ◌⊎◌, inl, inr, arith}
+use Rattle.std.proofs.Common.{◌≡◌, ◌≤◌, ℕ, nat_le, Bool, true, false, List, [], Option, None, Some, Result, Ok, Err, refl, sym, ap, ◌∙◌, subst, ◌⊎◌, inl, inr, arith}
 use Rattle.scalar_ops.specs.Meaning.{overflow}
 use Rattle.catalog_types.specs.declared.change.Change.{Change}
 use Rattle.catalog_types.specs.declared.program.Program.{Program}
-use Rattle.catalog_core.specs.Table.{place_of}
+use Rattle.std.proofs.lemmas.Bool.Decides.{nat_tests}
+use Rattle.plan_grammar.specs.PlainNamed.{PlainTree}
+use Rattle.plan_grammar.specs.Spelled.{SpellsText}
+use Rattle.catalog_types.specs.declared.snapshot.StreamState.{StreamState}
+use Rattle.catalog_core.specs.IsTable.{IsTable}
+use Rattle.catalog_core.specs.Programs.{program_named, IsPlanOf}
+use Rattle.catalog_core.specs.Table.{Table, place_of, most_ticks}
+use Rattle.catalog_core.proofs.Texts.{one-bound}
+use Rattle.collection_plan.specs.Collecting.{IsCollection}
 use Rattle.plan_core.specs.Columns.{Rows}
 use Rattle.plan_core.specs.MachineTime.{machine_time}
 use Rattle.plan_core.specs.PlainPlan.{PlainPlan}
@@ -13,8 +21,9 @@ use Rattle.estimator.specs.Cuts.{Cuts}
 use Rattle.rows_core.specs.declared.overflow.Overflow.{Overflow}
 use Rattle.rows_core.specs.declared.schema.Column.{Column}
 use Rattle.planning.specs.Appending.{Append, IsAppending}
+use Rattle.planning.specs.Fetching.{IsFetching, IsFetchOfAny, counted, fetched_cuts}
 use Rattle.planning.specs.Making.{making}
-use Rattle.planning.specs.Running.{Run, running}
+use Rattle.planning.specs.Running.{Run, Target, running}
 use Rattle.script_text.specs.declared.answer.Answer.{Answer}
 use Rattle.script_text.specs.declared.answer.Answer.TheVariants as answer
 use Rattle.script_text.specs.declared.answer.Answer.TheVariants.{Refused}
@@ -24,11 +33,12 @@ use Rattle.script_text.specs.declared.answer.Refusal.TheVariants as refusal
 use Rattle.script_text.specs.declared.item.Command.{Command}
 use Rattle.script_text.specs.declared.item.Command.TheVariants as command
 use Rattle.folder.specs.Sound.{Care}
+use Rattle.folder.specs.Next.{with_collection}
 use Rattle.folder.specs.State.{State, table, kinds_in, lists_in}
 use Rattle.work_run.specs.Working.{Works, Overflows, IsDear, given, most_machine_time}
-use Rattle.session.specs.Machine.{Outcome, outcome, refused, made, appended, RunsTo, IsWorkOn, Performs, Step}
+use Rattle.session.specs.Machine.{Outcome, outcome, refused, made, appended, RunsTo, FetchesTo, CollectsTo, IsWorkOn, Performs, Step}
 use Rattle.session.specs.Outcomes.{AgreeOn, Agree}
-use Rattle.session.specs.Refusals.{IsRefusedOn, IsRunRefused, IsRefusedFor, IsOtherEvent, RunHasNoChoice, HasNoChoice}
+use Rattle.session.specs.Refusals.{IsRefusedOn, IsRunRefused, IsFetchRefused, IsCollectionRefused, IsRefusedFor, IsOtherEvent, HasTwoRefusals, RunHasNoChoice, HasNoChoice}
 use Rattle.session.proofs.OneReading.{one_append}
 
 -- ---- work, by what it met
@@ -53,6 +63,8 @@ agree_self (answer.Result rows used kept read) state = (refl, record { tick = re
 agree_self (Refused why) state = (refl, refl)
 agree_self answer.Ok state = (refl, refl)
 agree_self (answer.Held n) state = (refl, refl)
+agree_self (answer.Evicted ids bytes) state = (refl, refl)
+agree_self (answer.Entries summaries) state = (refl, refl)
 
 agree_same : (x y : Answer) (a b : State) → x ≡ y → a ≡ b → AgreeOn x a y b
 agree_same x y a b told state = subst (λ (z : Answer). AgreeOn x a z b) told (subst (λ (z : State). AgreeOn x a x z) state (agree_self x a))
@@ -111,11 +123,51 @@ module _ (one : HaveOneNormalForm) (s : State) (a b : Outcome) where
       (works_as one s (Some run.program) run.plan run.program.cuts a.answer a.state p) (works_as one s (Some run.program) run.plan run.program.cuts b.answer b.state q)
   one_run (Err why) single p q = outcomes_agree a b (p ∙ sym q)
 
-pub same_outcome : HaveOneNormalForm → (s : State) (given_to : Command) (a b : Outcome) → HasNoChoice s given_to → Performs s given_to a → Performs s given_to b → Agree a b
-same_outcome one s (command.Stream name columns) a b none p q = outcomes_agree a b (p ∙ sym q)
-same_outcome one s (command.Append name lines) a b none p q =
+  one_fetch : (planned : Result Target Refusal) → ((target : Target) → planned ≡ Ok target → HasTwoRefusals s target.plan target.cuts → ⊥) → FetchesTo s planned a → FetchesTo s planned b → Agree a b
+  one_fetch (Ok target) single p q =
+      by_kinds one s None target.plan target.cuts a.answer b.answer a.state b.state (single target refl)
+      (works_as one s None target.plan target.cuts a.answer a.state p) (works_as one s None target.plan target.cuts b.answer b.state q)
+  one_fetch (Err why) single p q = outcomes_agree a b (p ∙ sym q)
+
+-- ---- a name stands for one plan
+
+abbrev pub HaveOnePlan : Type 0
+HaveOnePlan = (p q : PlainTree) (text : List ℕ) → SpellsText p text → SpellsText q text → p ≡ q
+
+one_plan_of : HaveOnePlan → (streams : List StreamState) (text : List ℕ) (plan other : PlainPlan) → IsPlanOf streams text plan → IsPlanOf streams text other → other ≡ plan
+one_plan_of texts streams text plan other is also =
+    one-bound streams text is.tree plan other (λ tree canonical. texts tree is.tree text canonical.0 is.canonical.0) is.bound also
+
+one_fetch_of : HaveOnePlan → (t : Table) (name : List ℕ) (as_run : Bool) (found : Option Program) (one other : Result Target Refusal) → IsFetchOfAny t name as_run found one → IsFetchOfAny t name as_run found other → other ≡ one
+one_fetch_of texts t name as_run (Some program) one other is also =
+    also.planned_is ∙ ap (λ (plan : PlainPlan). counted t (record { plan = plan; cuts = fetched_cuts as_run t.streams program plan })) (one_plan_of texts t.streams program.text is.plan also.plan is.is_plan also.is_plan) ∙ sym is.planned_is
+one_fetch_of texts t name as_run None one other is also = also ∙ sym is
+
+one_fetching : HaveOnePlan → (t : Table) (name : List ℕ) (as_run : Bool) (one other : Result Target Refusal) → IsFetching t name as_run one → IsFetching t name as_run other → other ≡ one
+one_fetching texts t name as_run one other is also = one_fetch_of texts t name as_run (program_named t.programs name) one other is also
+
+-- ---- one collection
+
+abbrev pub HaveOneCollection : Type 0
+HaveOneCollection = (t : Table) (held : List ℕ) (wanted : ℕ) → IsTable t → (ids others : List ℕ) (bytes more : ℕ)
+    → IsCollection t held wanted ids bytes → IsCollection t held wanted others more → (ids ≡ others) × (bytes ≡ more)
+
+one_collected : HaveOneCollection → (full : Bool) (s : State) (reclaim : ℕ) (a b : Outcome) → IsTable (table s) → CollectsTo full s reclaim a → CollectsTo full s reclaim b → Agree a b
+one_collected once true s reclaim a b ranked p q = outcomes_agree a b (p ∙ sym q)
+one_collected once false s reclaim a b ranked p q =
+    let same = once (table s) [] reclaim ranked p.0 q.0 p.1 q.1 p.2 q.2 in
+    outcomes_agree a b (p.3 ∙ (λ i. outcome (answer.Evicted (same.0 i) (same.1 i)) (with_collection s (same.0 i))) ∙ sym q.3)
+
+pub same_outcome : HaveOneNormalForm → HaveOnePlan → HaveOneCollection → (s : State) (given_to : Command) (a b : Outcome) → HasNoChoice s given_to → Performs s given_to a → Performs s given_to b → Agree a b
+same_outcome one texts once s (command.Stream name columns) a b none p q = outcomes_agree a b (p ∙ sym q)
+same_outcome one texts once s (command.Append name lines) a b none p q =
     outcomes_agree a b (p.2 ∙ ap (appended s) (one_append (table s) (place_of (table s).streams name) name lines p.0 q.0 p.1 q.1) ∙ sym q.2)
-same_outcome one s (command.Run name tree) a b single p q = one_run one s a b (running (table s) name tree) single p q
+same_outcome one texts once s (command.Run name tree) a b single p q = one_run one s a b (running (table s) name tree) single p q
+same_outcome one texts once s (command.Fetch name as_run) a b single p q =
+    one_fetch one s a b p.0 (λ target is. single target (subst (IsFetching (table s) name as_run) is p.1)) p.2
+    (subst (λ (planned : Result Target Refusal). FetchesTo s planned b) (one_fetching texts (table s) name as_run p.0 q.0 p.1 q.1) q.2)
+same_outcome one texts once s (command.Collect reclaim) a b ranked p q = one_collected once (nat_le most_ticks s.tick) s reclaim a b ranked p q
+same_outcome one texts once s command.Entries a b none p q = outcomes_agree a b (p ∙ sym q)
 
 -- ---- where the cause of a refusal holds
 
@@ -127,23 +179,36 @@ module _ (one : HaveOneNormalForm) (s : State) (told : Outcome) where
   is_refused : (other : Refusal) → told.answer ≡ Refused other → told.state ≡ s → told ≡ refused s other
   is_refused other answers states = λ i. outcome (answers i) (states i)
 
-  comes : (run : Run) (why : Refusal) → WorksAs s (Some run.program) run.plan run.program.cuts told.answer told.state → IsRefusedOn s run why → GivesOrOther s why told
-  comes run refusal.Overflow (Gave rows used kept read is works) over = absurd (ok_or_not _ rows works.rows over)
-  comes run refusal.Overflow (Overflowed is state over') over = inl (is_refused refusal.Overflow is state)
-  comes run refusal.Overflow (Passed is state dear) over = inr (refusal.Limit limit.Machine, refl, is_refused (refusal.Limit limit.Machine) is state)
-  comes run (refusal.Limit limit.Machine) (Gave rows used kept read is works) dear = absurd (not_dear one s (Some run.program) run.plan run.program.cuts rows used kept read told.state works dear)
-  comes run (refusal.Limit limit.Machine) (Overflowed is state over) dear = inr (refusal.Overflow, refl, is_refused refusal.Overflow is state)
-  comes run (refusal.Limit limit.Machine) (Passed is state dear') dear = inl (is_refused (refusal.Limit limit.Machine) is state)
-  comes run _ met none = absurd none
+  comes : (program : Option Program) (plan : PlainPlan) (cuts : Cuts) (why : Refusal) → WorksAs s program plan cuts told.answer told.state → IsRefusedOn s plan cuts why → GivesOrOther s why told
+  comes program plan cuts refusal.Overflow (Gave rows used kept read is works) over = absurd (ok_or_not _ rows works.rows over)
+  comes program plan cuts refusal.Overflow (Overflowed is state over') over = inl (is_refused refusal.Overflow is state)
+  comes program plan cuts refusal.Overflow (Passed is state dear) over = inr (refusal.Limit limit.Machine, refl, is_refused (refusal.Limit limit.Machine) is state)
+  comes program plan cuts (refusal.Limit limit.Machine) (Gave rows used kept read is works) dear = absurd (not_dear one s program plan cuts rows used kept read told.state works dear)
+  comes program plan cuts (refusal.Limit limit.Machine) (Overflowed is state over) dear = inr (refusal.Overflow, refl, is_refused refusal.Overflow is state)
+  comes program plan cuts (refusal.Limit limit.Machine) (Passed is state dear') dear = inl (is_refused (refusal.Limit limit.Machine) is state)
+  comes program plan cuts _ met none = absurd none
 
   run_exactly : (why : Refusal) (planned : Result Run Refusal) → RunsTo s planned told → IsRunRefused s planned why → GivesOrOther s why told
-  run_exactly why (Ok run) done holds = comes run why (works_as one s (Some run.program) run.plan run.program.cuts told.answer told.state done) holds
+  run_exactly why (Ok run) done holds = comes (Some run.program) run.plan run.program.cuts why (works_as one s (Some run.program) run.plan run.program.cuts told.answer told.state done) holds
   run_exactly why (Err planned) done holds = inl (done ∙ ap (refused s) holds)
 
-pub refused_exactly : HaveOneNormalForm → (s : State) (given_to : Command) (told : Outcome) (why : Refusal) → Performs s given_to told → IsRefusedFor s given_to why → GivesOrOther s why told
-refused_exactly one s (command.Stream name columns) told why done holds = inl (done ∙ ap (made s name columns) holds)
-refused_exactly one s (command.Append name lines) told why done holds = inl (done.2 ∙ ap (appended s) (one_append (table s) (place_of (table s).streams name) name lines done.0 (Err why) done.1 holds))
-refused_exactly one s (command.Run name tree) told why done holds = run_exactly one s told why (running (table s) name tree) done holds
+  fetch_exactly : (why : Refusal) (planned : Result Target Refusal) → FetchesTo s planned told → IsFetchRefused s planned why → GivesOrOther s why told
+  fetch_exactly why (Ok target) done holds = comes None target.plan target.cuts why (works_as one s None target.plan target.cuts told.answer told.state done) holds
+  fetch_exactly why (Err planned) done holds = inl (done ∙ ap (refused s) holds)
+
+  collection_exactly : (why : Refusal) (full : Bool) (reclaim : ℕ) → full ≡ nat_le most_ticks s.tick → CollectsTo full s reclaim told → IsCollectionRefused s why → GivesOrOther s why told
+  collection_exactly (refusal.Limit limit.Commands) true reclaim is done most = inl done
+  collection_exactly (refusal.Limit limit.Commands) false reclaim is done most = absurd (grind (arith, nat_tests))
+  collection_exactly _ full reclaim is done none = absurd none
+
+pub refused_exactly : HaveOneNormalForm → HaveOnePlan → (s : State) (given_to : Command) (told : Outcome) (why : Refusal) → Performs s given_to told → IsRefusedFor s given_to why → GivesOrOther s why told
+refused_exactly one texts s (command.Stream name columns) told why done holds = inl (done ∙ ap (made s name columns) holds)
+refused_exactly one texts s (command.Append name lines) told why done holds = inl (done.2 ∙ ap (appended s) (one_append (table s) (place_of (table s).streams name) name lines done.0 (Err why) done.1 holds))
+refused_exactly one texts s (command.Run name tree) told why done holds = run_exactly one s told why (running (table s) name tree) done holds
+refused_exactly one texts s (command.Fetch name as_run) told why done holds =
+    fetch_exactly one s told why done.0 done.2 (subst (λ (planned : Result Target Refusal). IsFetchRefused s planned why) (one_fetching texts (table s) name as_run done.0 holds.0 done.1 holds.1) holds.2)
+refused_exactly one texts s (command.Collect reclaim) told why done holds = collection_exactly one s told why (nat_le most_ticks s.tick) reclaim refl done holds
+refused_exactly one texts s command.Entries told why done holds = absurd holds
 
 -- ---- the cause of a refusal
 
@@ -160,19 +225,30 @@ module _ (s new : State) (why : Refusal) where
   appended_cause (Ok append) e = let answers : Refused why ≡ answer.Held _ = ap (λ o. o.answer) e in absurd (cc)
   appended_cause (Err told) e = ap Err (same_refusal s new why told e)
 
-  work_cause : (run : Run) (w : Refusal) → IsWorkOn s (Some run.program) run.plan run.program.cuts (Refused w) new → IsRefusedOn s run w × (new ≡ s)
-  work_cause run refusal.Overflow is = is
-  work_cause run (refusal.Limit limit.Machine) is = is
-  work_cause run _ is = absurd is
+  work_cause : (program : Option Program) (plan : PlainPlan) (cuts : Cuts) (w : Refusal) → IsWorkOn s program plan cuts (Refused w) new → IsRefusedOn s plan cuts w × (new ≡ s)
+  work_cause program plan cuts refusal.Overflow is = is
+  work_cause program plan cuts (refusal.Limit limit.Machine) is = is
+  work_cause program plan cuts _ is = absurd is
 
   run_cause : (planned : Result Run Refusal) → RunsTo s planned (outcome (Refused why) new) → IsRunRefused s planned why
-  run_cause (Ok run) done = (work_cause run why done).0
+  run_cause (Ok run) done = (work_cause (Some run.program) run.plan run.program.cuts why done).0
   run_cause (Err told) done = same_refusal s new why told done
+
+  fetch_cause : (planned : Result Target Refusal) → FetchesTo s planned (outcome (Refused why) new) → IsFetchRefused s planned why
+  fetch_cause (Ok target) done = (work_cause None target.plan target.cuts why done).0
+  fetch_cause (Err told) done = same_refusal s new why told done
+
+  collection_cause : (full : Bool) (reclaim : ℕ) → full ≡ nat_le most_ticks s.tick → CollectsTo full s reclaim (outcome (Refused why) new) → IsCollectionRefused s why
+  collection_cause true reclaim is done = subst (IsCollectionRefused s) (same_refusal s new why (refusal.Limit limit.Commands) done) (grind (arith, nat_tests))
+  collection_cause false reclaim is done = let answers : Refused why ≡ answer.Evicted done.0 done.1 = ap (λ o. o.answer) done.3 in absurd (cc)
 
   refused_cause : (given_to : Command) → Performs s given_to (outcome (Refused why) new) → IsRefusedFor s given_to why
   refused_cause (command.Stream name columns) done = made_cause name columns (making (table s) name columns) done
   refused_cause (command.Append name lines) done = subst (λ planned. IsAppending (table s) name lines planned) (appended_cause done.0 done.2) done.1
   refused_cause (command.Run name tree) done = run_cause (running (table s) name tree) done
+  refused_cause (command.Fetch name as_run) done = (done.0, done.1, fetch_cause done.0 done.2)
+  refused_cause (command.Collect reclaim) done = collection_cause (nat_le most_ticks s.tick) reclaim refl done
+  refused_cause command.Entries done = let answers : Refused why ≡ answer.Entries _ = ap (λ o. o.answer) done in absurd (cc)
 
 pub cause_of : (s new : State) (given_to : Command) (why : Refusal) → Performs s given_to (outcome (Refused why) new) → IsRefusedFor s given_to why
 cause_of s new given_to why done = refused_cause s new why given_to done
@@ -189,13 +265,24 @@ module _ (s new : State) (why : Refusal) where
   appended_keeps (Err told) e = ap (λ o. o.state) e
 
   run_keeps : (planned : Result Run Refusal) → RunsTo s planned (outcome (Refused why) new) → new ≡ s
-  run_keeps (Ok run) done = (work_cause s new why run why done).1
+  run_keeps (Ok run) done = (work_cause s new why (Some run.program) run.plan run.program.cuts why done).1
   run_keeps (Err told) done = ap (λ o. o.state) done
+
+  fetch_keeps : (planned : Result Target Refusal) → FetchesTo s planned (outcome (Refused why) new) → new ≡ s
+  fetch_keeps (Ok target) done = (work_cause s new why None target.plan target.cuts why done).1
+  fetch_keeps (Err told) done = ap (λ o. o.state) done
+
+  collection_keeps : (full : Bool) (reclaim : ℕ) → CollectsTo full s reclaim (outcome (Refused why) new) → new ≡ s
+  collection_keeps true reclaim done = ap (λ o. o.state) done
+  collection_keeps false reclaim done = let answers : Refused why ≡ answer.Evicted done.0 done.1 = ap (λ o. o.answer) done.3 in absurd (cc)
 
   performed_keeps : (given_to : Command) → Performs s given_to (outcome (Refused why) new) → new ≡ s
   performed_keeps (command.Stream name columns) done = made_keeps name columns (making (table s) name columns) done
   performed_keeps (command.Append name lines) done = appended_keeps done.0 done.2
   performed_keeps (command.Run name tree) done = run_keeps (running (table s) name tree) done
+  performed_keeps (command.Fetch name as_run) done = fetch_keeps done.0 done.2
+  performed_keeps (command.Collect reclaim) done = collection_keeps (nat_le most_ticks s.tick) reclaim done
+  performed_keeps command.Entries done = ap (λ o. o.state) done
 
 pub state_kept : (care : Care) (s new : State) (given_to : Command) (why : Refusal) → Step care s given_to (Refused why) new → new ≡ s
 state_kept care s new given_to why step = elim step [

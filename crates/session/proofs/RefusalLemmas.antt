@@ -11,7 +11,9 @@ use Rattle.catalog_types.specs.declared.change.Change.TheVariants as change
 use Rattle.outside_traits.specs.Counts.{Rose}
 use Rattle.outside_traits.specs.View.{Counts}
 use Rattle.outside_traits.specs.declared.failed.Failed.{Failed}
-use Rattle.catalog_core.specs.Programs.{extents_at, most_text_bytes, with_program}
+use Rattle.catalog_types.specs.declared.program.Program.{Program}
+use Rattle.estimator.specs.Cuts.{Cuts}
+use Rattle.catalog_core.specs.Programs.{extents_at, most_text_bytes, program_named, with_program}
 use Rattle.catalog_core.specs.Table.{Table, place_of, most_ticks, most_streams, most_programs, file_end, most_extents, most_extents_in_all, most_extent_bytes, extent_count}
 use Rattle.plan_binder.specs.declared.refusal.BindRefusal.{BindRefusal}
 use Rattle.plan_binder.specs.declared.refusal.BindRefusal.TheVariants as binding
@@ -29,10 +31,11 @@ use Rattle.executor.specs.declared.refusal.RunRefusal.{RunRefusal}
 use Rattle.executor.specs.declared.refusal.RunRefusal.TheVariants as run
 use Rattle.plan_choice.specs.Taken.{IsTaken}
 use Rattle.planning.specs.Appending.{Append, held, append_to, file_bytes, appending, appending_read, IsAppending, IsAppendingAt}
+use Rattle.planning.specs.Fetching.{IsFetching, IsFetchOfAny, counted, fetched_cuts}
 use Rattle.planning.specs.Making.{making, most_columns}
 use Rattle.planning.specs.Rows.{Reading, BadLine, have_long}
 use Rattle.planning.specs.Rows as rows
-use Rattle.planning.specs.Running.{Run, bound_plan, typing_of, unbound, untyped, storing, run_of, running_typed, running_bound, running}
+use Rattle.planning.specs.Running.{Run, Target, bound_plan, typing_of, unbound, untyped, storing, run_of, running_typed, running_bound, running}
 use Rattle.script_text.specs.declared.answer.Answer.{Answer}
 use Rattle.script_text.specs.declared.answer.Answer.TheVariants as answer
 use Rattle.script_text.specs.declared.answer.LimitKind.TheVariants as limit
@@ -44,8 +47,8 @@ use Rattle.folder.specs.Sound.{Care, Shown, Whole}
 use Rattle.folder.specs.State.{State, table}
 use Rattle.work_run.specs.Ends.{sources_of}
 use Rattle.session.specs.declared.session.Session.{Session}
-use Rattle.session.specs.Machine.{Outcome, outcome, refused, made, appended, RunsTo, IsWorkOn, Performs, IsWant, IsFileEvent, IsEvent, Step}
-use Rattle.session.specs.Causes.{SparesStore, TellsOfNoFile, IsOfFiles, IsOfRun, HasByteCause}
+use Rattle.session.specs.Machine.{Outcome, outcome, refused, made, appended, RunsTo, FetchesTo, CollectsTo, IsWorkOn, Performs, IsWant, IsFileEvent, IsEvent, Step}
+use Rattle.session.specs.Causes.{SparesStore, TellsOfNoFile, IsOfFiles, IsOfRun, IsOfFetch, HasByteCause}
 use Rattle.session.specs.WorkRefusals.{refusal_of}
 use Rattle.session.specs.Working.{IsFoundFor}
 
@@ -133,6 +136,21 @@ appending_refuses t name lines why (inr none) = subst SparesStore (sym none) tt
 running_refuses : (t : Table) (name : List ℕ) (tree : PlainTree) (why : Refusal) → running t name tree ≡ Err why ⊎ IsMemory why → SparesStore why
 running_refuses t name tree why either = planned_spares (running t name tree) why (bound_spares t name tree (bound_plan t.streams tree)) either
 
+fetch_of_spares : (t : Table) (target : Target) (why : Refusal) → counted t target ≡ Err why → SparesStore why
+fetch_of_spares t target why is =
+    planned_spares (counted t target) why (spares_if {C = Target} (nat_le most_ticks t.tick) (Err (refusal.Limit limit.Commands)) (Ok target) tt tt) (inl is)
+
+fetch_of_any_spares : (t : Table) (name : List ℕ) (as_run : Bool) (found : Option Program) (why : Refusal) → IsFetchOfAny t name as_run found (Err why) → SparesStore why
+fetch_of_any_spares t name as_run (Some program) why is = fetch_of_spares t (record { plan = is.plan; cuts = fetched_cuts as_run t.streams program is.plan }) why (sym is.planned_is)
+fetch_of_any_spares t name as_run None why is = planned_spares {C = Target} (Err (refusal.Unknown name)) why tt (inl (sym is))
+
+fetching_spares : (t : Table) (name : List ℕ) (as_run : Bool) (why : Refusal) → IsFetching t name as_run (Err why) → SparesStore why
+fetching_spares t name as_run why is = fetch_of_any_spares t name as_run (program_named t.programs name) why is
+
+fetching_refuses : (t : Table) (name : List ℕ) (as_run : Bool) (why : Refusal) → IsFetching t name as_run (Err why) ⊎ IsMemory why → SparesStore why
+fetching_refuses t name as_run why (inl is) = fetching_spares t name as_run why is
+fetching_refuses t name as_run why (inr none) = subst SparesStore (sym none) tt
+
 -- ---- answers by the bytes of files
 
 module _ (t : Table) (files : ℕ → List ℕ) where
@@ -141,12 +159,39 @@ module _ (t : Table) (files : ℕ → List ℕ) where
   stream_cause name columns answer.Ok tells = tt
   stream_cause name columns (answer.Held n) tells = tt
   stream_cause name columns (answer.Result rows used kept read) tells = tt
+  stream_cause name columns (answer.Evicted ids bytes) tells = tt
+  stream_cause name columns (answer.Entries summaries) tells = tt
 
   append_cause : (name : List ℕ) (lines : List (List ℕ)) (given : Answer) → TellsOfNoFile given → HasByteCause t (command.Append name lines) files given
   append_cause name lines (answer.Refused why) tells = tells
   append_cause name lines answer.Ok tells = tt
   append_cause name lines (answer.Held n) tells = tt
   append_cause name lines (answer.Result rows used kept read) tells = tt
+  append_cause name lines (answer.Evicted ids bytes) tells = tt
+  append_cause name lines (answer.Entries summaries) tells = tt
+
+  collect_cause : (reclaim : ℕ) (given : Answer) → TellsOfNoFile given → HasByteCause t (command.Collect reclaim) files given
+  collect_cause reclaim (answer.Refused why) tells = tells
+  collect_cause reclaim answer.Ok tells = tt
+  collect_cause reclaim (answer.Held n) tells = tt
+  collect_cause reclaim (answer.Result rows used kept read) tells = tt
+  collect_cause reclaim (answer.Evicted ids bytes) tells = tt
+  collect_cause reclaim (answer.Entries summaries) tells = tt
+
+  entries_cause : (given : Answer) → TellsOfNoFile given → HasByteCause t command.Entries files given
+  entries_cause (answer.Refused why) tells = tells
+  entries_cause answer.Ok tells = tt
+  entries_cause (answer.Held n) tells = tt
+  entries_cause (answer.Result rows used kept read) tells = tt
+  entries_cause (answer.Evicted ids bytes) tells = tt
+  entries_cause (answer.Entries summaries) tells = tt
+
+  pub collect_causes : (c : Command) (reclaim : ℕ) (result : Result (Session × Answer) Failed) → c ≡ command.Collect reclaim → IfOk result (λ next. TellsOfNoFile next.1) → IfOk result (λ next. HasByteCause t c files next.1)
+  collect_causes c reclaim (Ok next) is tells = subst (λ x. HasByteCause t x files next.1) (sym is) (collect_cause reclaim next.1 tells)
+  collect_causes c reclaim (Err failed) is tells = tt
+
+  pub entries_causes : (c : Command) (given : Answer) → c ≡ command.Entries → TellsOfNoFile given → HasByteCause t c files given
+  entries_causes c given is tells = subst (λ x. HasByteCause t x files given) (sym is) (entries_cause given tells)
 
   pub stream_causes : (c : Command) (name : List ℕ) (columns : List Column) (result : Result (Session × Answer) Failed) → c ≡ command.Stream name columns → IfOk result (λ next. TellsOfNoFile next.1) → IfOk result (λ next. HasByteCause t c files next.1)
   stream_causes c name columns (Ok next) is tells = subst (λ x. HasByteCause t x files next.1) (sym is) (stream_cause name columns next.1 tells)
@@ -181,6 +226,32 @@ module _ (t : Table) (files : ℕ → List ℕ) where
         told (answer.Refused why) found = subst (λ (planned : Result Run Refusal). IsOfRun t planned files why) (sym is) (of_taken run normal r taken why found)
         told _ found = tt
     run_found run normal r is taken (Err failed) found = tt
+
+  -- a fetch
+  fetch_spared : (name : List ℕ) (as_run : Bool) (why : Refusal) → SparesStore why → IsOfFetch t name as_run files why
+  fetch_spared name as_run refusal.Fault spares = absurd spares
+  fetch_spared name as_run (refusal.Damaged file kept found) spares = absurd spares
+  fetch_spared name as_run (refusal.Unreadable file at) spares = absurd spares
+  fetch_spared name as_run _ spares = tt
+
+  fetch_taken : (name : List ℕ) (as_run : Bool) (target : Target) (normal : PlainPlan) (r : PlainRewriting) → IsFetching t name as_run (Ok target) → IsTaken t target.plan normal target.cuts r → (why : Refusal) → IsOfFiles t r files why → IsOfFetch t name as_run files why
+  fetch_taken name as_run target normal r planned taken refusal.Fault is = (target, planned)
+  fetch_taken name as_run target normal r planned taken (refusal.Damaged file kept found) is = (target, planned, record { normal = normal; rewriting = r; taken = taken; of_files = is })
+  fetch_taken name as_run target normal r planned taken (refusal.Unreadable file at) is = (target, planned, record { normal = normal; rewriting = r; taken = taken; of_files = is })
+  fetch_taken name as_run target normal r planned taken _ is = tt
+
+  module _ (name : List ℕ) (as_run : Bool) where
+    pub fetch_refused : (why : Refusal) → IsFetching t name as_run (Err why) ⊎ IsMemory why → HasByteCause t (command.Fetch name as_run) files (answer.Refused why)
+    fetch_refused why either = fetch_spared name as_run why (fetching_refuses t name as_run why either)
+
+    pub fetch_found : (target : Target) (normal : PlainPlan) (r : PlainRewriting) → IsFetching t name as_run (Ok target) → IsTaken t target.plan normal target.cuts r → (result : Result (Session × Answer) Failed)
+        → IfOk result (λ next. IsFoundFor t r files next.1) → IfOk result (λ next. HasByteCause t (command.Fetch name as_run) files next.1)
+    fetch_found target normal r is taken (Ok next) found = told next.1 found
+      where
+        told : (given : Answer) → IsFoundFor t r files given → HasByteCause t (command.Fetch name as_run) files given
+        told (answer.Refused why) found = fetch_taken name as_run target normal r is taken why found
+        told _ found = tt
+    fetch_found target normal r is taken (Err failed) found = tt
 
   -- ---- work
 
@@ -226,20 +297,35 @@ appended_spares s (Ok a) why new spares is =
     absurd (cc)
 appended_spares s (Err w) why new spares is = spares_same s why w new is spares
 
-on_spares : (s : State) (run : Run) (why : Refusal) (new : State) → IsWorkOn s (Some run.program) run.plan run.program.cuts (answer.Refused why) new → SparesStore why
-on_spares s run refusal.Fault new is = absurd is
-on_spares s run (refusal.Damaged file kept found) new is = absurd is
-on_spares s run (refusal.Unreadable file at) new is = absurd is
-on_spares s run _ new is = tt
+on_spares : (s : State) (program : Option Program) (plan : PlainPlan) (cuts : Cuts) (why : Refusal) (new : State) → IsWorkOn s program plan cuts (answer.Refused why) new → SparesStore why
+on_spares s program plan cuts refusal.Fault new is = absurd is
+on_spares s program plan cuts (refusal.Damaged file kept found) new is = absurd is
+on_spares s program plan cuts (refusal.Unreadable file at) new is = absurd is
+on_spares s program plan cuts _ new is = tt
 
 ran_spares : (s : State) (planned : Result Run Refusal) (why : Refusal) (new : State) → IfErr planned SparesStore → RunsTo s planned (outcome (answer.Refused why) new) → SparesStore why
-ran_spares s (Ok run) why new spares is = on_spares s run why new is
+ran_spares s (Ok run) why new spares is = on_spares s (Some run.program) run.plan run.program.cuts why new is
 ran_spares s (Err w) why new spares is = spares_same s why w new is spares
+
+fetched_spares : (s : State) (name : List ℕ) (as_run : Bool) (planned : Result Target Refusal) (why : Refusal) (new : State) → IsFetching (table s) name as_run planned → FetchesTo s planned (outcome (answer.Refused why) new) → SparesStore why
+fetched_spares s name as_run (Ok target) why new planned is = on_spares s None target.plan target.cuts why new is
+fetched_spares s name as_run (Err w) why new planned is = spares_same s why w new is (fetching_spares (table s) name as_run w planned)
+
+collected_spares : (full : Bool) (s : State) (reclaim : ℕ) (why : Refusal) (new : State) → CollectsTo full s reclaim (outcome (answer.Refused why) new) → SparesStore why
+collected_spares true s reclaim why new is = spares_same s why (refusal.Limit limit.Commands) new is tt
+collected_spares false s reclaim why new is =
+    let same : answer.Refused why ≡ answer.Evicted is.0 is.1 = ap (λ (o : Outcome). o.answer) is.3 in
+    absurd (cc)
 
 performed_spares : (s : State) (c : Command) (why : Refusal) (new : State) → Performs s c (outcome (answer.Refused why) new) → SparesStore why
 performed_spares s (command.Stream name columns) why new is = made_spares s name columns (making (table s) name columns) why new (making_spares (table s) name columns) is
 performed_spares s (command.Append name lines) why new is = appended_spares s is.0 why new (appending_at_spares (table s) (place_of (table s).streams name) name lines is.0 is.1) is.2
 performed_spares s (command.Run name tree) why new is = ran_spares s (running (table s) name tree) why new (bound_spares (table s) name tree (bound_plan (table s).streams tree)) is
+performed_spares s (command.Fetch name as_run) why new is = fetched_spares s name as_run is.0 why new is.1 is.2
+performed_spares s (command.Collect reclaim) why new is = collected_spares (nat_le most_ticks s.tick) s reclaim why new is
+performed_spares s command.Entries why new is =
+    let same : answer.Refused why ≡ answer.Entries _ = ap (λ (o : Outcome). o.answer) is in
+    absurd (cc)
 
 -- ---- what comes in the course of a command: want of memory, a failed read, and damage where files may show it
 
@@ -258,6 +344,9 @@ event_spares : (s : State) (c : Command) (why : Refusal) → IsEvent Whole s c w
 event_spares s (command.Stream name columns) why event none = want_spares why event
 event_spares s (command.Append name lines) why event none = want_spares why event
 event_spares s (command.Run name tree) why event none = file_event_spares s why event none
+event_spares s (command.Fetch name as_run) why event none = file_event_spares s why event none
+event_spares s (command.Collect reclaim) why event none = want_spares why event
+event_spares s command.Entries why event none = want_spares why event
 
 -- where the files hold their bytes no refusal but that of a failed read is laid to the store
 pub step_spares : (s new : State) (c : Command) (why : Refusal) → Step Whole s c (answer.Refused why) new → (why ≡ refusal.Fault → ⊥) → SparesStore why
@@ -279,6 +368,9 @@ never_unreadable care s new c file at (inr event) =
     unread (command.Stream name columns) is = is
     unread (command.Append name lines) is = is
     unread (command.Run name tree) is = is
+    unread (command.Fetch name as_run) is = is
+    unread (command.Collect reclaim) is = is
+    unread command.Entries is = is
 
 pub never_damaged : (s new : State) (c : Command) (file : ℕ) (kept found : Digest) → Step Whole s c (answer.Refused (refusal.Damaged file kept found)) new → ⊥
 never_damaged s new c file kept found step = step_spares s new c (refusal.Damaged file kept found) step (λ is. absurd (cc))

@@ -1,5 +1,5 @@
 -- A step of a session: what its parts come to.
-use Rattle.std.proofs.Common.{◌≡◌, ◌⊎◌, ℕ, List, Option, Some, Ok, Err, Result, IfOk, OnErr, refl, sym, ap, ◌∙◌, subst, inl, inr}
+use Rattle.std.proofs.Common.{◌≡◌, ◌⊎◌, ℕ, Bool, List, Option, None, Some, Ok, Err, Result, IfOk, OnErr, refl, sym, ap, ◌∙◌, subst, inl, inr}
 use Rattle.outside_traits.specs.View.{View}
 use Rattle.outside_traits.specs.declared.failed.Failed.{Failed}
 use Rattle.outside_traits.proofs.RunLemmas.{spans_none, spans_on, spans_wider}
@@ -21,7 +21,8 @@ use Rattle.script_text.specs.declared.item.Command.{Command}
 use Rattle.script_text.specs.declared.item.Command.TheVariants as command
 use Rattle.planning.specs.Appending.{IsAppending, Append, held}
 use Rattle.planning.specs.Making.{making}
-use Rattle.planning.specs.Running.{Run, running}
+use Rattle.planning.specs.Fetching.{IsFetching}
+use Rattle.planning.specs.Running.{Run, Target, running}
 use Rattle.folder.specs.Folders.{table_in, journal_of, FolderStands}
 use Rattle.folder.specs.Left.{IsLeft, Since, StaysSound, Everything, IsSoundForOneOf}
 use Rattle.folder.specs.Next.{with_stream, with_rows}
@@ -104,11 +105,28 @@ module _ (care : Care) (t : Table) (s : State) (same : t ≡ table s) where
       inl (subst (λ x. RunsTo s x (outcome given new)) (sym (subst (λ x. running x name tree ≡ Ok r) same is)) (subst (λ (p : Program). IsWorkOn s (Some p) r.plan p.cuts given new) program_is works))
   ran_step name tree r program is program_is given new (inr event) = inr event
 
+  -- a fetch before its work
+  pub fetched_err : (name : List ℕ) (as_run : Bool) (why : Refusal) → IsFetching t name as_run (Err why) ⊎ (why ≡ refusal.Memory) → machine.Performs s (command.Fetch name as_run) (refused s why) ⊎ IsEvent care s (command.Fetch name as_run) why
+  fetched_err name as_run why either = elim either [
+    | inl is ↦ inl (Err why, subst (λ x. IsFetching x name as_run (Err why)) same is, refl)
+    | inr none ↦ inr (subst (λ w. IsEvent care s (command.Fetch name as_run) w) (sym none) tt)
+  ]
+
+  -- its plan was worked off
+  pub fetched_step : (name : List ℕ) (as_run : Bool) (target : Target) (cuts : Cuts) → IsFetching t name as_run (Ok target) → cuts ≡ target.cuts → (given : Answer) (new : State)
+      → WorkStep care s None target.plan cuts given new → machine.Step care s (command.Fetch name as_run) given new
+  fetched_step name as_run target cuts is cuts_are given new (inl works) =
+      inl (Ok target, subst (λ x. IsFetching x name as_run (Ok target)) same is, subst (λ (c : Cuts). IsWorkOn s None target.plan c given new) cuts_are works)
+  fetched_step name as_run target cuts is cuts_are given new (inr event) = inr event
+
 -- want of memory may come in the course of any command
 pub want_event : (care : Care) (s : State) (c : Command) → IsEvent care s c refusal.Memory
 want_event care s (command.Stream name columns) = tt
 want_event care s (command.Append name lines) = tt
 want_event care s (command.Run name tree) = tt
+want_event care s (command.Fetch name as_run) = tt
+want_event care s (command.Collect reclaim) = tt
+want_event care s command.Entries = tt
 
 -- ---- what is recorded
 
@@ -182,3 +200,13 @@ module _ (care : Care) (u v : View) (s : State) (t : Table) (same : t ≡ table 
   pub ran_breaks : (result : Result (Session × Answer) Failed) → OnErr result (BreaksOff care u v s (Some program) r.plan program.cuts) → OnErr result (Breaks care u v s (command.Run name tree))
   ran_breaks (Ok next) broke = tt
   ran_breaks (Err failed) broke = record { answer = broke.answer; new = broke.new; step = ran_step care t s same name tree r program is program_is broke.answer broke.new broke.step; since = broke.since; left = broke.left }
+
+-- and a fetch
+module _ (care : Care) (u v : View) (s : State) (t : Table) (same : t ≡ table s) (name : List ℕ) (as_run : Bool) (target : Target) (cuts : Cuts) (is : IsFetching t name as_run (Ok target)) (cuts_are : cuts ≡ target.cuts) where
+  pub fetched_performs : (result : Result (Session × Answer) Failed) → IfOk result (λ next. WorksOff care u v next.0 s None target.plan cuts next.1) → IfOk result (λ next. Performs care u v next.0 s (command.Fetch name as_run) next.1)
+  fetched_performs (Ok next) done = record { new = done.new; step = fetched_step care t s same name as_run target cuts is cuts_are next.1 done.new done.step; stands = done.stands; since = done.since }
+  fetched_performs (Err failed) done = tt
+
+  pub fetched_breaks : (result : Result (Session × Answer) Failed) → OnErr result (BreaksOff care u v s None target.plan cuts) → OnErr result (Breaks care u v s (command.Fetch name as_run))
+  fetched_breaks (Ok next) broke = tt
+  fetched_breaks (Err failed) broke = record { answer = broke.answer; new = broke.new; step = fetched_step care t s same name as_run target cuts is cuts_are broke.answer broke.new broke.step; since = broke.since; left = broke.left }

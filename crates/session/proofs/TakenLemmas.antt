@@ -1,5 +1,5 @@
 -- The bytes that a command takes.
-use Rattle.std.proofs.Common.{◌≡◌, ℕ, List, Ok, Err, Result, IfOk, sym, ◌∙◌, subst, inl, inr, arith}
+use Rattle.std.proofs.Common.{◌≡◌, ℕ, Bool, List, Ok, Err, Result, IfOk, sym, ◌∙◌, subst, inl, inr, arith}
 use Rattle.outside_traits.specs.View.{Counts}
 use Rattle.outside_traits.specs.Calls.{MayRaiseWrites}
 use Rattle.outside_traits.specs.declared.failed.Failed.{Failed}
@@ -11,7 +11,8 @@ use Rattle.rewrite_core.specs.PlainRewriting.{PlainRewriting}
 use Rattle.catalog_core.specs.Named.{bytes_named}
 use Rattle.catalog_core.specs.Table.{Table}
 use Rattle.plan_choice.specs.Taken.{IsTaken}
-use Rattle.planning.specs.Running.{Run, running}
+use Rattle.planning.specs.Fetching.{IsFetching}
+use Rattle.planning.specs.Running.{Run, Target, running}
 use Rattle.script_text.specs.declared.answer.Answer.{Answer}
 use Rattle.script_text.specs.declared.answer.Answer.TheVariants as answer
 use Rattle.script_text.specs.declared.answer.Refusal.{Refusal}
@@ -43,11 +44,18 @@ pub none_for : (t : Table) (c : Command) (old new : Counts) → TakesNone old ne
 none_for t (command.Stream name columns) old new none = none
 none_for t (command.Append name lines) old new none = none
 none_for t (command.Run name tree) old new none = none_for_run t (running t name tree) old new none
+none_for t (command.Fetch name as_run) old new none = inl none
+none_for t (command.Collect reclaim) old new none = none
+none_for t command.Entries old new none = none
 
 pub taken_for : (t : Table) (name : List ℕ) (tree : PlainTree) (run : Run) (normal : PlainPlan) (r : PlainRewriting) (old new : Counts) → running t name tree ≡ Ok run → IsTaken t run.plan normal run.program.cuts r
     → TookAtMost (bytes_named t (files_of r)) old new → TakesFor t (command.Run name tree) old new
 taken_for t name tree run normal r old new is taken most =
     subst (λ (planned : Result Run Refusal). TakesForRun t planned old new) (sym is) (inr (record { normal = normal; rewriting = r; taken = taken; most = most }))
+
+pub fetched_for : (t : Table) (name : List ℕ) (as_run : Bool) (target : Target) (normal : PlainPlan) (r : PlainRewriting) (old new : Counts) → IsFetching t name as_run (Ok target) → IsTaken t target.plan normal target.cuts r
+    → TookAtMost (bytes_named t (files_of r)) old new → TakesFor t (command.Fetch name as_run) old new
+fetched_for t name as_run target normal r old new is taken most = inr (target, is, record { normal = normal; rewriting = r; taken = taken; most = most })
 
 -- ---- answers
 

@@ -1,5 +1,5 @@
 -- Which refusals are laid to the store, and by which bytes of its files.
-use Rattle.std.specs.Prelude.{◌≢◌, ℕ, List, Result, Ok, Err, ⊤}
+use Rattle.std.specs.Prelude.{◌≢◌, ℕ, Bool, List, Result, Ok, Err, ⊤}
 use Rattle.plan_core.specs.PlainPlan.{PlainPlan}
 use Rattle.estimator.specs.Cuts.{Cuts}
 use Rattle.rewrite_core.specs.Files.{files_of}
@@ -10,7 +10,8 @@ use Rattle.kept_files.specs.declared.refusal.ReadRefusal.{ReadRefusal}
 use Rattle.kept_files.specs.declared.refusal.ReadRefusal.TheVariants as reading
 use Rattle.executor.specs.Running.{EndsOver}
 use Rattle.plan_choice.specs.Taken.{IsTaken}
-use Rattle.planning.specs.Running.{Run, running}
+use Rattle.planning.specs.Fetching.{IsFetching}
+use Rattle.planning.specs.Running.{Run, Target, running}
 use Rattle.script_text.specs.declared.answer.Answer.{Answer}
 use Rattle.script_text.specs.declared.answer.Answer.TheVariants as answer
 use Rattle.script_text.specs.declared.answer.Refusal.{Refusal}
@@ -49,16 +50,23 @@ pub record IsOfTaken (t : Table) (plan : PlainPlan) (cuts : Cuts) (files : ℕ �
   pub taken : IsTaken t plan normal cuts rewriting
   pub of_files : IsOfFiles t rewriting files why
 
--- Of a run they are so, unless it is refused before it reads.
+-- of a run they are so, unless it is refused before it reads
 abbrev pub IsOfRun : Table → Result Run Refusal → (ℕ → List ℕ) → Refusal → Type 0
 IsOfRun t (Ok run) files (refusal.Damaged file kept found) = IsOfTaken t run.plan run.program.cuts files (refusal.Damaged file kept found)
 IsOfRun t (Ok run) files (refusal.Unreadable file at) = IsOfTaken t run.plan run.program.cuts files (refusal.Unreadable file at)
 IsOfRun t (Ok run) files _ = ⊤
 IsOfRun t (Err planned) files why = SparesStore why
 
--- A refusal that is laid to the store is that of a run, and damage and unreadable bytes are those of a file that it reads.
+-- and so of a fetch; a failed read is told where there is one
+abbrev pub IsOfFetch : Table → List ℕ → Bool → (ℕ → List ℕ) → Refusal → Type 0
+IsOfFetch t name as_run files refusal.Fault = (target : Target) × IsFetching t name as_run (Ok target)
+IsOfFetch t name as_run files (refusal.Damaged file kept found) = (target : Target) × IsFetching t name as_run (Ok target) × IsOfTaken t target.plan target.cuts files (refusal.Damaged file kept found)
+IsOfFetch t name as_run files (refusal.Unreadable file at) = (target : Target) × IsFetching t name as_run (Ok target) × IsOfTaken t target.plan target.cuts files (refusal.Unreadable file at)
+IsOfFetch t name as_run files _ = ⊤
+
+-- A refusal that is laid to the store is that of a run or a fetch, and damage and unreadable bytes are those of a file that it reads.
 abbrev pub HasByteCause : Table → Command → (ℕ → List ℕ) → Answer → Type 0
 HasByteCause t (command.Run name tree) files (answer.Refused why) = IsOfRun t (running t name tree) files why
-HasByteCause t (command.Stream name columns) files (answer.Refused why) = SparesStore why
-HasByteCause t (command.Append name lines) files (answer.Refused why) = SparesStore why
+HasByteCause t (command.Fetch name as_run) files (answer.Refused why) = IsOfFetch t name as_run files why
+HasByteCause t _ files (answer.Refused why) = SparesStore why
 HasByteCause t _ files _ = ⊤

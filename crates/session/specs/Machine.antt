@@ -1,24 +1,29 @@
 -- The abstract machine: what it answers to each command, and what it then holds.
-use Rattle.std.specs.Prelude.{◌≡◌, ◌⊎◌, ℕ, List, Option, Some, Result, Ok, Err, ⊤}
+use Rattle.std.specs.Prelude.{◌≡◌, ◌⊎◌, ℕ, nat_le, Bool, true, false, List, [], map, Option, None, Some, Result, Ok, Err, ⊤}
 use Rattle.rows_core.specs.declared.schema.Column.{Column}
 use Rattle.plan_core.specs.PlainPlan.{PlainPlan}
 use Rattle.estimator.specs.Cuts.{Cuts}
+use Rattle.catalog_types.specs.PlainEntry.{PlainEntry}
 use Rattle.catalog_types.specs.declared.change.Change.{Change}
 use Rattle.catalog_types.specs.declared.program.Program.{Program}
 use Rattle.script_text.specs.declared.answer.Answer.{Answer}
 use Rattle.script_text.specs.declared.answer.Answer.TheVariants as answer
+use Rattle.catalog_core.specs.Table.{most_ticks}
+use Rattle.collection_plan.specs.Collecting.{IsCollection}
+use Rattle.script_text.specs.declared.answer.EntrySummary.{EntrySummary}
 use Rattle.script_text.specs.declared.answer.LimitKind.TheVariants as limit
 use Rattle.script_text.specs.declared.answer.Refusal.{Refusal}
 use Rattle.script_text.specs.declared.answer.Refusal.TheVariants as refusal
 use Rattle.script_text.specs.declared.item.Command.{Command}
 use Rattle.script_text.specs.declared.item.Command.TheVariants as command
 use Rattle.planning.specs.Appending.{IsAppending, Append, held}
+use Rattle.planning.specs.Fetching.{IsFetching}
 use Rattle.planning.specs.Making.{making}
-use Rattle.planning.specs.Running.{running, Run}
+use Rattle.planning.specs.Running.{running, Run, Target}
 use Rattle.folder.specs.Sound.{Care}
 use Rattle.folder.specs.State.{State, table}
 use Rattle.folder.specs.Damage.{ShowsDamage}
-use Rattle.folder.specs.Next.{with_stream, with_rows}
+use Rattle.folder.specs.Next.{with_stream, with_rows, with_collection}
 use Rattle.work_run.specs.Working.{Works, Overflows, IsDear}
 use Rattle.work_run.specs.Working as working
 
@@ -59,6 +64,23 @@ abbrev pub RunsTo : State → Result Run Refusal → Outcome → Type 0
 RunsTo s (Ok run) given = IsWorkOn s (Some run.program) run.plan run.program.cuts given.answer given.state
 RunsTo s (Err why) given = given ≡ refused s why
 
+-- a fetch works off the plan that goes by a name, on all extents or on those of its last run; the name goes on standing for it
+abbrev pub FetchesTo : State → Result Target Refusal → Outcome → Type 0
+FetchesTo s (Ok target) given = IsWorkOn s None target.plan target.cuts given.answer given.state
+FetchesTo s (Err why) given = given ≡ refused s why
+
+-- ---- kept results
+
+-- Those of the greatest ratio go, until their files have so many bytes together, or none is left that may go. It is refused
+-- where as many commands are recorded as may be.
+abbrev pub CollectsTo : Bool → State → ℕ → Outcome → Type 0
+CollectsTo true s reclaim given = given ≡ refused s (refusal.Limit limit.Commands)
+CollectsTo false s reclaim given = (ids : List ℕ) × (bytes : ℕ) × IsCollection (table s) [] reclaim ids bytes × (given ≡ outcome (answer.Evicted ids bytes) (with_collection s ids))
+
+-- what is told of each
+abbrev pub summary_of : PlainEntry → EntrySummary
+summary_of e = record { id = e.id; size = e.file.len; machine = e.machine; uses = e.uses; last = e.last; made = e.made }
+
 -- ---- the machine
 
 -- what the machine does where there is memory and each file is read
@@ -66,6 +88,9 @@ abbrev pub Performs : State → Command → Outcome → Type 0
 Performs s (command.Stream name columns) given = given ≡ made s name columns (making (table s) name columns)
 Performs s (command.Append name lines) given = (plan : Result Append Refusal) × IsAppending (table s) name lines plan × (given ≡ appended s plan)
 Performs s (command.Run name tree) given = RunsTo s (running (table s) name tree) given
+Performs s (command.Fetch name as_run) given = (planned : Result Target Refusal) × IsFetching (table s) name as_run planned × FetchesTo s planned given
+Performs s (command.Collect reclaim) given = CollectsTo (nat_le most_ticks s.tick) s reclaim given
+Performs s command.Entries given = given ≡ outcome (answer.Entries (map summary_of s.entries)) s
 
 -- want of memory, which may be answered in place of any answer
 abbrev pub IsWant : Refusal → Type 0
@@ -78,9 +103,10 @@ IsFileEvent care s refusal.Fault = ⊤
 IsFileEvent care s (refusal.Damaged file kept found) = ShowsDamage care s file kept found
 IsFileEvent care s why = IsWant why
 
--- what may come in the course of a command; only a run reads files
+-- what may come in the course of a command; only runs and fetches read files
 abbrev pub IsEvent : Care → State → Command → Refusal → Type 0
 IsEvent care s (command.Run name tree) why = IsFileEvent care s why
+IsEvent care s (command.Fetch name as_run) why = IsFileEvent care s why
 IsEvent care s _ why = IsWant why
 
 -- one step over files of which so much is known; an event changes nothing

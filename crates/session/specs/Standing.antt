@@ -1,13 +1,18 @@
 -- How a session stands to its store, and what a step does to both.
-use Rattle.std.specs.Prelude.{◌≡◌, ◌⊎◌, ℕ, ◌≤◌, Option, ⊤}
+use Rattle.std.specs.Prelude.{◌≡◌, ◌⊎◌, ℕ, ◌≤◌, false, List, Option, ⊤}
+use Rattle.std.specs.List.{Contains}
+use Rattle.outside_traits.specs.Counts.{Rose}
 use Rattle.outside_traits.specs.Runs.{Narrows, Spans}
-use Rattle.outside_traits.specs.View.{View}
+use Rattle.outside_traits.specs.View.{View, Counts}
 use Rattle.plan_core.specs.PlainPlan.{PlainPlan}
 use Rattle.estimator.specs.Cuts.{Cuts}
+use Rattle.catalog_core.specs.Table.{Table}
+use Rattle.catalog_types.specs.PlainEntry.{PlainEntry}
 use Rattle.catalog_types.specs.declared.program.Program.{Program}
 use Rattle.script_text.specs.declared.answer.Answer.{Answer}
-use Rattle.script_text.specs.declared.answer.Answer.TheVariants.{Refused}
+use Rattle.script_text.specs.declared.answer.Answer.TheVariants.{Evicted, Refused}
 use Rattle.script_text.specs.declared.item.Command.{Command}
+use Rattle.script_text.specs.declared.item.Command.TheVariants as command
 use Rattle.folder.specs.Folders.{FolderMeans, journal_of, table_in}
 use Rattle.folder.specs.Left.{IsLeft, IsLeftWith, Since}
 use Rattle.folder.specs.Sound.{Care}
@@ -71,10 +76,46 @@ abbrev pub LeavesWhereRefused : Answer → View → View → Type 0
 LeavesWhereRefused (Refused why) u v = Narrows u v
 LeavesWhereRefused _ u v = ⊤
 
+abbrev pub IsLogInUse : Folder → ℕ → Type 0
+IsLogInUse folder file = file ≡ generation_file (generation_of (journal_of folder))
+
 -- the log in use, and files that no state names yet
 abbrev pub IsWritten : Folder → ℕ → Type 0
-IsWritten folder file = (file ≡ generation_file (generation_of (journal_of folder))) ⊎ ((table_in folder).next_file ≤ file)
+IsWritten folder file = IsLogInUse folder file ⊎ ((table_in folder).next_file ≤ file)
 
 -- no other file is changed, nor what a crash since leaves of one
 abbrev pub WritesAtMost : Folder → View → View → Type 0
 WritesAtMost folder u v = Spans (IsWritten folder) (λ image. Unit {0}) u v
+
+-- the log in use, and the next file
+abbrev pub IsAppended : Folder → ℕ → Type 0
+IsAppended folder file = IsLogInUse folder file ⊎ (file ≡ (table_in folder).next_file)
+
+abbrev pub AppendsAtMost : Folder → View → View → Type 0
+AppendsAtMost folder u v = Spans (IsAppended folder) (λ image. Unit {0}) u v
+
+-- it has the file of a kept result
+abbrev pub IsOfResult : Folder → ℕ → Type 0
+IsOfResult folder file = (e : PlainEntry) × Contains (table_in folder).entries e × (e.file.file ≡ file)
+
+-- the files that a command may change: the log in use; an append the next file, a run or a fetch others that no state names
+-- yet, and a collection those of kept results, which it removes
+abbrev pub MayChange : Folder → Command → ℕ → Type 0
+MayChange folder (command.Stream name columns) file = IsLogInUse folder file
+MayChange folder (command.Append name lines) file = IsAppended folder file
+MayChange folder (command.Collect reclaim) file = IsLogInUse folder file ⊎ IsOfResult folder file
+MayChange folder command.Entries file = ⊥
+MayChange folder c file = IsWritten folder file
+
+-- no other file is changed, nor what a crash since leaves of one
+abbrev pub ChangesAtMost : Folder → Command → View → View → Type 0
+ChangesAtMost folder c u v = Spans (MayChange folder c) (λ image. Unit {0}) u v
+
+-- the files of the kept results with these ids aren't there, unless a removal failed
+abbrev pub AreGone : Table → List ℕ → View → Counts → Counts → Type 0
+AreGone t ids v old new = Rose old.removes new.removes ⊎ ((e : PlainEntry) → Contains t.entries e → Contains ids e.id → v.there e.file.file ≡ false)
+
+-- so it is with those that a collection tells
+abbrev pub LeavesNoFile : Table → Command → Answer → View → Counts → Counts → Type 0
+LeavesNoFile t (command.Collect reclaim) (Evicted ids bytes) v old new = AreGone t ids v old new
+LeavesNoFile t _ _ v old new = ⊤

@@ -10,7 +10,9 @@ ghost use Rattle.session.specs.Machine.{Outcome, outcome, refused, Performs, Ste
 ghost use Rattle.session.specs.Outcomes.{Agree};
 ghost use Rattle.session.specs.Refusals.{HasNoChoice, IsRefusedFor, IsOtherEvent};
 
+use collection_plan::one_collection;
 use plan_canon::laws::one_normal_form;
+use plan_text::plan_laws::one_plan;
 
 /// Where the files hold their bytes no command is refused for damage, and where they are a state's none for
 /// unreadable bytes.
@@ -21,19 +23,21 @@ pub fn files_are_read()
         → Step care s given_to (Answer.Refused (Refusal.Unreadable file at)) new → ⊥ }
 {}
 
-/// In each state a command that leaves no choice has one answer, and one state after it, where there is memory
-/// and each file is read; but two results may differ in which kept results were used, which are kept and how
-/// many bytes were read, and not in their rows. A run leaves a choice only where its plan meets an overflow and
-/// its machine time is above the limit.
+/// In each state a command that leaves no choice has one answer, and one state after it, where there is
+/// memory and each file is read; but two results may differ in which kept results were used, which are kept
+/// and how many bytes were read, and not in their rows. A run or a fetch leaves a choice only where its plan
+/// meets an overflow and its machine time is above the limit.
 pub fn one_outcome()
     ensures { (s : State) (given_to : Command) (a b : Outcome)
         → HasNoChoice s given_to → Performs s given_to a → Performs s given_to b → Agree a b }
 {
     one_normal_form();
+    one_plan();
+    one_collection();
 }
 
 /// A command is refused only where the cause of that refusal holds; where one holds it is answered that
-/// refusal, or the other one of a run that has two; and no refusal changes the state.
+/// refusal, or the other one of a run or a fetch that has two; and no refusal changes the state.
 pub fn refusals_have_causes()
     ensures cause { (s new : State) (given_to : Command) (why : Refusal)
         → Performs s given_to (outcome (Answer.Refused why) new) → IsRefusedFor s given_to why }
@@ -44,4 +48,5 @@ pub fn refusals_have_causes()
         → Step care s given_to (Answer.Refused why) new → new ≡ s }
 {
     one_normal_form();
+    one_plan();
 }

@@ -1,6 +1,7 @@
 //! The session: a folder that was loaded, and each command of a script performed over it.
 #![tactic(auto)]
 
+mod collecting;
 pub mod laws;
 mod refusals;
 pub mod session;

@@ -1,7 +1,8 @@
-//! Why work isn't done, as a refusal of its command.
+//! Why work isn't done and nothing is collected, as a refusal of the command.
 ghost use Rattle.std.specs.Prelude.{◌≡◌};
-ghost use Rattle.session.specs.WorkRefusals.{refusal_of};
+ghost use Rattle.session.specs.WorkRefusals.{collection_refusal, refusal_of};
 
+use collection_plan::CollectionRefusal;
 use executor::RunRefusal;
 use script_text::{LimitKind, Refusal};
 
@@ -16,5 +17,15 @@ pub(crate) fn refusal_of(refusal: RunRefusal) -> Refusal
         RunRefusal::Damaged { file, kept, found } => Refusal::Damaged { file, kept, found },
         RunRefusal::Unreadable { file, at } => Refusal::Unreadable { file, at },
         RunRefusal::Memory => Refusal::Memory,
+    }
+}
+
+/// Why a collection is refused.
+pub(crate) fn collection_refusal(refusal: CollectionRefusal) -> Refusal
+    ensures { result ≡ collection_refusal refusal }
+{
+    match refusal {
+        CollectionRefusal::Commands => Refusal::Limit(LimitKind::Commands),
+        CollectionRefusal::Memory => Refusal::Memory,
     }
 }

@@ -4,10 +4,10 @@ ghost use Rattle.std.specs.Prelude.{IsTrue, IfOk, IsErrOf, OnOk, OnErr};
 ghost use Rattle.outside_traits.specs.Counts.{Rose};
 ghost use Rattle.outside_traits.specs.View.{View, Counts, Now, Only};
 ghost use Rattle.outside_traits.specs.Calls.{Rises, MayRaiseReads, MayRaiseWrites};
-ghost use Rattle.outside_traits.specs.Runs.{Narrows};
+ghost use Rattle.outside_traits.specs.Runs.{ChangesOnly, Narrows};
 ghost use Rattle.catalog_types.specs.declared.change.Change.{Change};
 ghost use Rattle.catalog_core.specs.Catalogs.{IsReady};
-ghost use Rattle.catalog_core.specs.Table.{Fits};
+ghost use Rattle.catalog_core.specs.Table.{Fits, after};
 ghost use Rattle.folder.specs.Folders.{catalog_of, journal_of, table_in, FolderStands};
 ghost use Rattle.folder.specs.Left.{IsLeft, IsLeftWith, Since};
 ghost use Rattle.folder.specs.Replay.{ReadsAs, StopsReading, is_checkpoint};
@@ -46,7 +46,7 @@ pub struct Session {
 
 impl Session {
     ghost use Rattle.session.specs.Standing.{Stands, Performs, Breaks, Records, KeepsNot, folder_of};
-    ghost use Rattle.session.specs.Standing.{LeavesWhereRefused, WritesAtMost};
+    ghost use Rattle.session.specs.Standing.{LeavesWhereRefused, ChangesAtMost, LeavesNoFile};
 
     /// Loads a folder, which is made where its making isn't finished. `NotAStore` comes exactly where its log
     /// files have no reading, with the first byte where reading stops, unless the store fails or memory is
@@ -111,8 +111,12 @@ impl Session {
         ensures err { IsTrue D.tells → (care : Care) (s : State) → Stands care (D.view store.old) self s
             → OnErr result (Breaks care (D.view store.old) (D.view store.new) s command) }
         ensures narrow { IfOk result (λ next. IsNarrow next.1) }
-        // Whatever the answer, only the log in use and files that no state names yet are written.
-        ensures alone { WritesAtMost (folder_of self) (D.view store.old) (D.view store.new) }
+        // Whatever the answer, only the log in use and files that no state names yet are written, by an
+        // append the next one alone, and only files of kept results are removed.
+        ensures alone { ChangesAtMost (folder_of self) command (D.view store.old) (D.view store.new) }
+        // After a collection no file of a kept result that went is there, unless a removal failed.
+        ensures gone { IsTrue D.tells → IfOk result (λ next. LeavesNoFile (table_in (folder_of self)) command
+            next.1 (D.view store.new) (D.counts store.old) (D.counts store.new)) }
         ensures cause { OnErr result (Rose (D.counts store.old).writes (D.counts store.new).writes) }
         ensures no_fault { OnOk result ((D.counts store.new).writes ≡ (D.counts store.old).writes) }
         // A refused command changes no file: at most it has read.
@@ -124,7 +128,8 @@ impl Session {
         ensures only_fault { IfOk result (λ next. (next.1 ≡ Answer.Refused Refusal.Fault → ⊥)
             → (D.counts store.new).reads ≡ (D.counts store.old).reads) }
         ensures looks { OnErr result ((D.counts store.new).reads ≡ (D.counts store.old).reads) }
-        // Where the store tells its files, damage and unreadable bytes are those of a file that a run reads.
+        // Where the store tells its files, damage and unreadable bytes are those of a file that a run or a
+        // fetch reads.
         ensures found { IsTrue D.tells → IfOk result (λ next. HasByteCause (table_in (folder_of self)) command
             (D.view store.old).files next.1) }
         // A result has taken the bytes that it tells, and no command more than the files that it reads have.
@@ -141,6 +146,9 @@ impl Session {
             Command::Stream { name, columns } => self.make(store, name, columns),
             Command::Append { name, lines } => self.append(store, name, lines),
             Command::Run { name, plan } => self.run(store, name, &plan),
+            Command::Fetch { name, as_run } => self.fetch(store, name, as_run),
+            Command::Collect { bytes } => self.collect(store, bytes),
+            Command::Entries => Ok(self.tell_entries()),
         }
     }
 
@@ -159,7 +167,8 @@ impl Session {
             → OnErr result (Breaks care (D.view store.old) (D.view store.new) s
             (command.Stream name columns)) }
         ensures narrow { IfOk result (λ next. IsNarrow next.1) }
-        ensures alone { WritesAtMost (folder_of self) (D.view store.old) (D.view store.new) }
+        ensures alone { ChangesAtMost (folder_of self) (command.Stream name columns) (D.view store.old)
+            (D.view store.new) }
         ensures cause { OnErr result (Rose (D.counts store.old).writes (D.counts store.new).writes) }
         ensures no_fault { OnOk result ((D.counts store.new).writes ≡ (D.counts store.old).writes) }
         ensures refused { IfOk result
@@ -195,7 +204,8 @@ impl Session {
         ensures err { IsTrue D.tells → (care : Care) (s : State) → Stands care (D.view store.old) self s
             → OnErr result (Breaks care (D.view store.old) (D.view store.new) s (command.Append name lines)) }
         ensures narrow { IfOk result (λ next. IsNarrow next.1) }
-        ensures alone { WritesAtMost (folder_of self) (D.view store.old) (D.view store.new) }
+        ensures alone { ChangesAtMost (folder_of self) (command.Append name lines) (D.view store.old)
+            (D.view store.new) }
         ensures cause { OnErr result (Rose (D.counts store.old).writes (D.counts store.new).writes) }
         ensures no_fault { OnOk result ((D.counts store.new).writes ≡ (D.counts store.old).writes) }
         ensures refused { IfOk result
@@ -219,7 +229,7 @@ impl Session {
 
 impl Session {
     ghost use Rattle.session.specs.Standing.{Stands, Performs, Breaks, Records, KeepsNot, folder_of};
-    ghost use Rattle.session.specs.Standing.{LeavesWhereRefused, WritesAtMost};
+    ghost use Rattle.session.specs.Standing.{AppendsAtMost};
 
     // Records a change for which the folder is ready.
     pub(crate) fn record<D: Store>(
@@ -238,7 +248,10 @@ impl Session {
             → IsNext care (D.view store.old) s recording.change new
             → OnErr result (KeepsNot care (D.view store.old) (D.view store.new) s new) }
         ensures answer { IfOk result (λ next. next.1 ≡ answer) }
-        ensures alone { WritesAtMost (folder_of self) (D.view store.old) (D.view store.new) }
+        ensures table { IfOk result (λ next. table_in (folder_of next.0)
+            ≡ after recording.change (table_in (folder_of self))) }
+        ensures alone { ChangesOnly (generation_file (generation_of (journal_of (folder_of self))))
+            (D.view store.old) (D.view store.new) }
         ensures cause { OnErr result (Rose (D.counts store.old).writes (D.counts store.new).writes) }
         ensures no_fault { OnOk result ((D.counts store.new).writes ≡ (D.counts store.old).writes) }
         ensures crash { IsTrue D.tells → FolderStands (D.view store.old) (folder_of self)
@@ -277,7 +290,7 @@ impl Session {
             → OnErr result (KeepsNot care (D.view store.old) (D.view store.new) s
             (with_rows s a.place a.rows) ⊎ KeepsNot care (D.view store.old) (D.view store.new) s s) }
         ensures answer { IfOk result (λ next. next.1 ≡ Answer.Held plan.held) }
-        ensures alone { WritesAtMost (folder_of self) (D.view store.old) (D.view store.new) }
+        ensures alone { AppendsAtMost (folder_of self) (D.view store.old) (D.view store.new) }
         ensures cause { OnErr result (Rose (D.counts store.old).writes (D.counts store.new).writes) }
         ensures no_fault { OnOk result ((D.counts store.new).writes ≡ (D.counts store.old).writes) }
         ensures crash { IsTrue D.tells → FolderStands (D.view store.old) (folder_of self)

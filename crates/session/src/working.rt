@@ -37,7 +37,7 @@ use folder::{left_stores, next_states};
 use outside_traits::{Failed, Store};
 use plan_choice::{Choice, choose, taken_rewritings};
 use plan_text::NamedPlan;
-use planning::{Recording, RunPlan, plan_run};
+use planning::{FetchPlan, Recording, RunPlan, plan_fetch, plan_run};
 use rows_core::{Memory, Name, Seq};
 use script_text::{Answer, Refusal};
 use work_plan::WorkPlan;
@@ -98,6 +98,56 @@ impl Session {
             program.cuts.items(),
         ) {
             Ok(choice) => self.work(store, Some(program), choice),
+            Err(Memory) => Ok((self, Answer::Refused(Refusal::Memory))),
+        }
+    }
+
+    /// Works off the plan that goes by a name, on all extents or, `as_run`, on those of its last run. The
+    /// name goes on standing for it as it did.
+    pub(crate) fn fetch<D: Store>(
+        self,
+        store: &mut D,
+        name: Name,
+        as_run: bool,
+    ) -> Result<(Session, Answer), Failed>
+        ensures ok { IsTrue D.tells → (care : Care) (s : State) → Stands care (D.view store.old) self s
+            → IfOk result (λ next. Performs care (D.view store.old) (D.view store.new) next.0 s
+            (command.Fetch name as_run) next.1) }
+        ensures err { IsTrue D.tells → (care : Care) (s : State) → Stands care (D.view store.old) self s
+            → OnErr result (Breaks care (D.view store.old) (D.view store.new) s (command.Fetch name as_run)) }
+        ensures narrow { IfOk result (λ next. IsNarrow next.1) }
+        ensures alone { WritesAtMost (folder_of self) (D.view store.old) (D.view store.new) }
+        ensures cause { OnErr result (Rose (D.counts store.old).writes (D.counts store.new).writes) }
+        ensures no_fault { OnOk result ((D.counts store.new).writes ≡ (D.counts store.old).writes) }
+        ensures refused { IfOk result
+            (λ next. LeavesWhereRefused next.1 (D.view store.old) (D.view store.new)) }
+        ensures fault { IfOk result (λ next. next.1 ≡ Answer.Refused Refusal.Fault
+            → Rose (D.counts store.old).reads (D.counts store.new).reads) }
+        ensures only_fault { IfOk result (λ next. (next.1 ≡ Answer.Refused Refusal.Fault → ⊥)
+            → (D.counts store.new).reads ≡ (D.counts store.old).reads) }
+        ensures looks { OnErr result ((D.counts store.new).reads ≡ (D.counts store.old).reads) }
+        ensures found { IsTrue D.tells → IfOk result (λ next. HasByteCause (table_in (folder_of self))
+            (command.Fetch name as_run) (D.view store.old).files next.1) }
+        ensures taken { IsTrue D.tells → (care : Care) (s : State) → Stands care (D.view store.old) self s
+            → IfOk result (λ next. TakesAsTold next.1 (D.counts store.old) (D.counts store.new)) }
+        ensures most { IsTrue D.tells → TakesFor (table_in (folder_of self)) (command.Fetch name as_run)
+            (D.counts store.old) (D.counts store.new) }
+        ensures crash { IsTrue D.tells → FolderStands (D.view store.old) (folder_of self)
+            → IfOk result (λ next. FolderStands (D.view store.new) (folder_of next.0)) }
+        ensures counts { Rises (D.counts store.old) (D.counts store.new) }
+    {
+        taken_rewritings();
+        let FetchPlan { typed, cuts } = match plan_fetch(
+            self.alloc,
+            self.folder.catalog(),
+            name,
+            as_run,
+        ) {
+            Ok(plan) => plan,
+            Err(refusal) => return Ok((self, Answer::Refused(refusal))),
+        };
+        match choose(self.alloc, self.folder.catalog(), typed, cuts.items()) {
+            Ok(choice) => self.work(store, None, choice),
             Err(Memory) => Ok((self, Answer::Refused(Refusal::Memory))),
         }
     }

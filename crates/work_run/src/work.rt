@@ -47,8 +47,8 @@ pub struct Work {
 /// plan and what is recorded; nothing is written. Over the files of a state the rows are those of the plan as
 /// it is written. `Overflow` comes exactly where the plan meets an overflow, and `Machine` where the machine
 /// time of its normal form is above 4,294,967,295, either where both hold, unless another event comes first;
-/// `Fault` only where the store failed in this call, and `Damaged` and `Unreadable` by the bytes of one of the
-/// files, over a state's files the former only where they show damage and the latter never.
+/// `Fault` only where the store failed in this call, and `Damaged` and `Unreadable` by the bytes of one of
+/// the files, over a state's files the former only where they show damage and the latter never.
 pub fn run_work<D: Store>(
     alloc: Global,
     store: &mut D,

@@ -1,4 +1,4 @@
-use Rattle.std.proofs.Common.{◌≡◌, ap, length, arith}
+use Rattle.std.proofs.Common.{ap, length, arith}
 use Rattle.std.proofs.lemmas.Grind.{common_steps}
 use Rattle.planning.proofs.Stored.{few_on_each_side}
 use Rattle.planning.proofs.program.limit_of_program.Goals as goal

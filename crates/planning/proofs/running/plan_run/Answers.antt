@@ -1,4 +1,4 @@
-use Rattle.std.proofs.Common.{◌≡◌, Err}
+use Rattle.std.proofs.Common.{Err}
 use Rattle.catalog_core.specs.Catalogs.{table_of}
 use Rattle.planning.proofs.RunLemmas.{no_fault}
 use Rattle.planning.proofs.Runs.{is_run, is_not_run, at_name}

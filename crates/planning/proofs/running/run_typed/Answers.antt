@@ -1,4 +1,4 @@
-use Rattle.std.proofs.Common.{◌≡◌, ◌∙◌}
+use Rattle.std.proofs.Common.{◌∙◌}
 use Rattle.catalog_core.specs.Catalogs.{table_of}
 use Rattle.catalog_core.specs.Streams.{states_of}
 use Rattle.plan_core.specs.PlainPlan.{leaves}

@@ -4,7 +4,6 @@ use Rattle.plan_core.specs.PlainPlan.{plan_of}
 use Rattle.plan_core.specs.PlanTyping.{Kinds, plan_typing}
 use Rattle.plan_core.specs.TypedPlan.{IsTypedOver}
 use Rattle.catalog_core.specs.Catalogs.{table_of}
-use Rattle.catalog_core.specs.Programs.{kinds_of_streams}
 use Rattle.script_text.specs.declared.answer.Refusal.TheVariants.{Memory}
 use Rattle.planning.specs.Running.{Run, running_typed}
 use Rattle.planning.proofs.RunLemmas.{never_unknown}

@@ -1,4 +1,4 @@
-use Rattle.std.proofs.Common.{◌≡◌, Err, Ok, refl, sym, subst, ap, inl}
+use Rattle.std.proofs.Common.{◌≡◌, Ok, sym, subst, ap, inl}
 use Rattle.plan_core.specs.declared.refusal.PlanRefusal.{PlanRefusal}
 use Rattle.plan_core.specs.PlainPlan.{PlainPlan, plan_of}
 use Rattle.plan_core.specs.PlanTyping.{plan_typing}

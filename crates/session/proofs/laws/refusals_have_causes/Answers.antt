@@ -5,7 +5,7 @@ pub returns-clause-cause : goal.returns-clause-cause
 returns-clause-cause c = cause_of
 
 pub returns-clause-exactly : goal.returns-clause-exactly
-returns-clause-exactly c = refused_exactly c.one_normal_form.ensures
+returns-clause-exactly c = refused_exactly c.one_normal_form.ensures c.one_plan.ensures.texts
 
 pub returns-clause-unchanged : goal.returns-clause-unchanged
 returns-clause-unchanged c = state_kept

@@ -11,7 +11,7 @@ use Rattle.session.proofs.StepLemmas.{refuses, stands_prepared, table_prepared, 
 use Rattle.session.proofs.RefusalLemmas.{appending_refuses}
 use Rattle.session.proofs.TakenLemmas.{of_no_file}
 use Rattle.outside_traits.proofs.RunLemmas.{narrows_none}
-use Rattle.session.proofs.LeavingLemmas.{leaves_given, writes_none, writes_prepared}
+use Rattle.session.proofs.LeavingLemmas.{appends_prepared, changes_none, leaves_given}
 use Rattle.session.specs.Standing.{folder_of}
 use Rattle.session.proofs.session.Session.append.Goals as goal
 
@@ -63,10 +63,10 @@ pub returns-in-Err-prepare-clause-refused : goal.returns-in-Err-prepare-clause-r
 returns-in-Err-prepare-clause-refused g c = narrows_none _
 
 pub returns-in-Ok-prepare-clause-alone : goal.returns-in-Ok-prepare-clause-alone
-returns-in-Ok-prepare-clause-alone g c = writes_prepared _ _ c.args.self c.prepare.new.self c.prepare.ensures.table c.prepare.ensures.journal c.record_file.ensures.alone
+returns-in-Ok-prepare-clause-alone g c = appends_prepared _ _ c.args.self c.prepare.new.self c.prepare.ensures.table c.prepare.ensures.journal c.record_file.ensures.alone
 
 pub returns-in-Err-clause-alone : goal.returns-in-Err-clause-alone
-returns-in-Err-clause-alone g c = writes_none (folder_of c.args.self) _
+returns-in-Err-clause-alone g c = changes_none (folder_of c.args.self) (command.Append c.args.name c.args.lines) _
 
 pub returns-in-Err-prepare-clause-alone : goal.returns-in-Err-prepare-clause-alone
-returns-in-Err-prepare-clause-alone g c = writes_none (folder_of c.args.self) _
+returns-in-Err-prepare-clause-alone g c = changes_none (folder_of c.args.self) (command.Append c.args.name c.args.lines) _

@@ -1,5 +1,9 @@
 use Rattle.std.proofs.Common.{◌∙◌, ap, sym, subst, refl, inr}
+use Rattle.outside_traits.specs.Runs.{ChangesOnly}
 use Rattle.catalog_core.specs.Catalogs.{table_of}
+use Rattle.journal_store.specs.Journals.{generation_of}
+use Rattle.journal_store.specs.Readings.{generation_file}
+use Rattle.journal_store.specs.declared.journal.Journal.{Journal}
 use Rattle.script_text.specs.declared.answer.Answer.TheVariants as answer
 use Rattle.script_text.specs.declared.answer.Refusal.TheVariants as refusal
 use Rattle.script_text.specs.declared.item.Command.TheVariants as command
@@ -11,7 +15,7 @@ use Rattle.session.proofs.StepLemmas.{refuses, stands_prepared, table_prepared, 
 use Rattle.session.proofs.RefusalLemmas.{making_refuses}
 use Rattle.session.proofs.TakenLemmas.{of_no_file}
 use Rattle.outside_traits.proofs.RunLemmas.{narrows_none}
-use Rattle.session.proofs.LeavingLemmas.{leaves_given, writes_none, writes_prepared}
+use Rattle.session.proofs.LeavingLemmas.{changes_none, leaves_given, streams_log}
 use Rattle.session.specs.Standing.{folder_of}
 use Rattle.session.proofs.session.Session.make.Goals as goal
 
@@ -64,10 +68,12 @@ pub returns-in-Err-prepare-clause-refused : goal.returns-in-Err-prepare-clause-r
 returns-in-Err-prepare-clause-refused g c = narrows_none _
 
 pub returns-in-Ok-prepare-clause-alone : goal.returns-in-Ok-prepare-clause-alone
-returns-in-Ok-prepare-clause-alone g c = writes_prepared _ _ c.args.self c.prepare.new.self c.prepare.ensures.table c.prepare.ensures.journal c.record.ensures.alone
+returns-in-Ok-prepare-clause-alone g c =
+    streams_log (folder_of c.args.self) c.args.name c.args.columns _ _
+    (subst (λ (x : Journal). ChangesOnly (generation_file (generation_of x)) (g.D.Store.view c.args.store.now) (g.D.Store.view c.record.new.store)) c.prepare.ensures.journal c.record.ensures.alone)
 
 pub returns-in-Err-clause-alone : goal.returns-in-Err-clause-alone
-returns-in-Err-clause-alone g c = writes_none (folder_of c.args.self) _
+returns-in-Err-clause-alone g c = changes_none (folder_of c.args.self) (command.Stream c.args.name c.args.columns) _
 
 pub returns-in-Err-prepare-clause-alone : goal.returns-in-Err-prepare-clause-alone
-returns-in-Err-prepare-clause-alone g c = writes_none (folder_of c.args.self) _
+returns-in-Err-prepare-clause-alone g c = changes_none (folder_of c.args.self) (command.Stream c.args.name c.args.columns) _

@@ -1,5 +1,3 @@
-use Rattle.session.proofs.LeavingLemmas.{writes_log}
-use Rattle.session.specs.Standing.{folder_of}
 use Rattle.session.proofs.session.Session.record.Goals as goal
 
 pub returns-in-Ok-clause-ok : goal.returns-in-Ok-clause-ok
@@ -12,9 +10,3 @@ returns-in-Err-clause-err g c = λ told care s new stands next. record { since =
 
 pub returns-in-Ok-clause-crash : goal.returns-in-Ok-clause-crash
 returns-in-Ok-clause-crash g c = λ told stands. c.in-Ok.ensures.stands told stands
-
-pub returns-in-Ok-clause-alone : goal.returns-in-Ok-clause-alone
-returns-in-Ok-clause-alone g c = writes_log (folder_of c.args.self) _ _ c.record.ensures.alone
-
-pub returns-in-Err-clause-alone : goal.returns-in-Err-clause-alone
-returns-in-Err-clause-alone g c = writes_log (folder_of c.args.self) _ _ c.record.ensures.alone

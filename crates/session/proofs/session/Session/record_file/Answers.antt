@@ -8,7 +8,7 @@ use Rattle.folder.specs.State.{table, file_bytes}
 use Rattle.session.specs.Standing.{Stands, folder_of}
 use Rattle.session.proofs.FileLemmas.{file_is, change_of, next_number, none_ahead}
 use Rattle.session.proofs.StepLemmas.{records_behind, breaks_behind, breaks_before}
-use Rattle.session.proofs.LeavingLemmas.{count_then, writes_file, writes_on}
+use Rattle.session.proofs.LeavingLemmas.{count_then, appends_both, appends_file}
 use Rattle.session.proofs.session.Session.record_file.Goals as goal
 
 pub write_next-requires : goal.write_next-requires
@@ -54,7 +54,7 @@ pub returns-in-Ok-clause-no_fault : goal.returns-in-Ok-clause-no_fault
 returns-in-Ok-clause-no_fault g c = count_then _ _ _ _ c.in-Ok.ensures.no_fault c.record.ensures.no_fault
 
 pub returns-in-Ok-clause-alone : goal.returns-in-Ok-clause-alone
-returns-in-Ok-clause-alone g c = writes_on (folder_of c.args.self) _ _ _ (writes_file (folder_of c.args.self) _ _ c.write_next.ensures.alone) c.record.ensures.alone
+returns-in-Ok-clause-alone g c = appends_both (folder_of c.args.self) _ _ _ c.write_next.ensures.alone c.record.ensures.alone
 
 pub returns-in-Err-clause-alone : goal.returns-in-Err-clause-alone
-returns-in-Err-clause-alone g c = writes_file (folder_of c.args.self) _ _ c.write_next.ensures.alone
+returns-in-Err-clause-alone g c = appends_file (folder_of c.args.self) _ _ c.write_next.ensures.alone

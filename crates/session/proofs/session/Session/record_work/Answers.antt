@@ -8,7 +8,7 @@ use Rattle.folder.specs.Next.{with_work}
 use Rattle.folder.specs.Standing.{IsNext}
 use Rattle.folder.specs.Written.{AreWritten}
 use Rattle.session.specs.Standing.{Stands, folder_of}
-use Rattle.session.proofs.LeavingLemmas.{count_then, writes_files, writes_on}
+use Rattle.session.proofs.LeavingLemmas.{count_then, writes_files, writes_log, writes_on}
 use Rattle.session.proofs.StepLemmas.{records_behind, breaks_behind, breaks_before}
 use Rattle.session.proofs.WorkLemmas.{are-ready, numbered, recorded, no_checkpoint}
 use Rattle.session.proofs.session.Session.record_work.Goals as goal
@@ -61,7 +61,7 @@ pub returns-in-Ok-clause-no_fault : goal.returns-in-Ok-clause-no_fault
 returns-in-Ok-clause-no_fault g c = count_then _ _ _ _ c.in-Ok.ensures.no_fault c.record.ensures.no_fault
 
 pub returns-in-Ok-clause-alone : goal.returns-in-Ok-clause-alone
-returns-in-Ok-clause-alone g c = writes_on (folder_of c.args.self) _ _ _ (writes_files (folder_of c.args.self) _ _ c.write_files.ensures.alone) c.record.ensures.alone
+returns-in-Ok-clause-alone g c = writes_on (folder_of c.args.self) _ _ _ (writes_files (folder_of c.args.self) _ _ c.write_files.ensures.alone) (writes_log (folder_of c.args.self) _ _ c.record.ensures.alone)
 
 pub returns-in-Err-clause-alone : goal.returns-in-Err-clause-alone
 returns-in-Err-clause-alone g c = writes_files (folder_of c.args.self) _ _ c.write_files.ensures.alone

@@ -8,7 +8,7 @@ use Rattle.catalog_core.specs.Catalogs.{table_of}
 use Rattle.catalog_core.specs.Programs.{AreCuts, kinds_of_streams}
 use Rattle.catalog_core.specs.Table.{Table, FitsProgram, most_ticks}
 use Rattle.plan_choice.specs.Taken.{IsChoice}
-use Rattle.planning.specs.Running.{running, IsRunPlan}
+use Rattle.planning.specs.Running.{running, target_of, IsRunPlan}
 use Rattle.script_text.specs.declared.answer.Refusal.TheVariants as refusal
 use Rattle.script_text.specs.declared.item.Command.TheVariants as command
 use Rattle.folder.specs.Folders.{table_in}
@@ -61,11 +61,11 @@ returns-in-Err-choose-clause-alone g c = writes_none (folder_of c.args.self) _
 -- ---- the choice
 
 pub choose-requires-clause-typed : goal.choose-requires-clause-typed
-choose-requires-clause-typed g c = subst (λ (t : Table). IsTypedOver (kinds_of_streams t.streams) c.in-Ok.plan.typed) (ap table_of (c.catalog.ensures ∙ sym c.catalog-2.ensures)) c.in-Ok.ensures.ok.2.over
+choose-requires-clause-typed g c = subst (λ (t : Table). IsTypedOver (kinds_of_streams t.streams) c.in-Ok.plan.typed) (ap table_of (c.catalog.ensures ∙ sym c.catalog-2.ensures)) c.in-Ok.ensures.ok.2.planned.over
 
 pub choose-requires-clause-cuts : goal.choose-requires-clause-cuts
 choose-requires-clause-cuts g c =
-    let planned = c.in-Ok.ensures.ok.2 in
+    let planned = c.in-Ok.ensures.ok.2.planned in
     subst (λ (t : Table). AreCuts t.streams (leaves c.in-Ok.plan.typed.plan) c.items.result.now) (ap table_of (c.catalog.ensures ∙ sym c.catalog-2.ensures))
     (subst (λ (cuts : Cuts). AreCuts (table_of c.catalog.result.now).streams (leaves c.in-Ok.plan.typed.plan) cuts) (sym c.items.ensures)
     (subst (λ (p : PlainPlan). AreCuts (table_of c.catalog.result.now).streams (leaves p) c.in-Ok.plan.program.cuts) (sym planned.plan) planned.are_cuts))
@@ -81,7 +81,7 @@ work-requires-clause-chosen g c =
     let e = ap table_of c.catalog.ensures in
     let planned = subst (λ (x : Table). IsRunPlan x run c.in-Ok.plan.typed program) e ok.2 in
     let chosen =
-    chosen_for c.taken_rewritings.ensures.over c.taken_rewritings.ensures.leaves c.taken_rewritings.ensures.normal c.taken_rewritings.ensures.deep t run c.in-Ok.plan.typed program c.in-Ok-choose.choice planned
+    chosen_for c.taken_rewritings.ensures.over c.taken_rewritings.ensures.leaves c.taken_rewritings.ensures.normal c.taken_rewritings.ensures.deep t (target_of run) c.in-Ok.plan.typed program.cuts c.in-Ok-choose.choice planned.planned
     c.in-Ok-choose.ensures.spelled c.in-Ok-choose.ensures.literals _ c.items.ensures
     (subst (λ (x : Table). IsChoice x c.in-Ok.plan.typed.plan c.items.result.now c.in-Ok-choose.choice) (ap table_of c.catalog-2.ensures) c.in-Ok-choose.ensures.chosen) in
     (run.plan, program.cuts, chosen)
@@ -90,7 +90,7 @@ pub work-requires-clause-program : goal.work-requires-clause-program
 work-requires-clause-program g c = subst (FitsProgram (Some c.in-Ok.plan.program)) (ap table_of c.catalog.ensures) c.in-Ok.ensures.ok.2.fits
 
 pub work-requires-clause-counted : goal.work-requires-clause-counted
-work-requires-clause-counted g c = subst (λ (t : Table). t.tick < most_ticks) (ap table_of c.catalog.ensures) c.in-Ok.ensures.ok.2.counted
+work-requires-clause-counted g c = subst (λ (t : Table). t.tick < most_ticks) (ap table_of c.catalog.ensures) c.in-Ok.ensures.ok.2.planned.counted
 
 pub returns-in-Ok-choose-clause-ok : goal.returns-in-Ok-choose-clause-ok
 returns-in-Ok-choose-clause-ok g c = λ told care s stands.
@@ -101,7 +101,7 @@ returns-in-Ok-choose-clause-ok g c = λ told care s stands.
     let e = ap table_of c.catalog.ensures in
     let planned = subst (λ (x : Table). IsRunPlan x run c.in-Ok.plan.typed program) e ok.2 in
     let chosen =
-    chosen_for c.taken_rewritings.ensures.over c.taken_rewritings.ensures.leaves c.taken_rewritings.ensures.normal c.taken_rewritings.ensures.deep t run c.in-Ok.plan.typed program c.in-Ok-choose.choice planned
+    chosen_for c.taken_rewritings.ensures.over c.taken_rewritings.ensures.leaves c.taken_rewritings.ensures.normal c.taken_rewritings.ensures.deep t (target_of run) c.in-Ok.plan.typed program.cuts c.in-Ok-choose.choice planned.planned
     c.in-Ok-choose.ensures.spelled c.in-Ok-choose.ensures.literals _ c.items.ensures
     (subst (λ (x : Table). IsChoice x c.in-Ok.plan.typed.plan c.items.result.now c.in-Ok-choose.choice) (ap table_of c.catalog-2.ensures) c.in-Ok-choose.ensures.chosen) in
     ran_performs care _ _ s t stands.means.table_is c.args.name c.args.plan.now run program (subst (λ (x : Table). running x c.args.name c.args.plan.now ≡ Ok run) e ok.1) planned.program_is _
@@ -116,7 +116,7 @@ returns-in-Ok-choose-clause-err g c = λ told care s stands.
     let e = ap table_of c.catalog.ensures in
     let planned = subst (λ (x : Table). IsRunPlan x run c.in-Ok.plan.typed program) e ok.2 in
     let chosen =
-    chosen_for c.taken_rewritings.ensures.over c.taken_rewritings.ensures.leaves c.taken_rewritings.ensures.normal c.taken_rewritings.ensures.deep t run c.in-Ok.plan.typed program c.in-Ok-choose.choice planned
+    chosen_for c.taken_rewritings.ensures.over c.taken_rewritings.ensures.leaves c.taken_rewritings.ensures.normal c.taken_rewritings.ensures.deep t (target_of run) c.in-Ok.plan.typed program.cuts c.in-Ok-choose.choice planned.planned
     c.in-Ok-choose.ensures.spelled c.in-Ok-choose.ensures.literals _ c.items.ensures
     (subst (λ (x : Table). IsChoice x c.in-Ok.plan.typed.plan c.items.result.now c.in-Ok-choose.choice) (ap table_of c.catalog-2.ensures) c.in-Ok-choose.ensures.chosen) in
     ran_breaks care _ _ s t stands.means.table_is c.args.name c.args.plan.now run program (subst (λ (x : Table). running x c.args.name c.args.plan.now ≡ Ok run) e ok.1) planned.program_is _
@@ -131,11 +131,11 @@ returns-in-Ok-choose-clause-found g c = λ told.
     let e = ap table_of c.catalog.ensures in
     let planned = subst (λ (x : Table). IsRunPlan x run c.in-Ok.plan.typed program) e ok.2 in
     let chosen =
-    chosen_for c.taken_rewritings.ensures.over c.taken_rewritings.ensures.leaves c.taken_rewritings.ensures.normal c.taken_rewritings.ensures.deep t run c.in-Ok.plan.typed program c.in-Ok-choose.choice planned
+    chosen_for c.taken_rewritings.ensures.over c.taken_rewritings.ensures.leaves c.taken_rewritings.ensures.normal c.taken_rewritings.ensures.deep t (target_of run) c.in-Ok.plan.typed program.cuts c.in-Ok-choose.choice planned.planned
     c.in-Ok-choose.ensures.spelled c.in-Ok-choose.ensures.literals _ c.items.ensures
     (subst (λ (x : Table). IsChoice x c.in-Ok.plan.typed.plan c.items.result.now c.in-Ok-choose.choice) (ap table_of c.catalog-2.ensures) c.in-Ok-choose.ensures.chosen) in
     run_found t (g.D.Store.view c.args.store.now).files c.args.name c.args.plan.now run chosen.choice_is.normal (rewriting_of c.in-Ok-choose.choice.rewriting)
-    (subst (λ (x : Table). running x c.args.name c.args.plan.now ≡ Ok run) e ok.1) (taken_of t run program c.in-Ok-choose.choice planned.program_is chosen) _ (c.work.ensures.found told)
+    (subst (λ (x : Table). running x c.args.name c.args.plan.now ≡ Ok run) e ok.1) (taken_of t (target_of run) program.cuts c.in-Ok-choose.choice planned.planned.cuts_are chosen) _ (c.work.ensures.found told)
 
 pub returns-in-Ok-choose-clause-most : goal.returns-in-Ok-choose-clause-most
 returns-in-Ok-choose-clause-most g c = λ told.
@@ -146,8 +146,8 @@ returns-in-Ok-choose-clause-most g c = λ told.
     let e = ap table_of c.catalog.ensures in
     let planned = subst (λ (x : Table). IsRunPlan x run c.in-Ok.plan.typed program) e ok.2 in
     let chosen =
-    chosen_for c.taken_rewritings.ensures.over c.taken_rewritings.ensures.leaves c.taken_rewritings.ensures.normal c.taken_rewritings.ensures.deep t run c.in-Ok.plan.typed program c.in-Ok-choose.choice planned
+    chosen_for c.taken_rewritings.ensures.over c.taken_rewritings.ensures.leaves c.taken_rewritings.ensures.normal c.taken_rewritings.ensures.deep t (target_of run) c.in-Ok.plan.typed program.cuts c.in-Ok-choose.choice planned.planned
     c.in-Ok-choose.ensures.spelled c.in-Ok-choose.ensures.literals _ c.items.ensures
     (subst (λ (x : Table). IsChoice x c.in-Ok.plan.typed.plan c.items.result.now c.in-Ok-choose.choice) (ap table_of c.catalog-2.ensures) c.in-Ok-choose.ensures.chosen) in
     taken_for t c.args.name c.args.plan.now run chosen.choice_is.normal (rewriting_of c.in-Ok-choose.choice.rewriting) (g.D.Store.counts c.args.store.now) (g.D.Store.counts c.work.new.store)
-    (subst (λ (x : Table). running x c.args.name c.args.plan.now ≡ Ok run) e ok.1) (taken_of t run program c.in-Ok-choose.choice planned.program_is chosen) (c.work.ensures.most told)
+    (subst (λ (x : Table). running x c.args.name c.args.plan.now ≡ Ok run) e ok.1) (taken_of t (target_of run) program.cuts c.in-Ok-choose.choice planned.planned.cuts_are chosen) (c.work.ensures.most told)
