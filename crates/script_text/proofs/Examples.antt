@@ -9,11 +9,11 @@ use Rattle.script_text.specs.Script.{items_by, items, all_items}
 use Rattle.script_text.specs.StreamLine.{parts_at, columns_of}
 use Rattle.script_text.specs.CollectLine.{number_of}
 use Rattle.script_text.specs.Words.{only_word}
-use Rattle.script_text.specs.declared.answer.Answer.TheVariants.{Held, Evicted, Refused}
+use Rattle.script_text.specs.declared.answer.Answer.TheVariants.{Held, Ready, Left, Evicted, Refused}
 use Rattle.script_text.specs.declared.answer.Answer.TheVariants as answer
 use Rattle.script_text.specs.declared.answer.LimitKind.TheVariants as limit
 use Rattle.script_text.specs.declared.answer.Refusal.TheVariants.{Limit, Syntax, Unknown, Row}
-use Rattle.script_text.specs.declared.item.Command.TheVariants.{Stream, Append, Fetch, Collect, Entries}
+use Rattle.script_text.specs.declared.item.Command.TheVariants.{Stream, Append, Fetch, Collect, Entries, Step, Close, DropJob}
 use Rattle.script_text.specs.declared.item.Item.TheVariants as item
 
 -- a stream, with and without spaces
@@ -80,9 +80,29 @@ entries_are_asked_for : items (codes " entries \nentries x\n") ≡ item.Command 
 unfolding items_by
 entries_are_asked_for = refl
 
+-- jobs
+jobs_are_stepped : items (codes "step j\n  close  j \ndrop j_2\n") ≡ item.Command (Step (codes "j")) ∷ item.Command (Close (codes "j")) ∷ item.Command (DropJob (codes "j_2")) ∷ []
+unfolding items_by only_word is_name is_reserved
+jobs_are_stepped = refl
+
+other_steps_are_refused : items (codes "step\nstep j k\nclose end\ndrop 1\nsteps j\n") ≡ item.Refused Syntax ∷ item.Refused Syntax ∷ item.Refused Syntax ∷ item.Refused Syntax ∷ item.Refused Syntax ∷ []
+unfolding items_by only_word is_name is_reserved
+other_steps_are_refused = refl
+
 held_text : answer_text (Held 12) ≡ codes "ok 12\n"
 unfolding digits
 held_text = refl
+
+ready_text : answer_text (Ready 3) ≡ codes "ok 3\n"
+unfolding digits
+ready_text = refl
+
+left_text : answer_text (Left 0) ≡ codes "left 0\n"
+unfolding digits
+left_text = refl
+
+jobs_limit_is_printed : answer_text (Refused (Limit limit.Jobs)) ≡ codes "refused limit jobs 64\n"
+jobs_limit_is_printed = refl
 
 row_text : answer_text (Refused (Row 2)) ≡ codes "refused row 2\n"
 unfolding digits

@@ -9,23 +9,19 @@ use Rattle.std.proofs.lemmas.Slice.Eq.{bytes_eq-Decides}
 use Rattle.std.proofs.lemmas.Str.Parse.{digit_from_value}
 use Rattle.rows_core.specs.Name.{IsName, is_name}
 use Rattle.script_text.specs.CollectLine.{number_of, collect_with, collect_of, entries_of}
-use Rattle.script_text.specs.Dispatch.{behind_or, command_of, stream_command, kept_command, line_command}
-use Rattle.script_text.specs.FetchLine.{as_run_if, as_run_of, fetch_with, fetch_of_words, fetch_of}
-use Rattle.script_text.specs.RunLine.{run_of}
-use Rattle.script_text.specs.Script.{IsForBytes}
-use Rattle.script_text.specs.Spelled.{Spelled}
+use Rattle.script_text.specs.Dispatch.{behind_or, command_of, line_command}
+use Rattle.script_text.specs.FetchLine.{as_run_if, as_run_of, fetch_with, fetch_of_words}
 use Rattle.script_text.specs.Spelling.{AreSpaces, Padded, SpellsFetch, SpellsFetchAsRun, SpellsCollect, SpellsEntries}
-use Rattle.script_text.specs.Words.{is_space, is_blank, trimmed, ends_word, behind_word, only_word, name_if}
+use Rattle.script_text.specs.Words.{is_space, is_blank, trimmed, ends_word, only_word, name_if}
 use Rattle.script_text.specs.declared.answer.Refusal.TheVariants.{Syntax}
-use Rattle.script_text.specs.declared.item.Command.{Command}
 use Rattle.script_text.specs.declared.item.Command.TheVariants.{Fetch, Collect, Entries}
-use Rattle.script_text.proofs.CommandKinds.{IsStream, IsRun, IsFetch, IsCollect, IsEntries, IsSyntax, Only, stream_command-only, run_of-only, fetch_of-only, collect_of-only, entries_of-only}
+use Rattle.script_text.proofs.CommandKinds.{reads_command}
 use Rattle.script_text.proofs.NumberLemmas.{number_of-decimal, IsNumberOf-read}
-use Rattle.script_text.proofs.Spellings.{same_byte, is_blank-spaces, AreSpaces-blank, trimmed-spaces, trimmed-whole, trimmed-word, Lacks, before_first-space, after_first-space, before_first-spaces, after_first-spaces, first_word-whole, only_word-padded, Padded-only_word, only_word-spaces}
-use Rattle.script_text.proofs.StreamSpelling.{Lacks-from_all, name_bytes, name_some, StandsBehind, behind_word-whole}
+use Rattle.script_text.proofs.Spellings.{begun, same_byte, is_blank-spaces, AreSpaces-blank, trimmed-spaces, trimmed-whole, trimmed-word, Lacks, before_first-space, after_first-space, before_first-spaces, after_first-spaces, first_word-whole, only_word-padded, Padded-only_word, only_word-spaces}
+use Rattle.script_text.proofs.StreamSpelling.{Lacks-from_all, name_bytes, name_some}
 
 -- a name has no space, nor has a decimal
-name_lacks : (name : List ℕ) → IsName name → Lacks is_space name
+pub name_lacks : (name : List ℕ) → IsName name → Lacks is_space name
 name_lacks name is = Lacks-from_all 32 refl name (name_bytes name is)
 
 digits_lack : (digits : List ℕ) → AllDigits 10 digits → Lacks is_space digits
@@ -34,10 +30,6 @@ digits_lack (c ∷ cs) all = (by (digit_from_value c all.0).0, digits_lack cs al
   where
     by : 48 ≤ c → nat_eq c 32 ≡ false
     by low = grind (arith, nat_tests)
-
--- what stands at the front of a line
-begun : (front text : List ℕ) → AreSpaces front → (line : List ℕ) → line ≡ front ++ text → trimmed line ≡ trimmed text
-begun front text before line whole = ap trimmed whole ∙ trimmed-spaces front text before
 
 -- lines that spell these commands are read so
 fetch_of_words-named : (name back : List ℕ) → IsName name → (as_run : Option Bool) → before_first is_space back ≡ name → as_run_of (after_first is_space back) ≡ as_run → fetch_of_words back ≡ fetch_with (Some name) as_run
@@ -87,70 +79,6 @@ entries-spelled line spells =
     ap command_of (begun spells.front (codes "entries" ++ spells.back) spells.before line spells.whole)
     ∙ ap (λ b. behind_or (cond b (Some spells.back) None) entries_of (Err Syntax)) (ends_word-spaces spells.back spells.behind)
     ∙ ap (λ b. cond b (Ok Entries) (Err Syntax)) (is_blank-spaces spells.back spells.behind)
-
--- such a line is read behind its own first word
-module _ (line : List ℕ) (command : Command) (not_stream : IsStream command → ⊥) (not_run : IsRun command → ⊥) where
-  asks_for_kept : line_command line ≡ Ok command → kept_command (trimmed line) ≡ Ok command
-  asks_for_kept e = by (behind_word (codes "stream") (trimmed line)) e
-    where
-      run : (rest : Option (List ℕ)) → behind_or rest run_of (kept_command (trimmed line)) ≡ Ok command → kept_command (trimmed line) ≡ Ok command
-      run (Some rest) e = absurd (not_run (subst (Only IsRun IsForBytes) e (run_of-only rest)))
-      run None e = e
-
-      by : (rest : Option (List ℕ)) → behind_or rest stream_command (behind_or (behind_word (codes "run") (trimmed line)) run_of (kept_command (trimmed line))) ≡ Ok command → kept_command (trimmed line) ≡ Ok command
-      by (Some rest) e = absurd (not_stream (subst (Only IsStream IsSyntax) e (stream_command-only rest)))
-      by None e = run (behind_word (codes "run") (trimmed line)) e
-
--- what stands behind a first word, where the line is read as its command
-record ReadsBehind (word line : List ℕ) (command_behind : List ℕ → Spelled) (command : Command) : Type 0 where
-  rest : List ℕ
-  behind : StandsBehind word (trimmed line) rest
-  is : command_behind rest ≡ Ok command
-
-module _ (line : List ℕ) (command : Command) where
-  entries_read : (rest : Option (List ℕ)) → behind_word (codes "entries") (trimmed line) ≡ rest → behind_or rest entries_of (Err Syntax) ≡ Ok command → ReadsBehind (codes "entries") line entries_of command
-  entries_read (Some rest) at e = record { rest = rest; behind = behind_word-whole (codes "entries") (trimmed line) rest at; is = e }
-  entries_read None at e = absurd (cc)
-
-  collect_read : (rest : Option (List ℕ)) → behind_word (codes "collect") (trimmed line) ≡ rest → behind_or rest collect_of (behind_or (behind_word (codes "entries") (trimmed line)) entries_of (Err Syntax)) ≡ Ok command
-      → ReadsBehind (codes "collect") line collect_of command ⊎ ReadsBehind (codes "entries") line entries_of command
-  collect_read (Some rest) at e = inl (record { rest = rest; behind = behind_word-whole (codes "collect") (trimmed line) rest at; is = e })
-  collect_read None at e = inr (entries_read (behind_word (codes "entries") (trimmed line)) refl e)
-
-  abbrev ReadsKept : Type 0
-  ReadsKept = ReadsBehind (codes "fetch") line fetch_of command ⊎ (ReadsBehind (codes "collect") line collect_of command ⊎ ReadsBehind (codes "entries") line entries_of command)
-
-  kept_read : kept_command (trimmed line) ≡ Ok command → ReadsKept
-  kept_read e = by (behind_word (codes "fetch") (trimmed line)) refl e
-    where
-      by : (rest : Option (List ℕ)) → behind_word (codes "fetch") (trimmed line) ≡ rest
-          → behind_or rest fetch_of (behind_or (behind_word (codes "collect") (trimmed line)) collect_of (behind_or (behind_word (codes "entries") (trimmed line)) entries_of (Err Syntax))) ≡ Ok command → ReadsKept
-      by (Some rest) at e = inl (record { rest = rest; behind = behind_word-whole (codes "fetch") (trimmed line) rest at; is = e })
-      by None at e = inr (collect_read (behind_word (codes "collect") (trimmed line)) refl e)
-
-reads_fetch : (line name : List ℕ) (as_run : Bool) → line_command line ≡ Ok (Fetch name as_run) → ReadsBehind (codes "fetch") line fetch_of (Fetch name as_run)
-reads_fetch line name as_run e = by (kept_read line (Fetch name as_run) (asks_for_kept line (Fetch name as_run) (λ no. no) (λ no. no) e))
-  where
-    by : ReadsKept line (Fetch name as_run) → ReadsBehind (codes "fetch") line fetch_of (Fetch name as_run)
-    by (inl read) = read
-    by (inr (inl read)) = absurd (subst (Only IsCollect IsSyntax) read.is (collect_of-only read.rest))
-    by (inr (inr read)) = absurd (subst (Only IsEntries IsSyntax) read.is (entries_of-only read.rest))
-
-reads_collect : (line : List ℕ) (bytes : ℕ) → line_command line ≡ Ok (Collect bytes) → ReadsBehind (codes "collect") line collect_of (Collect bytes)
-reads_collect line bytes e = by (kept_read line (Collect bytes) (asks_for_kept line (Collect bytes) (λ no. no) (λ no. no) e))
-  where
-    by : ReadsKept line (Collect bytes) → ReadsBehind (codes "collect") line collect_of (Collect bytes)
-    by (inl read) = absurd (subst (Only IsFetch IsSyntax) read.is (fetch_of-only read.rest))
-    by (inr (inl read)) = read
-    by (inr (inr read)) = absurd (subst (Only IsEntries IsSyntax) read.is (entries_of-only read.rest))
-
-reads_entries : (line : List ℕ) → line_command line ≡ Ok Entries → ReadsBehind (codes "entries") line entries_of Entries
-reads_entries line e = by (kept_read line Entries (asks_for_kept line Entries (λ no. no) (λ no. no) e))
-  where
-    by : ReadsKept line Entries → ReadsBehind (codes "entries") line entries_of Entries
-    by (inl read) = absurd (subst (Only IsFetch IsSyntax) read.is (fetch_of-only read.rest))
-    by (inr (inl read)) = absurd (subst (Only IsCollect IsSyntax) read.is (collect_of-only read.rest))
-    by (inr (inr read)) = read
 
 -- the words behind `fetch`
 record ReadsWords (name : List ℕ) (as_run : Bool) (text : List ℕ) : Type 0 where
@@ -226,18 +154,18 @@ NameBefore-read name text named asked = by (first_word-whole text)
         absurd (cc)
 
 -- what stands behind a first word and a space
-record Spaced (rest : List ℕ) : Type 0 where
-  text : List ℕ
-  whole : rest ≡ 32 ∷ text
-  same : trimmed rest ≡ trimmed text
+pub record Spaced (rest : List ℕ) : Type 0 where
+  pub text : List ℕ
+  pub whole : rest ≡ 32 ∷ text
+  pub same : trimmed rest ≡ trimmed text
 
-Spaced-read : (rest : List ℕ) → ends_word rest ≡ true → 0 < length (trimmed rest) → Spaced rest
+pub Spaced-read : (rest : List ℕ) → ends_word rest ≡ true → 0 < length (trimmed rest) → Spaced rest
 Spaced-read [] ends some = absurd (omega (arith, some))
 Spaced-read (c ∷ cs) ends some = record { text = cs; whole = ap (λ b. b ∷ cs) (same_byte c 32 ends); same = ap (λ b. cond b (trimmed cs) (c ∷ cs)) ends }
 
 pub SpellsFetch-read : (name line : List ℕ) → line_command line ≡ Ok (Fetch name false) → SpellsFetch name line
 SpellsFetch-read name line e =
-    let read = reads_fetch line name false e in
+    let read = reads_command line (Fetch name false) e in
     let words = ReadsWords-read name false (trimmed read.rest) read.is in
     let alone = NameAlone-read name (trimmed read.rest) words.named (no_word (after_first is_space (trimmed read.rest)) words.asked) in
     let spaced = Spaced-read read.rest read.behind.ends (omega (arith, name_some name words.is_name, ap length alone.whole, length-append name alone.back)) in
@@ -256,7 +184,7 @@ SpellsFetch-read name line e =
 
 pub SpellsFetchAsRun-read : (name line : List ℕ) → line_command line ≡ Ok (Fetch name true) → SpellsFetchAsRun name line
 SpellsFetchAsRun-read name line e =
-    let read = reads_fetch line name true e in
+    let read = reads_command line (Fetch name true) e in
     let words = ReadsWords-read name true (trimmed read.rest) read.is in
     let asked : List ℕ = after_first is_space (trimmed read.rest) in
     let whole = NameBefore-read name (trimmed read.rest) words.named words.asked in
@@ -310,7 +238,7 @@ ReadsNumber-read bytes rest e = by (only_word rest) refl e
 
 pub SpellsCollect-read : (bytes : ℕ) (line : List ℕ) → line_command line ≡ Ok (Collect bytes) → SpellsCollect bytes line
 SpellsCollect-read bytes line e =
-    let read = reads_collect line bytes e in
+    let read = reads_command line (Collect bytes) e in
     let number = ReadsNumber-read bytes read.rest read.is in
     let spaced = SpacedWord-read (decimal bytes) read.rest read.behind.ends number.word (decimal_nonempty bytes number.fits) in
     let cut = trimmed-whole line in
@@ -325,7 +253,7 @@ SpellsCollect-read bytes line e =
 
 pub SpellsEntries-read : (line : List ℕ) → line_command line ≡ Ok Entries → SpellsEntries line
 SpellsEntries-read line e =
-    let read = reads_entries line e in
+    let read = reads_command line Entries e in
     let cut = trimmed-whole line in
     record { front = cut.front; back = read.rest; before = cut.before; behind = AreSpaces-blank read.rest (blank (is_blank read.rest) read.is); whole = cut.whole ∙ ap (λ t. cut.front ++ t) read.behind.whole }
   where

@@ -2,6 +2,7 @@ pub mod AnswerLemmas
 pub mod BlockLemmas
 pub mod CommandKinds
 pub mod Examples
+pub mod JobSpelling
 pub mod KeptSpelling
 pub mod LineLemmas
 pub mod NumberLemmas

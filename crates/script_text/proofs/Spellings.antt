@@ -9,7 +9,7 @@ use Rattle.std.proofs.lemmas.List.{take_at, take_all, drop_all}
 use Rattle.std.proofs.lemmas.List.Sums.{split_at_first, passes_at_first}
 use Rattle.script_text.specs.Spelling.{AreSpaces, Padded}
 use Rattle.script_text.specs.StreamLine.{is_mark, Parts, parts_round, parts_at}
-use Rattle.script_text.specs.Words.{is_space, is_blank, trimmed, word_alone, only_word}
+use Rattle.script_text.specs.Words.{is_space, is_blank, trimmed, ends_word, behind_word, word_alone, only_word}
 
 pub same_byte : (a b : ℕ) → nat_eq a b ≡ true → a ≡ b
 same_byte a b e = grind (arith, nat_tests)
@@ -197,3 +197,27 @@ first_word-whole text = by (nat_lt (position_or_len is_space text) (length text)
 pub only_word-spaces : (text : List ℕ) → AreSpaces text → only_word text ≡ Some []
 unfolding only_word
 only_word-spaces text spaces = ap word_alone (ap trimmed (sym (append-nil text)) ∙ trimmed-spaces text [] spaces)
+
+-- what stands behind a word
+pub record StandsBehind (word text rest : List ℕ) : Type 0 where
+  pub whole : text ≡ word ++ rest
+  pub ends : ends_word rest ≡ true
+
+pub behind_word-whole : (word text rest : List ℕ) → behind_word word text ≡ Some rest → StandsBehind word text rest
+behind_word-whole [] text rest e = by (ends_word text) refl e
+  where
+    by : (b : Bool) → ends_word text ≡ b → cond b (Some text) None ≡ Some rest → StandsBehind [] text rest
+    by true ends e = let same : text ≡ rest = cc in record { whole = same; ends = ap ends_word (sym same) ∙ ends }
+    by false ends e = absurd (cc)
+behind_word-whole (w ∷ ws) [] rest e = absurd (cc)
+behind_word-whole (w ∷ ws) (c ∷ cs) rest e = by (behind_word-whole ws cs rest) (nat_eq c w) refl e
+  where
+    by : (behind_word ws cs ≡ Some rest → StandsBehind ws cs rest) → (b : Bool) → nat_eq c w ≡ b → cond b (behind_word ws cs) None ≡ Some rest → StandsBehind (w ∷ ws) (c ∷ cs) rest
+    by later true test e =
+        let behind = later e in
+        record { whole = ap (λ b. b ∷ cs) (same_byte c w test) ∙ ap (λ t. w ∷ t) behind.whole; ends = behind.ends }
+    by later false test e = absurd (cc)
+
+-- what stands at the front of a line
+pub begun : (front text : List ℕ) → AreSpaces front → (line : List ℕ) → line ≡ front ++ text → trimmed line ≡ trimmed text
+begun front text before line whole = ap trimmed whole ∙ trimmed-spaces front text before

@@ -9,18 +9,16 @@ use Rattle.rows_core.specs.Kind.{kind_word, kind_with_word}
 use Rattle.rows_core.specs.declared.kind.Kind.{Kind}
 use Rattle.rows_core.specs.declared.kind.Kind.TheVariants.{Int, Text}
 use Rattle.rows_core.specs.declared.schema.Column.{Column}
-use Rattle.script_text.specs.Spelling.{AreSpaces, Padded, SpellsName, SpellsColumn, SpellsColumns, SpellsStream, SpellsAppend}
+use Rattle.script_text.specs.Spelling.{AreSpaces, Padded, SpellsName, SpellsColumn, SpellsColumns, SpellsStream, SpellsWithName, SpellsAppend}
 use Rattle.script_text.specs.StreamLine.{is_mark, Parts, parts_at, only_kind, column_with, column_of_parts, column_of, columns_with, columns_of_parts, columns_of, columns_before, closed_columns, stream_with, stream_of_parts, stream_of}
-use Rattle.script_text.specs.Dispatch.{behind_or, command_of, stream_command, kept_command, line_command}
-use Rattle.script_text.specs.RunLine.{run_of}
+use Rattle.script_text.specs.Dispatch.{command_of, line_command}
 use Rattle.script_text.specs.Spelled.{or_syntax}
 use Rattle.script_text.specs.Words.{is_blank, trimmed, ends_word, behind_word, only_word, name_if, only_name, head_name}
 use Rattle.script_text.specs.declared.item.Command.{Command}
 use Rattle.script_text.specs.declared.item.Command.TheVariants.{Stream}
-use Rattle.script_text.specs.Script.{IsForBytes}
-use Rattle.script_text.proofs.CommandKinds.{IsRun, IsKept, IsSyntax, Only, run_of-only, kept_command-only}
+use Rattle.script_text.proofs.CommandKinds.{reads_command}
 use Rattle.script_text.proofs.StreamLemmas.{columns_of-next, columns_of-last}
-use Rattle.script_text.proofs.Spellings.{same_byte, is_blank-spaces, AreSpaces-blank, trimmed-spaces, trimmed-whole, Lacks, Lacks-append, parts_at-first, parts_at-lacking, parts_at-whole, only_word-padded, Padded-only_word}
+use Rattle.script_text.proofs.Spellings.{same_byte, is_blank-spaces, AreSpaces-blank, trimmed-whole, Lacks, Lacks-append, parts_at-first, parts_at-lacking, parts_at-whole, only_word-padded, Padded-only_word, StandsBehind, behind_word-whole, begun}
 
 and_first : (a b : Bool) → a && b ≡ true → a ≡ true
 and_first true b e = refl
@@ -218,7 +216,7 @@ stream_of-spelled name columns line spells =
 
 pub line_command-spelled : (name : List ℕ) (columns : List Column) (line : List ℕ) → SpellsStream name columns line → line_command line ≡ Ok (Stream name columns)
 line_command-spelled name columns line spells =
-    ap command_of (ap trimmed spells.whole ∙ trimmed-spaces spells.front (codes "stream" ++ 32 ∷ (spells.named ++ 40 ∷ (spells.listed ++ 41 ∷ spells.back))) spells.before)
+    ap command_of (begun spells.front (codes "stream" ++ 32 ∷ (spells.named ++ 40 ∷ (spells.listed ++ 41 ∷ spells.back))) spells.before line spells.whole)
     ∙ ap or_syntax (stream_of-spelled name columns line spells)
 
 -- the columns with what stands behind them
@@ -263,26 +261,6 @@ SpellsNamed-read mark other name text (c ∷ cs) behind ends whole e =
       whole = whole ∙ ap (λ b. b ∷ (cs ++ mark ∷ behind)) space;
     }
 
--- what stands behind a word
-pub record StandsBehind (word text rest : List ℕ) : Type 0 where
-  pub whole : text ≡ word ++ rest
-  pub ends : ends_word rest ≡ true
-
-pub behind_word-whole : (word text rest : List ℕ) → behind_word word text ≡ Some rest → StandsBehind word text rest
-behind_word-whole [] text rest e = by (ends_word text) refl e
-  where
-    by : (b : Bool) → ends_word text ≡ b → cond b (Some text) None ≡ Some rest → StandsBehind [] text rest
-    by true ends e = let same : text ≡ rest = cc in record { whole = same; ends = ap ends_word (sym same) ∙ ends }
-    by false ends e = absurd (cc)
-behind_word-whole (w ∷ ws) [] rest e = absurd (cc)
-behind_word-whole (w ∷ ws) (c ∷ cs) rest e = by (behind_word-whole ws cs rest) (nat_eq c w) refl e
-  where
-    by : (behind_word ws cs ≡ Some rest → StandsBehind ws cs rest) → (b : Bool) → nat_eq c w ≡ b → cond b (behind_word ws cs) None ≡ Some rest → StandsBehind (w ∷ ws) (c ∷ cs) rest
-    by later true test e =
-        let behind = later e in
-        record { whole = ap (λ b. b ∷ cs) (same_byte c w test) ∙ ap (λ t. w ∷ t) behind.whole; ends = behind.ends }
-    by later false test e = absurd (cc)
-
 -- a stream
 module _ (name : List ℕ) (columns : List Column) (line : List ℕ) where
   read_parts : (rest : List ℕ) → StandsBehind (codes "stream") (trimmed line) rest → (parts : Parts) → parts_at 40 rest ≡ Some parts
@@ -315,22 +293,10 @@ module _ (name : List ℕ) (columns : List Column) (line : List ℕ) where
   read_command (Some command) e = cc
   read_command None e = absurd (cc)
 
-  other_command : (rest : Option (List ℕ)) → behind_or rest run_of (kept_command (trimmed line)) ≡ Ok (Stream name columns) → ⊥
-  other_command (Some rest) e = subst (Only IsRun IsForBytes) e (run_of-only rest)
-  other_command None e = subst (Only IsKept IsSyntax) e (kept_command-only (trimmed line))
-
   pub SpellsStream-read : line_command line ≡ Ok (Stream name columns) → SpellsStream name columns line
-  SpellsStream-read e = by (behind_word (codes "stream") (trimmed line)) refl e
-    where
-      by : (o : Option (List ℕ)) → behind_word (codes "stream") (trimmed line) ≡ o → behind_or o stream_command (behind_or (behind_word (codes "run") (trimmed line)) run_of (kept_command (trimmed line))) ≡ Ok (Stream name columns) → SpellsStream name columns line
-      by None is e = absurd (other_command (behind_word (codes "run") (trimmed line)) e)
-      by (Some rest) is e = read_rest rest (behind_word-whole (codes "stream") (trimmed line) rest is) (parts_at 40 rest) refl (read_command (stream_of rest) e)
-
--- a head line
-pub head_name-spelled : (name line : List ℕ) → SpellsAppend name line → head_name line ≡ Some name
-head_name-spelled name line spells =
-    ap (λ t. option_and_then only_name (behind_word (codes "append") t)) (ap trimmed spells.whole ∙ trimmed-spaces spells.front (codes "append" ++ 32 ∷ spells.named) spells.before)
-    ∙ only_name-space spells.named ∙ only_name-spelled name spells.named spells.spells_name
+  SpellsStream-read e =
+      let read = reads_command line (Stream name columns) e in
+      read_rest read.rest read.behind (parts_at 40 read.rest) refl (read_command (stream_of read.rest) read.is)
 
 -- a name behind a space
 pub record SpellsSpaced (name text : List ℕ) : Type 0 where
@@ -347,19 +313,31 @@ SpellsSpaced-read name (c ∷ cs) ends e =
     let space : c ≡ 32 = same_byte c 32 ends in
     record { named = cs; spells_name = SpellsName-read name cs (sym (only_name-space cs) ∙ ap (λ b. only_name (b ∷ cs)) (sym space) ∙ e); whole = ap (λ b. b ∷ cs) space }
 
+-- a name alone behind a first word
+pub SpellsWithName-read : (word name line rest : List ℕ) → StandsBehind word (trimmed line) rest → only_name rest ≡ Some name → SpellsWithName word name line
+SpellsWithName-read word name line rest behind e =
+    let cut = trimmed-whole line in
+    let spaced = SpellsSpaced-read name rest behind.ends e in
+    record {
+      front = cut.front;
+      named = spaced.named;
+      before = cut.before;
+      spells_name = spaced.spells_name;
+      whole = cut.whole ∙ ap (λ t. cut.front ++ t) (behind.whole ∙ ap (λ t. word ++ t) spaced.whole);
+    }
+
+pub only_name-behind : (word name line : List ℕ) → (spells : SpellsWithName word name line) → only_name (32 ∷ spells.named) ≡ Some name
+only_name-behind word name line spells = only_name-space spells.named ∙ only_name-spelled name spells.named spells.spells_name
+
+-- a head line
+pub head_name-spelled : (name line : List ℕ) → SpellsAppend name line → head_name line ≡ Some name
+head_name-spelled name line spells =
+    ap (λ t. option_and_then only_name (behind_word (codes "append") t)) (begun spells.front (codes "append" ++ 32 ∷ spells.named) spells.before line spells.whole)
+    ∙ only_name-behind (codes "append") name line spells
+
 pub SpellsAppend-read : (name line : List ℕ) → head_name line ≡ Some name → SpellsAppend name line
 SpellsAppend-read name line e = by (behind_word (codes "append") (trimmed line)) refl e
   where
     by : (o : Option (List ℕ)) → behind_word (codes "append") (trimmed line) ≡ o → option_and_then only_name o ≡ Some name → SpellsAppend name line
     by None is e = absurd (cc)
-    by (Some rest) is e =
-        let behind = behind_word-whole (codes "append") (trimmed line) rest is in
-        let cut = trimmed-whole line in
-        let spaced = SpellsSpaced-read name rest behind.ends e in
-        record {
-          front = cut.front;
-          named = spaced.named;
-          before = cut.before;
-          spells_name = spaced.spells_name;
-          whole = cut.whole ∙ ap (λ t. cut.front ++ t) (behind.whole ∙ ap (λ t. codes "append" ++ t) spaced.whole);
-        }
+    by (Some rest) is e = SpellsWithName-read (codes "append") name line rest (behind_word-whole (codes "append") (trimmed line) rest is) e

@@ -1,15 +1,16 @@
 -- Each command that a script spells has a column, a row line, or a plan within the limits, and each refusal is for its bytes
 -- alone.
-use Rattle.std.proofs.Common.{◌≡◌, ℕ, ◌<◌, true, false, cond, ◌||◌, List, [], ◌∷◌, ◌++◌, length, codes, Option, Some, None, Ok, Err, option_to_list, option_and_then, refl, subst, arith}
-use Rattle.std.specs.List.{slice_split, AllByRecursion}
+use Rattle.std.proofs.Common.{◌≡◌, ℕ, ◌<◌, true, false, cond, ◌||◌, List, [], ◌∷◌, ◌++◌, length, Option, Some, None, Ok, Err, option_to_list, option_and_then, refl, sym, subst, arith}
+use Rattle.std.specs.List.{before_first, after_first, slice_split, AllByRecursion}
 use Rattle.std.specs.Prelude.{⊤}
 use Rattle.std.proofs.lemmas.List.Splits.{length-slice_split}
 use Rattle.rows_core.specs.declared.schema.Column.{Column}
-use Rattle.script_text.specs.Words.{is_skipped, is_blank, only_name, begins_block, trimmed, behind_word, head_name}
+use Rattle.script_text.specs.Words.{is_space, is_skipped, is_blank, name_if, only_name, begins_block, trimmed, behind_word, head_name}
 use Rattle.script_text.specs.StreamLine.{is_mark, Parts, parts_at, column_of, columns_with, columns_of_parts, columns_of, columns_before, closed_columns, stream_with, stream_of_parts, stream_of}
-use Rattle.script_text.specs.Dispatch.{behind_or, stream_command, kept_command, command_of, line_command}
-use Rattle.script_text.specs.RunLine.{run_with, run_of_text, run_named, run_of_parts, run_of}
-use Rattle.script_text.specs.Spelled.{Spelled, or_syntax}
+use Rattle.script_text.specs.Dispatch.{behind_or, command_of, line_command}
+use Rattle.script_text.specs.JobLine.{open_with}
+use Rattle.script_text.specs.RunLine.{SpelledRun, run_with, run_of_text, run_named, run_of_parts, named_run, run_command}
+use Rattle.script_text.specs.Spelled.{Spelled, or_syntax, then_spelled, spelled_by}
 use Rattle.plan_grammar.specs.Counts.{IsWithinLimits}
 use Rattle.plan_parser.specs.Answer.{TextReading, AsPlan, AsTooLarge, AsNone, text_reading}
 use Rattle.plan_parser.proofs.Texts.{reading_plan}
@@ -17,9 +18,9 @@ use Rattle.script_text.specs.Script.{Block, block_limit, line_limit, spelled_ite
 use Rattle.script_text.specs.declared.answer.LimitKind.{LimitKind}
 use Rattle.script_text.specs.declared.answer.Refusal.TheVariants.{Syntax}
 use Rattle.script_text.specs.declared.item.Command.{Command}
-use Rattle.script_text.specs.declared.item.Command.TheVariants.{Stream, Append, Run, Fetch, Collect, Entries}
+use Rattle.script_text.specs.declared.item.Command.TheVariants.{Stream, Append, Run, Fetch, Collect, Entries, OpenJob, Step, Close, DropJob}
 use Rattle.script_text.specs.declared.item.Item.{Item}
-use Rattle.script_text.proofs.CommandKinds.{IsKept, IsSyntax, IsForBytes-syntax, Only, kept_command-only}
+use Rattle.script_text.proofs.CommandKinds.{Kind, OfStream, OfAppend, OfRun, OfFetch, OfCollect, OfEntries, OfOpen, OfStep, OfClose, OfDrop, kind_of, word_of, command_by, by_kinds, line_kinds, IsSyntax, IsForBytes-syntax, Only, command_by-only}
 
 -- columns, where there are any, are one or more
 abbrev HasColumns : Option (List Column) → Type 0
@@ -86,44 +87,88 @@ IsWithin-text text (AsPlan plan) is = (reading_plan text plan is).1
 IsWithin-text text (AsTooLarge what) is = tt
 IsWithin-text text AsNone is = tt
 
-IsSpelled-run_with : (name : List ℕ) (reading : TextReading) → IsWithin reading → IsSpelled (run_with name reading)
-IsSpelled-run_with name (AsPlan plan) within = within
-IsSpelled-run_with name (AsTooLarge what) within = tt
-IsSpelled-run_with name AsNone within = tt
+-- a plan with its name is within the limits, or refused for the bytes
+abbrev IsRunWithin : SpelledRun → Type 0
+IsRunWithin (Ok run) = IsWithinLimits run.plan
+IsRunWithin (Err why) = IsForBytes why
 
-IsSpelled-run_of_text : (name text : List ℕ) → IsSpelled (run_of_text name text)
+IsRunWithin-run_with : (name : List ℕ) (reading : TextReading) → IsWithin reading → IsRunWithin (run_with name reading)
+IsRunWithin-run_with name (AsPlan plan) within = within
+IsRunWithin-run_with name (AsTooLarge what) within = tt
+IsRunWithin-run_with name AsNone within = tt
+
+IsRunWithin-run_of_text : (name text : List ℕ) → IsRunWithin (run_of_text name text)
 unfolding run_of_text
-IsSpelled-run_of_text name text = IsSpelled-run_with name (text_reading text) (IsWithin-text text (text_reading text) refl)
+IsRunWithin-run_of_text name text = IsRunWithin-run_with name (text_reading text) (IsWithin-text text (text_reading text) refl)
 
-IsSpelled-named : (name : Option (List ℕ)) (text : List ℕ) → IsSpelled (run_named name text)
-IsSpelled-named (Some name) text = IsSpelled-run_of_text name text
-IsSpelled-named None text = tt
+IsRunWithin-named : (name : Option (List ℕ)) (text : List ℕ) → IsRunWithin (run_named name text)
+IsRunWithin-named (Some name) text = IsRunWithin-run_of_text name text
+IsRunWithin-named None text = tt
 
-IsSpelled-run : (parts : Option Parts) → IsSpelled (run_of_parts parts)
-IsSpelled-run (Some parts) = IsSpelled-named (only_name parts.before) parts.behind
-IsSpelled-run None = tt
+IsRunWithin-parts : (parts : Option Parts) → IsRunWithin (run_of_parts parts)
+IsRunWithin-parts (Some parts) = IsRunWithin-named (only_name parts.before) parts.behind
+IsRunWithin-parts None = tt
+
+IsSpelled-run : (run : SpelledRun) → IsRunWithin run → IsSpelled (spelled_by run_command run)
+IsSpelled-run (Ok run) within = within
+IsSpelled-run (Err why) within = within
+
+IsSpelled-open_with : (job : List ℕ) (run : SpelledRun) → IsRunWithin run → IsSpelled (open_with run job)
+IsSpelled-open_with job (Ok run) within = within
+IsSpelled-open_with job (Err why) within = within
+
+IsSpelled-open : (job : Option (List ℕ)) (run : SpelledRun) → IsRunWithin run → IsSpelled (then_spelled (or_syntax job) (open_with run))
+IsSpelled-open (Some job) run within = IsSpelled-open_with job run within
+IsSpelled-open None run within = tt
 
 IsSpelled-behind : (rest : Option (List ℕ)) (command : List ℕ → Spelled) (other : Spelled) → ((text : List ℕ) → IsSpelled (command text)) → IsSpelled other → IsSpelled (behind_or rest command other)
 IsSpelled-behind (Some rest) command other is others = is rest
 IsSpelled-behind None command other is others = others
 
--- what is read of a line that asks for what is kept
-IsSpelled-kept : (text : List ℕ) → IsSpelled (kept_command text)
-IsSpelled-kept text = by (kept_command text) (kept_command-only text)
-  where
-    by : (spelled : Spelled) → Only IsKept IsSyntax spelled → IsSpelled spelled
-    by (Ok (Stream name columns)) is = absurd is
-    by (Ok (Append name lines)) is = absurd is
-    by (Ok (Run name plan)) is = absurd is
-    by (Ok (Fetch name as_run)) is = tt
-    by (Ok (Collect bytes)) is = tt
-    by (Ok Entries) is = tt
-    by (Err why) is = IsForBytes-syntax why is
+-- the commands of which nothing is to be shown
+abbrev IsPlain : Kind → Type 0
+IsPlain OfStream = ⊥
+IsPlain OfAppend = ⊥
+IsPlain OfRun = ⊥
+IsPlain OfOpen = ⊥
+IsPlain _ = ⊤
+
+IsWhole-plain : (command : Command) → IsPlain (kind_of command) → IsWhole command
+IsWhole-plain (Stream name columns) plain = absurd plain
+IsWhole-plain (Append name lines) plain = absurd plain
+IsWhole-plain (Run name plan) plain = absurd plain
+IsWhole-plain (Fetch name as_run) plain = tt
+IsWhole-plain (Collect bytes) plain = tt
+IsWhole-plain Entries plain = tt
+IsWhole-plain (OpenJob job name plan) plain = absurd plain
+IsWhole-plain (Step job) plain = tt
+IsWhole-plain (Close job) plain = tt
+IsWhole-plain (DropJob job) plain = tt
+
+IsSpelled-plain : (kind : Kind) → IsPlain kind → (spelled : Spelled) → Only kind IsSyntax spelled → IsSpelled spelled
+IsSpelled-plain kind plain (Ok command) is = IsWhole-plain command (subst IsPlain (sym is) plain)
+IsSpelled-plain kind plain (Err why) is = IsForBytes-syntax why is
+
+IsSpelled-kind : (kind : Kind) (rest : List ℕ) → IsSpelled (command_by kind rest)
+IsSpelled-kind OfStream rest = IsSpelled-or_syntax (stream_of rest) (IsWhole-line (Some rest))
+IsSpelled-kind OfAppend rest = tt
+IsSpelled-kind OfRun rest = IsSpelled-run (named_run rest) (IsRunWithin-parts (parts_at 61 rest))
+IsSpelled-kind OfFetch rest = IsSpelled-plain OfFetch tt (command_by OfFetch rest) (command_by-only OfFetch rest)
+IsSpelled-kind OfCollect rest = IsSpelled-plain OfCollect tt (command_by OfCollect rest) (command_by-only OfCollect rest)
+IsSpelled-kind OfEntries rest = IsSpelled-plain OfEntries tt (command_by OfEntries rest) (command_by-only OfEntries rest)
+IsSpelled-kind OfOpen rest =
+    let behind : List ℕ = after_first is_space (trimmed rest) in
+    IsSpelled-open (name_if (before_first is_space (trimmed rest))) (named_run behind) (IsRunWithin-parts (parts_at 61 behind))
+IsSpelled-kind OfStep rest = IsSpelled-plain OfStep tt (command_by OfStep rest) (command_by-only OfStep rest)
+IsSpelled-kind OfClose rest = IsSpelled-plain OfClose tt (command_by OfClose rest) (command_by-only OfClose rest)
+IsSpelled-kind OfDrop rest = IsSpelled-plain OfDrop tt (command_by OfDrop rest) (command_by-only OfDrop rest)
+
+IsSpelled-kinds : (kinds : List Kind) (text : List ℕ) → IsSpelled (by_kinds kinds text)
+IsSpelled-kinds [] text = tt
+IsSpelled-kinds (kind ∷ kinds) text = IsSpelled-behind (behind_word (word_of kind) text) (command_by kind) (by_kinds kinds text) (IsSpelled-kind kind) (IsSpelled-kinds kinds text)
 
 IsSpelled-command : (text : List ℕ) → IsSpelled (command_of text)
-IsSpelled-command text =
-    IsSpelled-behind (behind_word (codes "stream") text) stream_command (behind_or (behind_word (codes "run") text) run_of (kept_command text)) (λ rest. IsSpelled-or_syntax (stream_of rest) (IsWhole-line (Some rest)))
-    (IsSpelled-behind (behind_word (codes "run") text) run_of (kept_command text) (λ rest. IsSpelled-run (parts_at 61 rest)) (IsSpelled-kept text))
+IsSpelled-command text = IsSpelled-kinds line_kinds text
 
 -- what is read of a stream's line
 pub stream_is_whole : (rest : List ℕ) (command : Command) → option_and_then stream_of (Some rest) ≡ Some command → IsWhole command

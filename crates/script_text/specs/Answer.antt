@@ -5,12 +5,12 @@ use Rattle.hex.specs.Hex.{encode_lower}
 use Rattle.rows_core.specs.declared.file_ref.Digest.{Digest}
 use Rattle.row_text.specs.RowSpelling.{row_spelling}
 use Rattle.script_text.specs.declared.answer.LimitKind.{LimitKind}
-use Rattle.script_text.specs.declared.answer.LimitKind.TheVariants.{Line, Block, Nodes, Wide, Expr, Text, Extent, Columns, Streams, Extents, AllExtents, PlanText, Programs, Files, Commands, Machine}
+use Rattle.script_text.specs.declared.answer.LimitKind.TheVariants.{Line, Block, Nodes, Wide, Expr, Text, Extent, Columns, Streams, Extents, AllExtents, PlanText, Programs, Jobs, Files, Commands, Machine}
 use Rattle.script_text.specs.declared.answer.Refusal.{Refusal}
 use Rattle.script_text.specs.declared.answer.Refusal.TheVariants.{Limit, Syntax, Unknown, Exists, IllTyped, Row, Fault, Damaged, Unreadable, Overflow, Memory}
 use Rattle.script_text.specs.declared.answer.EntrySummary.{EntrySummary}
 use Rattle.script_text.specs.declared.answer.Answer.{Answer}
-use Rattle.script_text.specs.declared.answer.Answer.TheVariants.{Ok, Held, Result, Evicted, Entries, Refused}
+use Rattle.script_text.specs.declared.answer.Answer.TheVariants.{Ok, Held, Ready, Left, Result, Evicted, Entries, Refused}
 
 -- what is counted, and the most that there may be
 abbrev pub limit_text : LimitKind → List ℕ
@@ -27,6 +27,7 @@ limit_text Extents = codes "extents 65535"
 limit_text AllExtents = codes "allextents 262144"
 limit_text PlanText = codes "plantext 65536"
 limit_text Programs = codes "programs 1024"
+limit_text Jobs = codes "jobs 64"
 limit_text Files = codes "files 4294967295"
 limit_text Commands = codes "commands 4294967295"
 limit_text Machine = codes "machine 4294967295"
@@ -83,6 +84,8 @@ entry_lines entries = (codes "entries " ++ decimal (length entries)) ∷ map ent
 abbrev pub answer_lines : Bool → Answer → List (List ℕ)
 answer_lines quiet Ok = codes "ok" ∷ []
 answer_lines quiet (Held rows) = (codes "ok " ++ decimal rows) ∷ []
+answer_lines quiet (Ready files) = (codes "ok " ++ decimal files) ∷ []
+answer_lines quiet (Left files) = (codes "left " ++ decimal files) ∷ []
 answer_lines quiet (Result rows used kept read) = (codes "rows " ++ decimal (length rows)) ∷ (row_lines quiet rows ++ last_lines used kept read)
 answer_lines quiet (Evicted ids bytes) = evicted_lines ids bytes
 answer_lines quiet (Entries entries) = entry_lines entries

@@ -3,12 +3,14 @@ use Rattle.std.specs.Prelude.{ℕ, ◌≤◌, length, List, ◌++◌, codes, dec
 use Rattle.row_text.specs.RowSpelling.{row_spelling}
 use Rattle.script_text.specs.Answer.{refusal_line, ids_text, entry_line}
 use Rattle.script_text.specs.declared.line_of_answer.AnswerLine.{AnswerLine}
-use Rattle.script_text.specs.declared.line_of_answer.AnswerLine.TheVariants.{Ok, Held, Count, Row, Used, Kept, Read, Evicted, Reclaimed, Entries, Entry, Refused}
+use Rattle.script_text.specs.declared.line_of_answer.AnswerLine.TheVariants.{Ok, Held, Ready, Left, Count, Row, Used, Kept, Read, Evicted, Reclaimed, Entries, Entry, Refused}
 
 -- the line, without its LF
 abbrev pub line_text : AnswerLine → List ℕ
 line_text Ok = codes "ok"
 line_text (Held rows) = codes "ok " ++ decimal rows
+line_text (Ready files) = codes "ok " ++ decimal files
+line_text (Left files) = codes "left " ++ decimal files
 line_text (Count rows) = codes "rows " ++ decimal rows
 line_text (Row row) = row_spelling row.now
 line_text (Used ids) = codes "used " ++ ids_text ids.now

@@ -5,6 +5,7 @@ use Rattle.script_text.specs.StreamLine.{stream_of}
 use Rattle.script_text.specs.RunLine.{run_of}
 use Rattle.script_text.specs.FetchLine.{fetch_of}
 use Rattle.script_text.specs.CollectLine.{collect_of, entries_of}
+use Rattle.script_text.specs.JobLine.{open_of, step_of, close_of, drop_of}
 use Rattle.script_text.specs.Spelled.{Spelled, or_syntax}
 use Rattle.script_text.specs.declared.answer.Refusal.TheVariants.{Syntax}
 
@@ -17,12 +18,20 @@ behind_or None command other = other
 abbrev pub stream_command : List ℕ → Spelled
 stream_command rest = or_syntax (stream_of rest)
 
--- what a line spells that asks for what is kept: rows, room or the list
+-- what a line spells that is of a job
+abbrev pub job_command : List ℕ → Spelled
+job_command text =
+    behind_or (behind_word (codes "open") text) open_of
+    (behind_or (behind_word (codes "step") text) step_of
+    (behind_or (behind_word (codes "close") text) close_of
+    (behind_or (behind_word (codes "drop") text) drop_of (Err Syntax))))
+
+-- what a line spells that asks for what is kept, rows, room or the list, or that is of a job
 abbrev pub kept_command : List ℕ → Spelled
 kept_command text =
     behind_or (behind_word (codes "fetch") text) fetch_of
     (behind_or (behind_word (codes "collect") text) collect_of
-    (behind_or (behind_word (codes "entries") text) entries_of (Err Syntax)))
+    (behind_or (behind_word (codes "entries") text) entries_of (job_command text)))
 
 -- what a line spells that has no spaces at its front
 abbrev pub command_of : List ℕ → Spelled

@@ -3,6 +3,7 @@ pub mod AnswerLine
 pub mod CollectLine
 pub mod Dispatch
 pub mod FetchLine
+pub mod JobLine
 pub mod Line
 pub mod Reader
 pub mod RunLine

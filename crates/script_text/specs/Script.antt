@@ -10,7 +10,7 @@ use Rattle.script_text.specs.declared.answer.LimitKind.TheVariants as limit
 use Rattle.script_text.specs.declared.answer.Refusal.{Refusal}
 use Rattle.script_text.specs.declared.answer.Refusal.TheVariants.{Limit, Syntax, Memory}
 use Rattle.script_text.specs.declared.item.Command.{Command}
-use Rattle.script_text.specs.declared.item.Command.TheVariants.{Stream, Append, Run, Fetch, Collect, Entries}
+use Rattle.script_text.specs.declared.item.Command.TheVariants.{Stream, Append, Run, Fetch, Collect, Entries, OpenJob, Step, Close, DropJob}
 use Rattle.script_text.specs.declared.item.Item.{Item}
 use Rattle.script_text.specs.declared.item.Item.TheVariants as item
 
@@ -134,7 +134,8 @@ pub record Completes (text : List ℕ) (given : Item) : Type 0 where
   pub goes_on : (more : List ℕ) → items (text ++ more) ≡ spelled ∷ items more
   pub ends : (more : List ℕ) → all_items (text ++ more) ≡ spelled ∷ all_items more
 
--- a stream has one column or more, an append one row line or more, and the plan of a run passes no limit of plans as written
+-- a stream has one column or more, an append one row line or more, and the plan of a run or a job passes no limit of plans as
+-- written
 abbrev pub IsWhole : Command → Type 0
 IsWhole (Stream name columns) = 0 < length columns
 IsWhole (Append name lines) = 0 < length lines
@@ -142,6 +143,10 @@ IsWhole (Run name plan) = IsWithinLimits plan
 IsWhole (Fetch name as_run) = ⊤
 IsWhole (Collect bytes) = ⊤
 IsWhole Entries = ⊤
+IsWhole (OpenJob job name plan) = IsWithinLimits plan
+IsWhole (Step job) = ⊤
+IsWhole (Close job) = ⊤
+IsWhole (DropJob job) = ⊤
 
 abbrev pub IsWholeItem : Item → Type 0
 IsWholeItem (item.Command command) = IsWhole command

@@ -1,5 +1,5 @@
 -- The spellings of a command's line: its parts, with any number of spaces before and behind each.
-use Rattle.std.specs.Prelude.{◌≡◌, ℕ, ◌^◌, ◌<◌, List, [], ◌∷◌, ◌++◌, codes, decimal}
+use Rattle.std.specs.Prelude.{◌≡◌, ◌⊎◌, ℕ, ◌^◌, ◌<◌, List, [], ◌∷◌, ◌++◌, codes, decimal}
 use Rattle.std.specs.List.{AllByRecursion}
 use Rattle.rows_core.specs.Kind.{kind_word}
 use Rattle.rows_core.specs.Name.{IsName}
@@ -59,13 +59,17 @@ pub record SpellsStream (name : List ℕ) (columns : List Column) (line : List �
   pub behind : AreSpaces back
   pub whole : line ≡ front ++ (codes "stream" ++ 32 ∷ (named ++ 40 ∷ (listed ++ 41 ∷ back)))
 
--- `append NAME`
-pub record SpellsAppend (name line : List ℕ) : Type 0 where
+-- a first word and `NAME`
+pub record SpellsWithName (word name line : List ℕ) : Type 0 where
   pub front : List ℕ
   pub named : List ℕ
   pub before : AreSpaces front
   pub spells_name : SpellsName name named
-  pub whole : line ≡ front ++ (codes "append" ++ 32 ∷ named)
+  pub whole : line ≡ front ++ (word ++ 32 ∷ named)
+
+-- `append NAME`
+abbrev pub SpellsAppend : List ℕ → List ℕ → Type 0
+SpellsAppend = SpellsWithName (codes "append")
 
 -- `run NAME = PLAN`, whatever stands for the plan
 pub record SpellsRunOf (name text line : List ℕ) : Type 0 where
@@ -79,17 +83,50 @@ pub record SpellsRunOf (name text line : List ℕ) : Type 0 where
 abbrev pub SpellsRun : List ℕ → PlainTree → List ℕ → Type 0
 SpellsRun name plan line = (text : List ℕ) × SpellsRunOf name text line × SpellsText plan text × IsWithinLimits plan
 
--- `run NAME = PLAN`, with a plan of which this is the first limit that it passes
-abbrev pub SpellsTooLarge : PlanLimit → List ℕ → Type 0
-SpellsTooLarge what line = (name : List ℕ) × (text : List ℕ) × SpellsRunOf name text line × ((plan : PlainTree) × SpellsText plan text × IsFirstPassed what plan)
-
--- `fetch NAME`
-pub record SpellsFetch (name line : List ℕ) : Type 0 where
+-- `open JOB NAME = PLAN`, whatever stands for the plan
+pub record SpellsOpenOf (job name text line : List ℕ) : Type 0 where
   pub front : List ℕ
+  pub between : List ℕ
   pub named : List ℕ
   pub before : AreSpaces front
+  pub before_job : AreSpaces between
+  pub is_job : IsName job
   pub spells_name : SpellsName name named
-  pub whole : line ≡ front ++ (codes "fetch" ++ 32 ∷ named)
+  pub whole : line ≡ front ++ (codes "open" ++ 32 ∷ (between ++ (job ++ 32 ∷ (named ++ 61 ∷ text))))
+
+-- `open JOB NAME = PLAN`, with a plan within the limits
+abbrev pub SpellsOpen : List ℕ → List ℕ → PlainTree → List ℕ → Type 0
+SpellsOpen job name plan line = (text : List ℕ) × SpellsOpenOf job name text line × SpellsText plan text × IsWithinLimits plan
+
+-- a plan of which this is the first limit that it passes
+abbrev pub SpellsLarge : PlanLimit → List ℕ → Type 0
+SpellsLarge what text = (plan : PlainTree) × SpellsText plan text × IsFirstPassed what plan
+
+abbrev pub SpellsLargeRun : PlanLimit → List ℕ → Type 0
+SpellsLargeRun what line = (name : List ℕ) × (text : List ℕ) × SpellsRunOf name text line × SpellsLarge what text
+
+abbrev pub SpellsLargeOpen : PlanLimit → List ℕ → Type 0
+SpellsLargeOpen what line = (job : List ℕ) × (name : List ℕ) × (text : List ℕ) × SpellsOpenOf job name text line × SpellsLarge what text
+
+-- `run NAME = PLAN` or `open JOB NAME = PLAN`, with a plan of which this is the first limit that it passes
+abbrev pub SpellsTooLarge : PlanLimit → List ℕ → Type 0
+SpellsTooLarge what line = SpellsLargeRun what line ⊎ SpellsLargeOpen what line
+
+-- `step JOB`
+abbrev pub SpellsStep : List ℕ → List ℕ → Type 0
+SpellsStep = SpellsWithName (codes "step")
+
+-- `close JOB`
+abbrev pub SpellsClose : List ℕ → List ℕ → Type 0
+SpellsClose = SpellsWithName (codes "close")
+
+-- `drop JOB`
+abbrev pub SpellsDrop : List ℕ → List ℕ → Type 0
+SpellsDrop = SpellsWithName (codes "drop")
+
+-- `fetch NAME`
+abbrev pub SpellsFetch : List ℕ → List ℕ → Type 0
+SpellsFetch = SpellsWithName (codes "fetch")
 
 -- `fetch NAME as-run`
 pub record SpellsFetchAsRun (name line : List ℕ) : Type 0 where

@@ -41,6 +41,8 @@ pub enum LimitKind {
     PlanText,
     /// `programs 1024`: the names that stand for a plan.
     Programs,
+    /// `jobs 64`: the open jobs.
+    Jobs,
     /// `files 4294967295`: the numbers of extent and result files that were ever given.
     Files,
     /// `commands 4294967295`: the recorded commands of the folder's life.
@@ -56,9 +58,9 @@ pub enum Refusal {
     Limit(LimitKind),
     /// `refused syntax`: the bytes spell no command.
     Syntax,
-    /// `refused unknown NAME`: there is no stream of this name.
+    /// `refused unknown NAME`: no stream, program or open job has this name.
     Unknown(Name),
-    /// `refused exists NAME`: there is a stream of this name already.
+    /// `refused exists NAME`: a stream or an open job has this name already.
     Exists(Name),
     /// `refused type`: two columns have one name, or the plan has no typing.
     IllTyped,
@@ -114,6 +116,10 @@ pub enum Answer {
     Ok,
     /// `ok N`: the rows that the stream now holds.
     Held(u64),
+    /// `ok N`: the files that the job reads.
+    Ready(u64),
+    /// `left N`: the files that are still to be read.
+    Left(u64),
     /// `rows N`, the rows, and then `used IDS`, `kept IDS` and `read B`.
     Result {
         /// The rows of the result.
@@ -142,7 +148,7 @@ pub fn line_count(answer: &Answer, quiet: bool) -> u64
     ensures { result ≡ length (answer_lines quiet answer.now) }
 {
     match answer {
-        Answer::Ok | Answer::Held(_) | Answer::Refused(_) => 1,
+        Answer::Ok | Answer::Held(_) | Answer::Ready(_) | Answer::Left(_) | Answer::Refused(_) => 1,
         Answer::Result { .. } if quiet => 4,
         Answer::Result { rows, .. } => rows.items().len() as u64 + 4,
         Answer::Evicted { .. } => 2,
@@ -177,6 +183,8 @@ fn print_answer_line(line: &AnswerLine, to: &mut Vec<u8>) -> Result<(), Memory>
     match line {
         AnswerLine::Ok => append_line(to, b"ok", b""),
         AnswerLine::Held(rows) => append_number_line(to, b"ok ", *rows),
+        AnswerLine::Ready(files) => append_number_line(to, b"ok ", *files),
+        AnswerLine::Left(files) => append_number_line(to, b"left ", *files),
         AnswerLine::Count(rows) => append_number_line(to, b"rows ", *rows),
         AnswerLine::Row(row) => print_row_line(row, to),
         AnswerLine::Used(ids) => print_ids(b"used ", ids, to),
@@ -231,6 +239,7 @@ fn limit_text(kind: LimitKind) -> &'static [u8]
         LimitKind::AllExtents => b"allextents 262144",
         LimitKind::PlanText => b"plantext 65536",
         LimitKind::Programs => b"programs 1024",
+        LimitKind::Jobs => b"jobs 64",
         LimitKind::Files => b"files 4294967295",
         LimitKind::Commands => b"commands 4294967295",
         LimitKind::Machine => b"machine 4294967295",

@@ -1,6 +1,6 @@
 //! A command's line, by its first word.
 ghost use Rattle.std.specs.Prelude.{IfOk};
-ghost use Rattle.script_text.specs.Dispatch.{command_of, kept_command, stream_command};
+ghost use Rattle.script_text.specs.Dispatch.{command_of, kept_command, job_command, stream_command};
 ghost use Rattle.script_text.specs.Script.{IsWhole};
 ghost use Rattle.script_text.specs.Spelled.{IsReadOf};
 
@@ -8,9 +8,13 @@ use crate::answer::Refusal;
 use crate::collect_line::{collect_of, entries_of};
 use crate::fetch_line::fetch_of;
 use crate::item::Command;
+use crate::job_line::{job_of, open_of};
 use crate::run_line::run_of;
 use crate::stream_line::stream_of;
-use crate::words::{behind_collect, behind_entries, behind_fetch, behind_run, behind_stream};
+use crate::words::{
+    behind_close, behind_collect, behind_drop, behind_entries, behind_fetch, behind_open,
+    behind_run, behind_step, behind_stream,
+};
 use rows_core::Memory;
 use std::alloc::Global;
 
@@ -29,7 +33,7 @@ pub fn line_command(alloc: Global, text: &[u8]) -> Result<Command, Refusal>
     }
 }
 
-// The command of a line that asks for what is kept: rows, room or the list.
+// The command of a line that asks for what is kept, rows, room or the list, or that is of a job.
 fn kept_command(alloc: Global, text: &[u8]) -> Result<Command, Refusal>
     ensures read { IsReadOf (kept_command text.now) result }
     ensures whole { IfOk result IsWhole }
@@ -42,8 +46,31 @@ fn kept_command(alloc: Global, text: &[u8]) -> Result<Command, Refusal>
     }
     match behind_entries(text) {
         Some(rest) => entries_of(rest),
-        None => Err(Refusal::Syntax),
+        None => job_command(alloc, text),
     }
+}
+
+// The command of a line that is of a job.
+fn job_command(alloc: Global, text: &[u8]) -> Result<Command, Refusal>
+    ensures read { IsReadOf (job_command text.now) result }
+    ensures whole { IfOk result IsWhole }
+{
+    if let Some(rest) = behind_open(text) {
+        return open_of(alloc, rest);
+    }
+    if let Some(rest) = behind_step(text) {
+        let job = job_of(alloc, rest)?;
+        return Ok(Command::Step { job });
+    }
+    if let Some(rest) = behind_close(text) {
+        let job = job_of(alloc, rest)?;
+        return Ok(Command::Close { job });
+    }
+    let Some(rest) = behind_drop(text) else {
+        return Err(Refusal::Syntax);
+    };
+    let job = job_of(alloc, rest)?;
+    Ok(Command::DropJob { job })
 }
 
 // The making of a stream, of which this stands behind its first word.

@@ -12,19 +12,52 @@ use rows_core::{Column, Name, Seq, Text};
 pub enum Command {
     /// Makes a stream. It has one column or more, as written: names may repeat, and there may be more than a
     /// schema has.
-    Stream { name: Name, columns: Seq<Column> },
+    Stream {
+        name: Name,
+        columns: Seq<Column>,
+    },
     /// Appends rows to a stream. There is one row line or more, as written and without its LF, blank ones
     /// too.
-    Append { name: Name, lines: Seq<Text> },
+    Append {
+        name: Name,
+        lines: Seq<Text>,
+    },
     /// Runs a plan, which then goes by the name. It passes no limit of plans as written.
-    Run { name: Name, plan: NamedPlan },
+    Run {
+        name: Name,
+        plan: NamedPlan,
+    },
     /// Answers the rows of the plan that goes by the name: on all extents, or with `as_run` on those of its
     /// last run.
-    Fetch { name: Name, as_run: bool },
+    Fetch {
+        name: Name,
+        as_run: bool,
+    },
     /// Evicts kept results until their files had this many bytes together, or none is left that may go.
-    Collect { bytes: u64 },
+    Collect {
+        bytes: u64,
+    },
     /// Tells the kept results.
     Entries,
+    /// Opens a job, which is to run a plan in steps; from its close on the plan goes by the name. It passes no
+    /// limit of plans as written.
+    OpenJob {
+        job: Name,
+        name: Name,
+        plan: NamedPlan,
+    },
+    /// Reads the next file of an open job.
+    Step {
+        job: Name,
+    },
+    /// Reads the files that an open job is still to read, and ends it with its result.
+    Close {
+        job: Name,
+    },
+    /// Gives an open job up.
+    DropJob {
+        job: Name,
+    },
 }
 
 /// What the reader of a script gives for each command, in the order of the script.
@@ -37,7 +70,7 @@ pub enum Item {
 }
 
 /// Each stream that a script spells has one column or more, each append one row line or more, and the plan of
-/// each run passes no limit of plans as written.
+/// each run and of each job passes no limit of plans as written.
 pub fn commands_are_whole()
     ensures front { (bytes : List ℕ) → AllByRecursion IsWholeItem (items bytes) }
     ensures all { (bytes : List ℕ) → AllByRecursion IsWholeItem (all_items bytes) }

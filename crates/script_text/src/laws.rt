@@ -29,6 +29,8 @@ fn answer_line_is_short(line: &AnswerLine)
     match line {
         AnswerLine::Ok => {}
         AnswerLine::Held(number)
+        | AnswerLine::Ready(number)
+        | AnswerLine::Left(number)
         | AnswerLine::Count(number)
         | AnswerLine::Read(number)
         | AnswerLine::Reclaimed(number)

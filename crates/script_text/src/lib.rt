@@ -9,6 +9,7 @@ mod entry_line;
 mod fetch_line;
 mod file_lines;
 pub mod item;
+mod job_line;
 pub mod laws;
 mod line;
 pub mod line_of_answer;
@@ -25,6 +26,6 @@ pub use item::{Command, Item, commands_are_whole, refusals_are_for_the_bytes};
 pub use laws::line_is_short;
 pub use lines::Lines;
 pub use spelling::{
-    append_spelling, collect_spelling, entries_spelling, fetch_spelling, run_spelling,
-    stream_spelling,
+    append_spelling, collect_spelling, entries_spelling, fetch_spelling, job_spelling,
+    open_spelling, run_spelling, stream_spelling,
 };

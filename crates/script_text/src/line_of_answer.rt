@@ -15,6 +15,10 @@ pub enum AnswerLine<'a> {
     Ok,
     /// The rows that a stream now holds.
     Held(u64),
+    /// The files that a job reads.
+    Ready(u64),
+    /// The files that a job is still to read.
+    Left(u64),
     /// The number of a result's rows.
     Count(u64),
     /// A row of a result.
@@ -45,6 +49,8 @@ pub fn line_of(answer: &Answer, quiet: bool, line: u64) -> AnswerLine
     match answer {
         Answer::Ok => AnswerLine::Ok,
         Answer::Held(rows) => AnswerLine::Held(*rows),
+        Answer::Ready(files) => AnswerLine::Ready(*files),
+        Answer::Left(files) => AnswerLine::Left(*files),
         Answer::Refused(refusal) => AnswerLine::Refused(refusal),
         Answer::Result {
             rows,

@@ -7,9 +7,11 @@ ghost use Rattle.plan_grammar.specs.PlainNamed.{PlainTree};
 ghost use Rattle.plan_grammar.specs.declared.limit.PlanLimit.{PlanLimit};
 ghost use Rattle.script_text.specs.RunLine.{limit_of};
 ghost use Rattle.script_text.specs.Spelling.{SpellsStream, SpellsAppend, SpellsRun, SpellsTooLarge};
+ghost use Rattle.script_text.specs.Spelling.{SpellsOpen, SpellsStep, SpellsClose, SpellsDrop};
 ghost use Rattle.script_text.specs.Spelling.{SpellsFetch, SpellsFetchAsRun, SpellsCollect, SpellsEntries};
 ghost use Rattle.script_text.specs.declared.answer.Refusal.TheVariants.{Limit};
 ghost use Rattle.script_text.specs.declared.item.Command.TheVariants.{Stream, Run, Fetch, Collect, Entries};
+ghost use Rattle.script_text.specs.declared.item.Command.TheVariants.{OpenJob, Step, Close, DropJob};
 
 use plan_parser::plan_laws::texts_are_read;
 
@@ -27,8 +29,8 @@ pub fn append_spelling()
 {}
 
 /// A run is read from a line exactly where the line spells `run NAME = PLAN` with a plan within the limits,
-/// and the limit exactly where it spells it with a plan that passes this one first; any number of spaces may
-/// stand before, between and behind the parts.
+/// and a limit exactly where it spells that or `open JOB NAME = PLAN` with a plan that passes this one first;
+/// any number of spaces may stand before, between and behind the parts.
 pub fn run_spelling()
     ensures run { (name : List ℕ) (plan : PlainTree) (line : List ℕ) →
         ((line_command line ≡ Ok (Run name plan)) ↔ SpellsRun name plan line) }
@@ -37,6 +39,25 @@ pub fn run_spelling()
 {
     texts_are_read();
 }
+
+/// The opening of a job is read from a line exactly where the line spells `open JOB NAME = PLAN` with a plan
+/// within the limits, with any number of spaces before, between and behind the parts, and at least one
+/// between the job and the name.
+pub fn open_spelling()
+    ensures { (job name : List ℕ) (plan : PlainTree) (line : List ℕ) →
+        ((line_command line ≡ Ok (OpenJob job name plan)) ↔ SpellsOpen job name plan line) }
+{
+    texts_are_read();
+}
+
+/// A step, a close or the giving up of a job is read from a line exactly where the line spells `step JOB`,
+/// `close JOB` or `drop JOB`, with any number of spaces before, between and behind the words, and at least
+/// one between them.
+pub fn job_spelling()
+    ensures step { (job line : List ℕ) → ((line_command line ≡ Ok (Step job)) ↔ SpellsStep job line) }
+    ensures close { (job line : List ℕ) → ((line_command line ≡ Ok (Close job)) ↔ SpellsClose job line) }
+    ensures drop { (job line : List ℕ) → ((line_command line ≡ Ok (DropJob job)) ↔ SpellsDrop job line) }
+{}
 
 /// A fetch is read from a line exactly where the line spells `fetch NAME`, and one of the last run exactly
 /// where it spells `fetch NAME as-run`, with any number of spaces before, between and behind the words, and

@@ -73,6 +73,34 @@ pub fn behind_entries(text: &[u8]) -> Option<&[u8]>
     behind_word(b"entries", text)
 }
 
+/// What stands behind `open`, where it is the first word of a line without spaces at its front.
+pub fn behind_open(text: &[u8]) -> Option<&[u8]>
+    ensures { option_copied result ≡ behind_word (codes "open") text.now }
+{
+    behind_word(b"open", text)
+}
+
+/// What stands behind `step`, where it is the first word of a line without spaces at its front.
+pub fn behind_step(text: &[u8]) -> Option<&[u8]>
+    ensures { option_copied result ≡ behind_word (codes "step") text.now }
+{
+    behind_word(b"step", text)
+}
+
+/// What stands behind `close`, where it is the first word of a line without spaces at its front.
+pub fn behind_close(text: &[u8]) -> Option<&[u8]>
+    ensures { option_copied result ≡ behind_word (codes "close") text.now }
+{
+    behind_word(b"close", text)
+}
+
+/// What stands behind `drop`, where it is the first word of a line without spaces at its front.
+pub fn behind_drop(text: &[u8]) -> Option<&[u8]>
+    ensures { option_copied result ≡ behind_word (codes "drop") text.now }
+{
+    behind_word(b"drop", text)
+}
+
 /// The one word of a text, where it is a name.
 pub fn only_name(alloc: Global, text: &[u8]) -> Result<Option<Name>, Memory>
     ensures { IfOk result (λ name. name ≡ only_name text.now) }
