@@ -10,13 +10,11 @@ use Rattle.std.proofs.lemmas.Bool.Decides.{nat_tests}
 use Rattle.std.proofs.lemmas.List.Elements.{All-contains, All-from_recursion, Contains-get_or, recursion_from_All}
 use Rattle.std.proofs.lemmas.List.Sums.{list_all-from_AllPass}
 use Rattle.std.proofs.lemmas.Map.Keys.{sorted_from_strictly_increasing, sorted_head, sorted_tail}
-use Rattle.rewrite_core.specs.Entries.{Entry, Entries}
 use Rattle.rewrite_core.specs.Files as rewriting
 use Rattle.rewrite_core.specs.Files.{FileName, ids_in}
 use Rattle.catalog_types.specs.PlainEntry.{PlainEntry}
 use Rattle.entry_table.specs.Ids.{AreIdsOf, ascend_above, ids_of, is_there}
 use Rattle.entry_table.proofs.Places.{both}
-use Rattle.plan_choice.proofs.NamedEntries.{IsIdOf}
 
 and_true : (b c : Bool) → b ≡ true → c ≡ true → b && c ≡ true
 and_true true c first second = second
@@ -91,15 +89,16 @@ few_ids es ids order are = no_more 0 es ids order are.ascend are.there
 
 -- ---- the ids that files name
 
-module _ (es : List PlainEntry) (entries : Entries) (order : ascend_above 0 (ids_of es) ≡ true) (present : (e : Entry) → Contains entries e → IsTrue (is_there es e.id))
-    (files : List FileName) (ids : List ℕ) (of_entries : AllByRecursion (IsIdOf entries) (ids_in files)) (are : rewriting.AreIdsOf files ids) where
-  each_there : (id : ℕ) → Contains ids id → is_there es id ≡ true
-  each_there id has =
-      let e = All-contains (IsIdOf entries) (ids_in files) id (All-from_recursion (IsIdOf entries) (ids_in files) of_entries) ((are.named id).0 has) in
-      subst (λ (n : ℕ). is_there es n ≡ true) e.2 (present e.0 e.1)
+module _ (es : List PlainEntry) (order : ascend_above 0 (ids_of es) ≡ true) (files : List FileName) (ids : List ℕ) (all : AllByRecursion (λ (id : ℕ). IsTrue (is_there es id)) (ids_in files))
+    (are : rewriting.AreIdsOf files ids) where
+  abbrev IsThere : ℕ → Type 0
+  IsThere id = IsTrue (is_there es id)
 
-  pub ids_of_entries : AreIdsOf es ids
-  ids_of_entries =
+  each_there : (id : ℕ) → Contains ids id → is_there es id ≡ true
+  each_there id has = All-contains IsThere (ids_in files) id (All-from_recursion IsThere (ids_in files) all) ((are.named id).0 has)
+
+  pub ids_are_of : AreIdsOf es ids
+  ids_are_of =
       let each : (k d : ℕ) → k < length ids → is_there es (get_or ids k d) ≡ true = λ k d low. each_there (get_or ids k d) (Contains-get_or ids k d low) in
       let above = recursion_from_All (λ id. nat_cmp 0 id ≡ Less) ids (λ k d low. comes_less 0 (get_or ids k d) (id_above 0 es (get_or ids k d) order (each k d low))) in
       record {

@@ -1,5 +1,7 @@
 pub mod NamedBytes
-pub mod NamedEntries
+pub mod NamedPieces
 pub mod KeptIds
 pub mod NormalForms
 pub mod OwnParts
+pub mod PieceFiles
+pub mod Serving

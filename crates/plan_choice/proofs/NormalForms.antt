@@ -1,7 +1,5 @@
--- What a plan's normal form has of the plan, and the files of a table that a rewriting names.
-use Rattle.std.proofs.Common.{◌≡◌, refl, sym, subst, ℕ, List, [], ◌∷◌, length, Result, Ok, Err, IsOk}
-use Rattle.std.specs.Prelude.{IsTrue}
-use Rattle.std.specs.List.{Contains}
+-- What a plan's normal form has of the plan.
+use Rattle.std.proofs.Common.{◌≡◌, refl, sym, subst, ℕ, List, Result, Ok, Err, IsOk}
 use Rattle.std.proofs.lemmas.Bool.{false≢true}
 use Rattle.plan_core.specs.PlainPlan.{PlainPlan, leaves}
 use Rattle.plan_core.specs.PlanTyping.{Kinds, plan_typing}
@@ -12,15 +10,8 @@ use Rattle.plan_canon.proofs.NormalPlans.{plan_ends}
 use Rattle.plan_canon.proofs.Reached.{one_end}
 use Rattle.plan_canon.proofs.StepTyping.{all_steps_leaves, all_steps_typing}
 use Rattle.estimator.specs.Cuts.{Cuts}
-use Rattle.rewrite_core.specs.Entries.{Entry, Entries}
-use Rattle.rewrite_core.specs.Files.{FileName, Extent}
-use Rattle.rewrite_core.specs.Files as file
-use Rattle.growth_laws.specs.There.{ExtentCounts, EndWithin, IsThere}
 use Rattle.catalog_types.specs.declared.snapshot.StreamState.{StreamState}
-use Rattle.entry_table.specs.Ids.{is_there}
-use Rattle.catalog_core.specs.Named.{HasFile}
-use Rattle.catalog_core.specs.Programs.{extents_at, kinds_of_streams, AreCuts}
-use Rattle.catalog_core.specs.Table.{Table}
+use Rattle.catalog_core.specs.Programs.{kinds_of_streams, AreCuts}
 
 -- a plan has one normal form, the one that the steps lead to
 pub normal_is : (schemas : List Kinds) (plan form : PlainPlan) → IsNormalFormOf schemas plan form → normal_plan schemas plan ≡ form
@@ -40,23 +31,6 @@ form_typed schemas plan form is typed =
 
 -- ---- cuts of a table's streams
 
--- how many extents each stream has
-abbrev pub counts_of : List StreamState → ExtentCounts
-counts_of streams = λ stream. length (extents_at streams stream)
-
-pub cuts_within : (streams : List StreamState) (leaves : List ℕ) (cuts : Cuts) → AreCuts streams leaves cuts → EndWithin (counts_of streams) leaves cuts
-cuts_within streams [] [] are = tt
-cuts_within streams [] (cut ∷ cuts) are = absurd are
-cuts_within streams (leaf ∷ leaves) [] are = absurd are
-cuts_within streams (leaf ∷ leaves) (cut ∷ cuts) are = (are.0.1, cuts_within streams leaves cuts are.1)
-
 -- those of a plan are those of its normal form
 pub form_cuts : (streams : List StreamState) (plan form : PlainPlan) (cuts : Cuts) → IsNormalFormOf (kinds_of_streams streams) plan form → AreCuts streams (leaves plan) cuts → AreCuts streams (leaves form) cuts
 form_cuts streams plan form cuts is are = subst (λ (ls : List ℕ). AreCuts streams ls cuts) (sym (form_leaves (kinds_of_streams streams) plan form is)) are
-
--- ---- files
-
--- the files that are there are the table's
-pub file_there : (t : Table) (entries : Entries) → ((e : Entry) → Contains entries e → IsTrue (is_there t.entries e.id)) → (name : FileName) → IsThere entries (counts_of t.streams) name → HasFile t name
-file_there t entries present (Extent stream number) is = is
-file_there t entries present (file.Result id) is = subst (λ (n : ℕ). IsTrue (is_there t.entries n)) is.2 (present is.0 is.1)

@@ -13,7 +13,7 @@ ghost use Rattle.catalog_core.specs.Named.{lengths_of};
 ghost use Rattle.catalog_core.specs.Programs.{kinds_of_streams, AreCuts};
 ghost use Rattle.plan_choice.specs.Taken.{IsChoice};
 
-use crate::laws::{bytes_of_named_files, taken_rewritings};
+use crate::laws::{bytes_of_named_files, serving_rewritings, taken_rewritings};
 use catalog_core::{Catalog, cuts_of_tables};
 use plan_canon::canon;
 use plan_core::Typed;
@@ -45,6 +45,7 @@ pub fn choose(alloc: Global, catalog: &Catalog, plan: Typed, cuts: &[Cut]) -> Re
     ensures literals { IfOk result (λ choice. HasValidLiterals (plan_of choice.rewriting.plan)) }
 {
     taken_rewritings();
+    serving_rewritings();
     bytes_of_named_files();
     cuts_of_tables();
     let normal = normal_form(alloc, catalog, plan)?;

@@ -1,4 +1,5 @@
-//! Laws of rewritings that are taken. Each is a function that does nothing, whose contract is the law.
+//! Laws of rewritings that are taken, and of those that serve. Each is a function that does nothing, whose
+//! contract is the law.
 ghost use Rattle.std.specs.Prelude.{◌≡◌, ◌≤◌, ℕ, [], List, length, IsOk};
 ghost use Rattle.std.specs.List.{AllByRecursion};
 ghost use Rattle.plan_core.specs.Nesting.{expr_count, node_count, nesting};
@@ -9,6 +10,7 @@ ghost use Rattle.estimator.specs.Cuts.{Cuts};
 ghost use Rattle.rewrite_core.specs.Files.{AreIdsOf, files_of};
 ghost use Rattle.rewrite_core.specs.IsRewriting.{IsRewriting, among, whichever};
 ghost use Rattle.rewrite_core.specs.PlainRewriting.{PlainRewriting};
+ghost use Rattle.growth_laws.specs.Pieces.{pieces_of};
 ghost use Rattle.rewriter.specs.Reads.{reads_of};
 ghost use Rattle.cache_index.specs.Asked.{asked};
 ghost use Rattle.entry_table.specs.Ids as kept;
@@ -17,10 +19,11 @@ ghost use Rattle.catalog_core.specs.Named.{HasFile, lengths_of, bytes_named};
 ghost use Rattle.catalog_core.specs.Programs.{kinds_of_streams, AreCuts};
 ghost use Rattle.catalog_core.specs.Results.{IsOver};
 ghost use Rattle.catalog_core.specs.Table.{Table};
-ghost use Rattle.plan_choice.specs.Taken.{IsTaken};
+ghost use Rattle.plan_choice.specs.Pieces.{IsPieceOf};
+ghost use Rattle.plan_choice.specs.Taken.{IsTaken, Serves};
 
 use catalog_core::{cuts_of_tables, kept_results_of_tables};
-use growth_laws::named_files_are_there;
+use growth_laws::files_of_pieces;
 use plan_canon::laws::{normal_plans_are_not_deep, normal_plans_mean_the_same};
 use rewriter::laws::rewritings_are_formed;
 
@@ -35,42 +38,52 @@ pub fn bytes_of_named_files()
     cuts_of_tables();
 }
 
-/// A rewriting that is taken of a plan is well formed, of a normal plan with the plan's leaves that is typed
-/// over the streams, where the plan is, and means the same. Where the plan is within the limits of written
-/// plans, the normal plan is not deep. The files that the rewriting names are there, and the ids that it
-/// reads are of kept results, few enough, and ascend.
+/// A rewriting that is taken of a plan serves for it, and goes on serving as other results are kept.
 pub fn taken_rewritings()
+    ensures serves { (t : Table) (plan normal : PlainPlan) (cuts : Cuts) (r : PlainRewriting)
+        → IsTaken t plan normal cuts r → Serves t plan normal cuts r }
+{}
+
+/// A rewriting that serves for a plan is well formed, of a normal plan with the plan's leaves that is typed
+/// over the streams, where the plan is, and means the same. Where the plan is within the limits of written
+/// plans, the normal plan is not deep. Each of its pieces is a kept result with its plan, or extents that are
+/// there; so the files that it names are there, and the ids that it reads are of kept results, few enough,
+/// and ascend.
+pub fn serving_rewritings()
     ensures formed { (t : Table) (plan normal : PlainPlan) (cuts : Cuts) (r : PlainRewriting) → IsTable t
-        → IsTaken t plan normal cuts r → IsRewriting whichever normal cuts r }
+        → Serves t plan normal cuts r → IsRewriting whichever normal cuts r }
     ensures over { (t : Table) (plan normal : PlainPlan) (cuts : Cuts) (r : PlainRewriting)
-        → IsTaken t plan normal cuts r → IsOk (plan_typing (kinds_of_streams t.streams) plan)
+        → Serves t plan normal cuts r → IsOk (plan_typing (kinds_of_streams t.streams) plan)
         → AreCuts t.streams (leaves plan) cuts → IsOver t.streams normal cuts }
     ensures length { (t : Table) (plan normal : PlainPlan) (cuts : Cuts) (r : PlainRewriting)
-        → IsTaken t plan normal cuts r → AreCuts t.streams (leaves plan) cuts
+        → Serves t plan normal cuts r → AreCuts t.streams (leaves plan) cuts
         → length cuts ≡ leaf_count normal }
     ensures leaves { (t : Table) (plan normal : PlainPlan) (cuts : Cuts) (r : PlainRewriting)
-        → IsTaken t plan normal cuts r → leaves normal ≡ leaves plan }
+        → Serves t plan normal cuts r → leaves normal ≡ leaves plan }
     ensures normal { (t : Table) (plan normal : PlainPlan) (cuts : Cuts) (r : PlainRewriting)
-        → IsTaken t plan normal cuts r → IsNormal (kinds_of_streams t.streams) normal }
+        → Serves t plan normal cuts r → IsNormal (kinds_of_streams t.streams) normal }
     ensures meaning { (t : Table) (plan normal : PlainPlan) (cuts : Cuts) (r : PlainRewriting)
-        → IsTaken t plan normal cuts r → IsOk (plan_typing (kinds_of_streams t.streams) plan)
+        → Serves t plan normal cuts r → IsOk (plan_typing (kinds_of_streams t.streams) plan)
         → MeanTheSame (kinds_of_streams t.streams) plan normal }
     ensures deep { (t : Table) (plan normal : PlainPlan) (cuts : Cuts) (r : PlainRewriting)
-        → IsTaken t plan normal cuts r → node_count plan ≤ 40 → expr_count plan ≤ 512
+        → Serves t plan normal cuts r → node_count plan ≤ 40 → expr_count plan ≤ 512
         → nesting normal ≤ 1024 }
-    ensures there { (t : Table) (plan normal : PlainPlan) (cuts : Cuts) (r : PlainRewriting)
-        → IsTaken t plan normal cuts r → AreCuts t.streams (leaves plan) cuts
+    ensures pieces { (t : Table) (plan normal : PlainPlan) (cuts : Cuts) (r : PlainRewriting) → IsTable t
+        → Serves t plan normal cuts r → AreCuts t.streams (leaves plan) cuts
+        → AllByRecursion (IsPieceOf t) (pieces_of r) }
+    ensures there { (t : Table) (plan normal : PlainPlan) (cuts : Cuts) (r : PlainRewriting) → IsTable t
+        → Serves t plan normal cuts r → AreCuts t.streams (leaves plan) cuts
         → AllByRecursion (HasFile t) (files_of r) }
     ensures ids { (t : Table) (plan normal : PlainPlan) (cuts : Cuts) (r : PlainRewriting) (ids : List ℕ)
-        → IsTable t → IsTaken t plan normal cuts r → AreIdsOf (files_of r) ids
-        → kept.AreIdsOf t.entries ids }
+        → IsTable t → Serves t plan normal cuts r → AreCuts t.streams (leaves plan) cuts
+        → AreIdsOf (files_of r) ids → kept.AreIdsOf t.entries ids }
     ensures few { (t : Table) (plan normal : PlainPlan) (cuts : Cuts) (r : PlainRewriting) (ids : List ℕ)
-        → IsTable t → IsTaken t plan normal cuts r → AreIdsOf (files_of r) ids → length ids ≤ 4096 }
+        → IsTable t → Serves t plan normal cuts r → AreCuts t.streams (leaves plan) cuts
+        → AreIdsOf (files_of r) ids → length ids ≤ 4096 }
 {
-    rewritings_are_formed();
     normal_plans_mean_the_same();
     normal_plans_are_not_deep();
-    named_files_are_there();
+    files_of_pieces();
     kept_results_of_tables();
     cuts_of_tables();
 }

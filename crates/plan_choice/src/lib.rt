@@ -5,4 +5,4 @@ pub mod choosing;
 pub mod laws;
 
 pub use choosing::{Choice, choose};
-pub use laws::{bytes_of_named_files, taken_rewritings};
+pub use laws::{bytes_of_named_files, serving_rewritings, taken_rewritings};

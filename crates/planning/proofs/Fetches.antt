@@ -69,14 +69,16 @@ module _ (t : Table) (program : Program) (stored : StoredPlan) (is : IsStoredPla
   is_planned limits cuts same low =
       let within = limits (names_of t.streams) (columns_of t.streams) is.is_plan.tree stored.typed.plan is.is_plan.bound is.is_plan.canonical.1 in
       record {
-        plan = refl;
-        over = is.typed;
-        cuts_are = same;
-        are_cuts = subst (AreCuts t.streams (leaves stored.typed.plan)) (sym same) their_cuts;
+        typed_at = record {
+          plan = refl;
+          over = is.typed;
+          cuts_are = same;
+          are_cuts = subst (AreCuts t.streams (leaves stored.typed.plan)) (sym same) their_cuts;
+          nodes = within.0;
+          exprs = within.1;
+          few_leaves = within.2;
+        };
         counted = low;
-        nodes = within.0;
-        exprs = within.1;
-        few_leaves = within.2;
       }
 
 -- what is found by the name is the program of the fetch

@@ -4,4 +4,5 @@ pub mod Fetches
 pub mod ReadingLemmas
 pub mod RunLemmas
 pub mod Stored
+pub mod Openings
 pub mod Runs

@@ -24,7 +24,7 @@ use Rattle.catalog_core.specs.Table.{Table}
 use Rattle.script_text.specs.declared.answer.Refusal.{Refusal}
 use Rattle.script_text.specs.declared.answer.LimitKind.TheVariants as limit
 use Rattle.script_text.specs.declared.answer.Refusal.TheVariants.{Memory, Limit, Fault}
-use Rattle.planning.specs.Running.{Run, bound_plan, typing_of, unbound, running, running_bound, running_typed, run_of, storing}
+use Rattle.planning.specs.Running.{Run, bound_plan, typing_of, unbound, untyped, typed_refusal, bound_refusal, plan_refusal, running, running_bound, running_typed, run_of, storing}
 
 -- ---- the streams of a bound plan are there
 
@@ -79,25 +79,35 @@ module _ (streams : List StreamState) (tree : PlainTree) (plan : PlainPlan) (bou
 abbrev pub typing_refusal : PlanRefusal → Result Kinds PlanRefusal → Type 0
 typing_refusal why typed = MeansTyping {A = TypedPlan} (λ t. t.kinds) (Err why) typed
 
-module _ (t : Table) (tree : PlainTree) where
+module _ (streams : List StreamState) (tree : PlainTree) where
   -- a plan whose names stand for nothing
-  pub refused_unbound : (why : BindRefusal) → binder.Binds (Err why) (bound_plan t.streams tree) → (((name : List ℕ) → running t name tree ≡ Err (unbound why)) ⊎ (unbound why ≡ Memory))
-  refused_unbound (binding.Unknown name) is = inl (λ given. ap (running_bound t given tree) is)
-  refused_unbound binding.IllTyped is = inl (λ given. ap (running_bound t given tree) is)
+  pub refused_unbound : (why : BindRefusal) → binder.Binds (Err why) (bound_plan streams tree) → (plan_refusal streams tree ≡ Some (unbound why)) ⊎ (unbound why ≡ Memory)
+  refused_unbound (binding.Unknown name) is = inl (ap (bound_refusal streams) is)
+  refused_unbound binding.IllTyped is = inl (ap (bound_refusal streams) is)
   refused_unbound binding.Memory is = inr refl
 
-  module _ (plan : PlainPlan) (bound : bound_plan t.streams tree ≡ Ok plan) where
-    -- a bound plan
-    pub running-bound : (name : List ℕ) → running t name tree ≡ running_typed t (run_of t.streams name tree plan) (typing_of t.streams plan)
-    running-bound name = ap (running_bound t name tree) bound
+  -- a bound plan
+  pub IfErr-bound : (plan : PlainPlan) → bound_plan streams tree ≡ Ok plan → (r : Result TypedPlan Refusal) → IfErr r (λ why. (typed_refusal (typing_of streams plan) ≡ Some why) ⊎ (why ≡ Memory))
+      → IfErr r (λ why. (plan_refusal streams tree ≡ Some why) ⊎ (why ≡ Memory))
+  IfErr-bound plan bound (Ok typed) h = tt
+  IfErr-bound plan bound (Err why) h = elim h [ inl is ↦ inl (ap (bound_refusal streams) bound ∙ is) | inr none ↦ inr none ]
 
-    pub running-stored : (kinds : Kinds) → typing_of t.streams plan ≡ Ok kinds → (name : List ℕ) → running t name tree ≡ storing t (run_of t.streams name tree plan)
-    running-stored kinds typed name = running-bound name ∙ ap (running_typed t (run_of t.streams name tree plan)) typed
+module _ (t : Table) (name : List ℕ) (tree : PlainTree) where
+  -- a plan that has a typing
+  pub running-stored : (plan : PlainPlan) (kinds : Kinds) → bound_plan t.streams tree ≡ Ok plan → typing_of t.streams plan ≡ Ok kinds → running t name tree ≡ storing t (run_of t.streams name tree plan)
+  running-stored plan kinds bound typed = ap (running_bound t name tree) bound ∙ ap (running_typed t (run_of t.streams name tree plan)) typed
 
-    pub IfErr-bound : (r : Result TypedPlan Refusal) → IfErr r (λ why. ((run : Run) → running_typed t run (typing_of t.streams plan) ≡ Err why) ⊎ (why ≡ Memory))
-        → IfErr r (λ why. ((name : List ℕ) → running t name tree ≡ Err why) ⊎ (why ≡ Memory))
-    IfErr-bound (Ok typed) h = tt
-    IfErr-bound (Err why) h = elim h [ inl is ↦ inl (λ name. running-bound name ∙ is (run_of t.streams name tree plan)) | inr none ↦ inr none ]
+  -- a plan that is refused
+  typed-refused : (run : Run) (typed : Result Kinds PlanRefusal) (why : Refusal) → typed_refusal typed ≡ Some why → running_typed t run typed ≡ Err why
+  typed-refused run (Ok kinds) why e = absurd (cc)
+  typed-refused run (Err refused) why e = let same : untyped refused ≡ why = cc in ap Err same
+
+  bound-refused : (bound : Result PlainPlan BindRefusal) (why : Refusal) → bound_refusal t.streams bound ≡ Some why → running_bound t name tree bound ≡ Err why
+  bound-refused (Ok plan) why e = typed-refused (run_of t.streams name tree plan) (typing_of t.streams plan) why e
+  bound-refused (Err refused) why e = let same : unbound refused ≡ why = cc in ap Err same
+
+  pub running-refused : (why : Refusal) → (plan_refusal t.streams tree ≡ Some why) ⊎ (why ≡ Memory) → (running t name tree ≡ Err why) ⊎ (why ≡ Memory)
+  running-refused why h = elim h [ inl is ↦ inl (bound-refused (bound_plan t.streams tree) why is) | inr none ↦ inr none ]
 
 -- ---- no run is refused for a fault of the store
 

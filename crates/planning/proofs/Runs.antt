@@ -16,12 +16,9 @@ module _ (t : Table) (name : List ℕ) (tree : PlainTree) (typed : TypedPlan) (b
 
   pub is_run : (r : Result RunPlan Refusal) → IfOk r (λ _. storing t the_run ≡ Ok the_run) → IfOk r (λ p. IsRunPlan t the_run p.typed p.program)
       → IfOk r (λ p. (x : Run) × (running t name tree ≡ Ok x) × IsRunPlan t x p.typed p.program)
-  is_run (Ok p) ok planned = (the_run, running-stored t tree typed.plan bound typed.kinds over name ∙ ok, planned)
+  is_run (Ok p) ok planned = (the_run, running-stored t name tree typed.plan typed.kinds bound over ∙ ok, planned)
   is_run (Err why) ok planned = tt
 
   pub is_not_run : (r : Result RunPlan Refusal) → IfErr r (λ why. (storing t the_run ≡ Err why) ⊎ (why ≡ Memory)) → IfErr r (λ why. (running t name tree ≡ Err why) ⊎ (why ≡ Memory))
   is_not_run (Ok p) h = tt
-  is_not_run (Err why) h = elim h [ inl is ↦ inl (running-stored t tree typed.plan bound typed.kinds over name ∙ is) | inr none ↦ inr none ]
-
-pub at_name : (t : Table) (tree : PlainTree) (why : Refusal) (name : List ℕ) → (((given : List ℕ) → running t given tree ≡ Err why) ⊎ (why ≡ Memory)) → (running t name tree ≡ Err why) ⊎ (why ≡ Memory)
-at_name t tree why name h = elim h [ inl is ↦ inl (is name) | inr none ↦ inr none ]
+  is_not_run (Err why) h = elim h [ inl is ↦ inl (running-stored t name tree typed.plan typed.kinds bound over ∙ is) | inr none ↦ inr none ]

@@ -9,9 +9,10 @@ use Rattle.plan_grammar.specs.Spelled.{SpellsText}
 use Rattle.plan_printer.specs.Canonical.{canonical_text}
 use Rattle.catalog_types.specs.declared.program.Program.{Program}
 use Rattle.catalog_types.specs.declared.snapshot.StreamState.{StreamState}
-use Rattle.catalog_core.specs.Programs.{AreCuts, kinds_of_streams, with_program, is_below, below, above}
+use Rattle.catalog_core.specs.Programs.{AreCuts, IsProgram, kinds_of_streams, with_program, is_below, below, above}
 use Rattle.catalog_core.specs.Table.{Table, most_ticks, most_programs}
-use Rattle.planning.specs.Running.{bound_plan, whole_cut, cuts_of, run_of, IsRunPlan}
+use Rattle.planning.specs.Opening.{IsOpenPlan}
+use Rattle.planning.specs.Running.{Run, bound_plan, whole_cut, cuts_of, run_of, target_of, IsTypedAt, IsRunPlan}
 
 -- ---- the cuts of the leaves
 
@@ -30,32 +31,37 @@ pub record IsStored (t : Table) (program : Program) : Type 0 where
   pub counted : t.tick < most_ticks
 
 module _ (t : Table) (name : List ℕ) (tree : PlainTree) (typed : TypedPlan) (within : IsWithinLimits tree) (bound : bound_plan t.streams tree ≡ Ok typed.plan) (over : IsTypedOver (kinds_of_streams t.streams) typed) where
-  pub planned : (program : Program) → program.name ≡ name → program.text ≡ canonical_text tree → SpellsText tree program.text → program.cuts ≡ cuts_of t.streams typed.plan → IsStored t program
-      → (node_count typed.plan ≤ 40) × (expr_count typed.plan ≤ 512) × (length (leaves typed.plan) ≤ 9) → IsRunPlan t (run_of t.streams name tree typed.plan) typed program
-  planned program named text spells cuts stored limits =
-      let are : AreCuts t.streams (leaves typed.plan) program.cuts = subst (AreCuts t.streams (leaves typed.plan)) (sym cuts) (are_cuts t.streams (leaves typed.plan)) in
-      record {
-        planned = record {
-          plan = refl;
-          over = over;
-          cuts_are = cuts;
-          are_cuts = are;
-          counted = stored.counted;
-          nodes = limits.0;
-          exprs = limits.1;
-          few_leaves = limits.2;
-        };
-        program_is = λ i. record { name = named i; text = text i; cuts = cuts i };
-        fits = (
-          record {
-            plan = typed.plan;
-            is_plan = record { tree = tree; canonical = (spells, within, text); bound = bound; kinds = typed.kinds; typed = over };
-            are_cuts = are;
-            short = stored.text;
-          },
-          stored.programs,
-        );
-      }
+  abbrev the_run : Run
+  the_run = run_of t.streams name tree typed.plan
+
+  module _ (program : Program) (named : program.name ≡ name) (text : program.text ≡ canonical_text tree) (spells : SpellsText tree program.text) (cuts : program.cuts ≡ cuts_of t.streams typed.plan)
+      (limits : (node_count typed.plan ≤ 40) × (expr_count typed.plan ≤ 512) × (length (leaves typed.plan) ≤ 9)) where
+    are : AreCuts t.streams (leaves typed.plan) program.cuts
+    are = subst (AreCuts t.streams (leaves typed.plan)) (sym cuts) (are_cuts t.streams (leaves typed.plan))
+
+    typed_at : IsTypedAt t (target_of the_run) typed program.cuts
+    typed_at = record { plan = refl; over = over; cuts_are = cuts; are_cuts = are; nodes = limits.0; exprs = limits.1; few_leaves = limits.2 }
+
+    same_program : program ≡ the_run.program
+    same_program = λ i. record { name = named i; text = text i; cuts = cuts i }
+
+    is_program : length program.text ≤ 65536 → IsProgram t.streams program
+    is_program short = record {
+      plan = typed.plan;
+      is_plan = record { tree = tree; canonical = (spells, within, text); bound = bound; kinds = typed.kinds; typed = over };
+      are_cuts = are;
+      short = short;
+    }
+
+    pub planned : IsStored t program → IsRunPlan t the_run typed program
+    planned stored = record {
+      planned = record { typed_at = typed_at; counted = stored.counted };
+      program_is = same_program;
+      fits = (is_program stored.text, stored.programs);
+    }
+
+    pub planned_job : length program.text ≤ 65536 → IsOpenPlan t the_run typed program
+    planned_job short = record { typed_at = typed_at; program_is = same_program; is_program = is_program short }
 
 -- ---- how many programs there are
 

@@ -1,5 +1,5 @@
 -- Which plan a run is of and what it is stored as, or why it is refused before its work.
-use Rattle.std.specs.Prelude.{◌≡◌, ◌<◌, ◌≤◌, ℕ, nat_le, nat_lt, if◌then◌else◌, List, length, map, Some, Result, Ok, Err}
+use Rattle.std.specs.Prelude.{◌≡◌, ◌<◌, ◌≤◌, ℕ, nat_le, nat_lt, if◌then◌else◌, List, length, map, Option, None, Some, Result, Ok, Err}
 use Rattle.rows_core.specs.declared.cut.Cut.{Cut}
 use Rattle.plan_core.specs.declared.refusal.PlanRefusal.{PlanRefusal}
 use Rattle.plan_core.specs.declared.refusal.PlanRefusal.TheVariants as typing
@@ -72,6 +72,18 @@ run_of streams name tree plan = record {
   program = record { name = name; text = canonical_text tree; cuts = cuts_of streams plan };
 }
 
+-- why a plan is refused over these streams, if it is: its names stand for nothing, or it has no typing
+abbrev pub typed_refusal : Result Kinds PlanRefusal → Option Refusal
+typed_refusal (Ok kinds) = None
+typed_refusal (Err why) = Some (untyped why)
+
+abbrev pub bound_refusal : List StreamState → Result PlainPlan BindRefusal → Option Refusal
+bound_refusal streams (Ok plan) = typed_refusal (typing_of streams plan)
+bound_refusal streams (Err why) = Some (unbound why)
+
+abbrev pub plan_refusal : List StreamState → PlainTree → Option Refusal
+plan_refusal streams tree = bound_refusal streams (bound_plan streams tree)
+
 -- a run of a plan that has a typing: the first case that holds
 abbrev pub storing : Table → Run → Result Run Refusal
 storing t run =
@@ -94,17 +106,20 @@ running t name tree = running_bound t name tree (bound_plan t.streams tree)
 
 -- ---- what is planned
 
--- The plan has this typing, the cut ends within the extents, the table counts one command more, and the plan is within the
--- limits of written plans.
-pub record IsPlanned (t : Table) (target : Target) (typed : TypedPlan) (cuts : List Cut) : Type 0 where
+-- The plan has this typing, the cut ends within the extents, and the plan is within the limits of written plans.
+pub record IsTypedAt (t : Table) (target : Target) (typed : TypedPlan) (cuts : List Cut) : Type 0 where
   pub plan : typed.plan ≡ target.plan
   pub over : IsTypedOver (kinds_of_streams t.streams) typed
   pub cuts_are : cuts ≡ target.cuts
   pub are_cuts : AreCuts t.streams (leaves target.plan) cuts
-  pub counted : t.tick < most_ticks
   pub nodes : node_count target.plan ≤ 40
   pub exprs : expr_count target.plan ≤ 512
   pub few_leaves : length (leaves target.plan) ≤ 9
+
+-- so it is, and the table counts one command more
+pub record IsPlanned (t : Table) (target : Target) (typed : TypedPlan) (cuts : List Cut) : Type 0 where
+  pub typed_at : IsTypedAt t target typed cuts
+  pub counted : t.tick < most_ticks
 
 -- so is the plan of a run, and the program fits the table
 pub record IsRunPlan (t : Table) (run : Run) (typed : TypedPlan) (program : Program) : Type 0 where

@@ -5,10 +5,12 @@
 pub mod accepting;
 pub mod append_plan;
 mod appending;
+pub mod closing;
 mod columns;
 mod extents;
 pub mod fetching;
 pub mod making;
+pub mod opening;
 mod program;
 mod reading;
 pub mod recording;
@@ -17,7 +19,9 @@ mod typing;
 
 pub use accepting::{Accepted, accept_append};
 pub use append_plan::{AppendPlan, plan_append};
+pub use closing::plan_close;
 pub use fetching::{FetchPlan, plan_fetch};
 pub use making::plan_stream;
+pub use opening::{OpenJobs, plan_open};
 pub use recording::Recording;
 pub use running::{RunPlan, plan_run};

@@ -1,9 +1,9 @@
 //! The program that a plan is stored as.
-ghost use Rattle.std.specs.Prelude.{◌≡◌, ◌<◌, ◌≤◌, Ok, Err, IfOk, IfSome, IfNone, length, map};
+ghost use Rattle.std.specs.Prelude.{◌≡◌, ◌<◌, ◌≤◌, Ok, Err, IfOk, IfSome, IfNone, length, map, nat_lt};
 ghost use Rattle.plan_grammar.specs.Spelled.{SpellsText};
 ghost use Rattle.plan_printer.specs.Canonical.{canonical_text};
 ghost use Rattle.catalog_core.specs.Catalogs.{table_of};
-ghost use Rattle.catalog_core.specs.Programs.{with_program, is_below, below, above};
+ghost use Rattle.catalog_core.specs.Programs.{most_text_bytes, with_program, is_below, below, above};
 ghost use Rattle.catalog_core.specs.Streams.{states_of};
 ghost use Rattle.catalog_core.specs.Table.{most_ticks, most_programs};
 ghost use Rattle.script_text.specs.declared.answer.Refusal.TheVariants.{Limit};
@@ -74,6 +74,13 @@ fn whole_cut(streams: &[CatalogStream], leaf: u32) -> Cut
     }
 }
 
+// Whether the program's text has more bytes than it may.
+pub(crate) fn is_long(program: &Program) -> bool
+    ensures { result ≡ nat_lt most_text_bytes (length program.now.text) }
+{
+    program.text.items().len() > MAX_TEXT_BYTES
+}
+
 // The first limit that the storing of this program passes.
 pub(crate) fn limit_of_program(catalog: &Catalog, program: &Program) -> Option<LimitKind>
     ensures some { (run : Run) → run.program ≡ program.now → IfSome result (λ kind.
@@ -85,7 +92,7 @@ pub(crate) fn limit_of_program(catalog: &Catalog, program: &Program) -> Option<L
         (length (with_program program.now (table_of catalog.now).programs) ≤ most_programs) }
     ensures counted { IfNone result ((table_of catalog.now).tick < most_ticks) }
 {
-    if program.text.items().len() > MAX_TEXT_BYTES {
+    if is_long(program) {
         return Some(LimitKind::PlanText);
     }
     // The readers of a table say that it has few programs.

@@ -1,5 +1,5 @@
 //! The typing of a plan over the streams of the table.
-ghost use Rattle.std.specs.Prelude.{◌≡◌, ◌⊎◌, ℕ, List, Ok, Err, IfOk, IfErr};
+ghost use Rattle.std.specs.Prelude.{◌≡◌, ◌⊎◌, ℕ, Some, Ok, Err, IfOk, IfErr};
 ghost use Rattle.plan_core.specs.PlainPlan.{plan_of, leaves};
 ghost use Rattle.plan_core.specs.TypedPlan.{IsTypedOver};
 ghost use Rattle.plan_core.specs.PlanTyping.{plan_typing};
@@ -7,8 +7,7 @@ ghost use Rattle.plan_grammar.specs.PlainNamed.{PlainTree};
 ghost use Rattle.plan_binder.specs.Binding.{Binds};
 ghost use Rattle.catalog_core.specs.Catalogs.{table_of};
 ghost use Rattle.catalog_core.specs.Programs.{kinds_of_streams};
-ghost use Rattle.catalog_core.specs.Table.{Table};
-ghost use Rattle.planning.specs.Running.{bound_plan, typing_of, unbound, running, running_typed, Run};
+ghost use Rattle.planning.specs.Running.{bound_plan, typing_of, unbound, plan_refusal, typed_refusal};
 
 use catalog_core::Catalog;
 use plan_binder::{BindRefusal, bind, bind_laws};
@@ -17,7 +16,7 @@ use plan_grammar::NamedPlan;
 use script_text::{LimitKind, Refusal};
 use std::alloc::Global;
 
-// The plan with numbers for its names, and its typing, or why a run of it is refused.
+// The plan with numbers for its names, and its typing, or why it is refused.
 pub(crate) fn typed_plan(
     alloc: Global,
     catalog: &Catalog,
@@ -26,8 +25,8 @@ pub(crate) fn typed_plan(
     ensures bound { IfOk result (λ typed.
         bound_plan (table_of catalog.now).streams plan.now ≡ Ok typed.plan) }
     ensures typed { IfOk result (IsTypedOver (kinds_of_streams (table_of catalog.now).streams)) }
-    ensures err { IfErr result (λ why. ((name : List ℕ) →
-        running (table_of catalog.now) name plan.now ≡ Err why) ⊎ (why ≡ Refusal.Memory)) }
+    ensures err { IfErr result (λ why. (plan_refusal (table_of catalog.now).streams plan.now ≡ Some why)
+        ⊎ (why ≡ Refusal.Memory)) }
 {
     match bound_over(alloc, catalog, plan) {
         Ok(bound) => type_bound(alloc, catalog, bound),
@@ -58,8 +57,8 @@ fn type_bound(alloc: Global, catalog: &Catalog, plan: Plan) -> Result<Typed, Ref
     requires { (tree : PlainTree) × (bound_plan (table_of catalog.now).streams tree ≡ Ok (plan_of plan)) }
     ensures plan { IfOk result (λ typed. typed.plan ≡ plan_of plan) }
     ensures typed { IfOk result (IsTypedOver (kinds_of_streams (table_of catalog.now).streams)) }
-    ensures err { IfErr result (λ why. ((run : Run) → running_typed (table_of catalog.now) run
-        (typing_of (table_of catalog.now).streams (plan_of plan)) ≡ Err why) ⊎ (why ≡ Refusal.Memory)) }
+    ensures err { IfErr result (λ why. (typed_refusal (typing_of (table_of catalog.now).streams (plan_of plan))
+        ≡ Some why) ⊎ (why ≡ Refusal.Memory)) }
 {
     bind_laws::leaves_are_the_streams();
     type_over(alloc, catalog.schemas(), plan)
@@ -71,8 +70,8 @@ fn type_over(alloc: Global, schemas: &Schemas, plan: Plan) -> Result<Typed, Refu
         → plan_typing schemas.now.kinds (plan_of plan) ≡ Err (PlanRefusal.Unknown number) → ⊥ }
     ensures plan { IfOk result (λ typed. typed.plan ≡ plan_of plan) }
     ensures typed { IfOk result (IsTypedOver schemas.now.kinds) }
-    ensures err { (t : Table) → IfErr result (λ why. ((run : Run) → running_typed t run
-        (plan_typing schemas.now.kinds (plan_of plan)) ≡ Err why) ⊎ (why ≡ Refusal.Memory)) }
+    ensures err { IfErr result (λ why. (typed_refusal (plan_typing schemas.now.kinds (plan_of plan)) ≡ Some why)
+        ⊎ (why ≡ Refusal.Memory)) }
 {
     match type_plan(alloc, plan, schemas) {
         Ok(typed) => Ok(typed),

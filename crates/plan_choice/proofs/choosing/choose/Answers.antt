@@ -22,8 +22,8 @@ reads-read-requires-clause-formed c =
     let t = table_of c.args.catalog.now in
     let r = c.in_ok-rewriting.rewriting in
     let normal = c.in_ok-normal.normal.plan in
-    let formed = c.taken_rewritings.ensures.formed t c.args.plan.plan normal c.args.cuts.now (rewriting_of r) c.args.catalog.now.sound
-    (record { normal = c.in_ok-normal.ensures; least = c.in_ok-rewriting.ensures }) in
+    let serves = c.taken_rewritings.ensures.serves t c.args.plan.plan normal c.args.cuts.now (rewriting_of r) (record { normal = c.in_ok-normal.ensures; least = c.in_ok-rewriting.ensures }) in
+    let formed = c.serving_rewritings.ensures.formed t c.args.plan.plan normal c.args.cuts.now (rewriting_of r) c.args.catalog.now.sound serves in
     own_rewriting whichever normal (plan_of r.plan) c.args.cuts.now r.cuts (way_of r.way) formed
 
 pub reads-read-requires-clause-cuts : goal.reads-read-requires-clause-cuts

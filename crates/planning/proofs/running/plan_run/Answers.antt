@@ -1,7 +1,7 @@
 use Rattle.std.proofs.Common.{Err}
 use Rattle.catalog_core.specs.Catalogs.{table_of}
-use Rattle.planning.proofs.RunLemmas.{no_fault}
-use Rattle.planning.proofs.Runs.{is_run, is_not_run, at_name}
+use Rattle.planning.proofs.RunLemmas.{running-refused, no_fault}
+use Rattle.planning.proofs.Runs.{is_run, is_not_run}
 use Rattle.planning.proofs.running.plan_run.Goals as goal
 
 pub returns-in-Ok-clause-ok : goal.returns-in-Ok-clause-ok
@@ -13,7 +13,7 @@ returns-in-Ok-clause-err c =
     is_not_run (table_of c.args.catalog.now) c.args.name c.args.plan.now c.in-Ok.typed c.in-Ok.ensures.bound c.in-Ok.ensures.typed c.run_typed.result c.run_typed.ensures.err
 
 pub returns-in-Err-clause-err : goal.returns-in-Err-clause-err
-returns-in-Err-clause-err c = at_name (table_of c.args.catalog.now) c.args.plan.now c.in-Err.refusal c.args.name c.in-Err.ensures.err
+returns-in-Err-clause-err c = running-refused (table_of c.args.catalog.now) c.args.name c.args.plan.now c.in-Err.refusal c.in-Err.ensures.err
 
 pub returns-in-Ok-clause-no_fault : goal.returns-in-Ok-clause-no_fault
 returns-in-Ok-clause-no_fault c =
@@ -23,4 +23,4 @@ returns-in-Ok-clause-no_fault c =
 pub returns-in-Err-clause-no_fault : goal.returns-in-Err-clause-no_fault
 returns-in-Err-clause-no_fault c =
     no_fault (table_of c.args.catalog.now) c.args.name c.args.plan.now (Err c.in-Err.refusal)
-    (at_name (table_of c.args.catalog.now) c.args.plan.now c.in-Err.refusal c.args.name c.in-Err.ensures.err)
+    (running-refused (table_of c.args.catalog.now) c.args.name c.args.plan.now c.in-Err.refusal c.in-Err.ensures.err)

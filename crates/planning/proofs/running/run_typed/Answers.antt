@@ -9,5 +9,5 @@ pub returns-in-None-clause-plan : goal.returns-in-None-clause-plan
 returns-in-None-clause-plan c =
     planned (table_of c.args.catalog.now) c.args.name c.args.plan.now c.args.typed c.requires.limits c.requires.bound c.requires.typed c.in-Ok.program c.in-Ok.ensures.name c.in-Ok.ensures.text c.in-Ok.ensures.spells
     (c.in-Ok.ensures.cuts ∙ same_cuts (states_of c.streams.result.now) (table_of c.args.catalog.now).streams c.leaves.result.now (leaves c.args.typed.plan) c.streams.ensures.states (c.leaves.ensures.leaves ∙ c.leaves.ensures.typed.1))
-    (record { text = c.in-None.ensures.text; programs = c.in-None.ensures.programs; counted = c.in-None.ensures.counted })
     (c.counts_are_of_the_written_plan.ensures.limits _ _ c.args.plan.now c.args.typed.plan c.requires.bound c.requires.limits)
+    (record { text = c.in-None.ensures.text; programs = c.in-None.ensures.programs; counted = c.in-None.ensures.counted })

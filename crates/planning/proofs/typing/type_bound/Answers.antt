@@ -1,11 +1,11 @@
-use Rattle.std.proofs.Common.{◌≡◌, List, Err, IfOk, IfErr, subst, ◌⊎◌}
+use Rattle.std.proofs.Common.{◌≡◌, List, Some, Err, IfOk, IfErr, subst, ◌⊎◌}
 use Rattle.plan_core.specs.declared.refusal.PlanRefusal.TheVariants.{Unknown}
 use Rattle.plan_core.specs.PlainPlan.{plan_of}
 use Rattle.plan_core.specs.PlanTyping.{Kinds, plan_typing}
 use Rattle.plan_core.specs.TypedPlan.{IsTypedOver}
 use Rattle.catalog_core.specs.Catalogs.{table_of}
 use Rattle.script_text.specs.declared.answer.Refusal.TheVariants.{Memory}
-use Rattle.planning.specs.Running.{Run, running_typed}
+use Rattle.planning.specs.Running.{typed_refusal}
 use Rattle.planning.proofs.RunLemmas.{never_unknown}
 use Rattle.planning.proofs.typing.type_bound.Goals as goal
 
@@ -20,5 +20,4 @@ returns-clause-typed c =
 
 pub returns-clause-err : goal.returns-clause-err
 returns-clause-err c =
-    subst (λ (k : List Kinds). IfErr c.type_over.result (λ why. ((run : Run) → running_typed (table_of c.args.catalog.now) run (plan_typing k (plan_of c.args.plan)) ≡ Err why) ⊎ (why ≡ Memory)))
-    c.schemas.ensures (c.type_over.ensures.err (table_of c.args.catalog.now))
+    subst (λ (k : List Kinds). IfErr c.type_over.result (λ why. (typed_refusal (plan_typing k (plan_of c.args.plan)) ≡ Some why) ⊎ (why ≡ Memory))) c.schemas.ensures c.type_over.ensures.err
