@@ -3,7 +3,10 @@ pub mod Events
 pub mod FewColumns
 pub mod Held
 pub mod MadeResults
+pub mod OpenSteps
+pub mod Pieces
 pub mod Rooted
 pub mod Short
+pub mod Stepped
 pub mod Taken
 pub mod Worked

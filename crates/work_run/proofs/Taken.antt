@@ -61,7 +61,7 @@ module _ (found : (t : Table) (e : PlainEntry) → IsTable t → Contains t.entr
           let ref = valid.refs e.file (kept_spelling is.0) (inr (record { entry = e; has = has; form = is.0; form_is = is.1.result.form; at_is = refl; bytes_are = refl })) in
           ap (λ (k : Kept). length (kept_spelling k)) form ∙ sym (ap (λ (f : FileRef). f.len) ref) ∙ sym (ap (λ (f : FileRef). f.len) (found (table s) e is_table has).0)
 
-  file-bytes : (name : FileName) → HasFile (table s) name → held_bytes (extents_in s.streams) (results_in s) name ≡ (file_at (table s) name).len
+  pub file-bytes : (name : FileName) → HasFile (table s) name → held_bytes (extents_in s.streams) (results_in s) name ≡ (file_at (table s) name).len
   file-bytes (Extent place number) has = extent-bytes place number has
   file-bytes (Result id) has = result-bytes id has
 

@@ -18,9 +18,11 @@ use Rattle.executor.specs.declared.refusal.RunRefusal.{RunRefusal}
 use Rattle.executor.specs.declared.refusal.RunRefusal.TheVariants as run
 use Rattle.folder.specs.Next.{IsNewResultOf, with_work}
 use Rattle.folder.specs.Sound.{Care}
-use Rattle.folder.specs.State.{Stream, State}
+use Rattle.folder.specs.State.{Stream, State, table}
 use Rattle.folder.specs.Damage.{ShowsDamage}
-use Rattle.work_run.specs.Working.{Given, given, Works, Overflows, IsDear}
+use Rattle.plan_choice.specs.Taken.{IsTaken}
+use Rattle.rewrite_core.specs.PlainRewriting.{PlainRewriting}
+use Rattle.work_run.specs.Working.{Given, given, WorksBy, Overflows, IsDear}
 use Rattle.work_run.specs.declared.work.Work.{Work}
 
 -- what the files of a table's rewritings are read by, where the store tells its files
@@ -46,12 +48,19 @@ AreNewFiles streams (new ∷ news) (bytes ∷ files) =
     ((form : Kept) × IsNewResultOf streams new form × (bytes ≡ kept_spelling form)) × AreNewFiles streams news files
 AreNewFiles streams _ _ = ⊥
 
--- it gives what the work gives, and what it records is the work with these new results
-pub record Comes (s : State) (program : Option Program) (plan : PlainPlan) (cuts : Cuts) (work : Work) : Type 0 where
+-- it gives what the work by this rewriting gives, and what it records is the work with these new results
+pub record ComesBy (s : State) (program : Option Program) (plan normal : PlainPlan) (cuts : Cuts) (rewriting : PlainRewriting) (work : Work) : Type 0 where
   pub news : List PlainNewEntry
-  pub works : Works s program plan cuts (given_of work) (with_work s program work.used.items [] news)
+  pub works : WorksBy s program plan normal cuts rewriting (given_of work) (with_work s program work.used.items [] news)
   pub change : work.plan.change ≡ change.Work program work.used.items [] news
   pub files : AreNewFiles s.streams news work.plan.files.items
+
+-- so by a least rewriting
+pub record Comes (s : State) (program : Option Program) (plan : PlainPlan) (cuts : Cuts) (work : Work) : Type 0 where
+  pub normal : PlainPlan
+  pub rewriting : PlainRewriting
+  pub taken : IsTaken (table s) plan normal cuts rewriting
+  pub by : ComesBy s program plan normal cuts rewriting work
 
 -- Why it doesn't come to an end over files of a state: by what the plan means, for want of memory, or since the files aren't
 -- read. None of them has unreadable bytes.

@@ -1,3 +1,4 @@
 pub mod Chosen
 pub mod Working
 pub mod Ends
+pub mod Opened

@@ -56,12 +56,9 @@ pub record Given : Type 0 where
 abbrev pub given : Rows → List ℕ → List ℕ → ℕ → Given
 given rows used kept read = record { rows = rows; used = used; kept = kept; read = read }
 
--- The rows are those of the plan as it is written, whatever is kept. They are made by a least rewriting of the plan's normal
--- form: the results that it names are used, its files are read, and of what it makes results are kept.
-pub record Works (s : State) (program : Option Program) (plan : PlainPlan) (cuts : Cuts) (is : Given) (new : State) : Type 0 where
-  pub normal : PlainPlan
-  pub rewriting : PlainRewriting
-  pub taken : IsTaken (table s) plan normal cuts rewriting
+-- The rows are those of the plan as it is written, whatever is kept. They are made by this rewriting of the plan's normal form:
+-- the results that it names are used, its files are read, and of what it makes results are kept.
+pub record WorksBy (s : State) (program : Option Program) (plan normal : PlainPlan) (cuts : Cuts) (rewriting : PlainRewriting) (is : Given) (new : State) : Type 0 where
   pub rows : plan_meaning plan (lists_in s.streams plan cuts) ≡ Ok is.rows
   pub within : machine_time normal (lists_in s.streams normal cuts) ≤ most_machine_time
   pub used : AreIdsOf (files_of rewriting) is.used
@@ -69,6 +66,13 @@ pub record Works (s : State) (program : Option Program) (plan : PlainPlan) (cuts
   pub news : List PlainNewEntry
   pub keeps : Keeps s normal cuts rewriting news is.kept
   pub after : new ≡ with_work s program is.used [] news
+
+-- So by a least rewriting.
+pub record Works (s : State) (program : Option Program) (plan : PlainPlan) (cuts : Cuts) (is : Given) (new : State) : Type 0 where
+  pub normal : PlainPlan
+  pub rewriting : PlainRewriting
+  pub taken : IsTaken (table s) plan normal cuts rewriting
+  pub by : WorksBy s program plan normal cuts rewriting is new
 
 -- ---- why there is no answer
 

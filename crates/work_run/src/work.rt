@@ -1,9 +1,10 @@
 //! Work over the files of a catalogue.
-ghost use Rattle.std.specs.Prelude.{◌≡◌, ◌<◌, ◌≤◌, ℕ, List, Option, length, IsTrue, IfOk, IfErr, OnOk};
+ghost use Rattle.std.specs.Prelude.{◌≡◌, ◌<◌, ◌≤◌, ℕ, List, Option, length, map, IsTrue, IfOk, IfErr, OnOk};
+ghost use Rattle.std.specs.List.{AllByRecursion};
 ghost use Rattle.outside_traits.specs.View.{View, Counts};
 ghost use Rattle.outside_traits.specs.Calls.{MayRaiseReads};
 ghost use Rattle.outside_traits.specs.Runs.{Narrows};
-ghost use Rattle.plan_core.specs.PlainPlan.{PlainPlan};
+ghost use Rattle.plan_core.specs.PlainPlan.{PlainPlan, plan_of};
 ghost use Rattle.estimator.specs.Cuts.{Cuts};
 ghost use Rattle.rewrite_core.specs.Files.{files_of};
 ghost use Rattle.rewrite_core.specs.PlainRewriting.{rewriting_of};
@@ -12,12 +13,15 @@ ghost use Rattle.catalog_core.specs.Catalogs.{table_of};
 ghost use Rattle.catalog_core.specs.IsTable.{IsTable};
 ghost use Rattle.catalog_core.specs.Named.{file_at, bytes_named};
 ghost use Rattle.catalog_core.specs.Table.{FitsProgram, most_ticks};
-ghost use Rattle.admission.specs.Admitting.{MadeResult};
+ghost use Rattle.entry_table.specs.Ids.{AreIdsOf};
+ghost use Rattle.admission.specs.Admitting.{MadeResult, made_of};
 ghost use Rattle.executor.specs.Running.{TookAtMost};
 ghost use Rattle.executor.specs.Runs.{HasRunCause, IsRunFound};
+ghost use Rattle.executor.specs.declared.outcome.KeptPlace.{KeptPlace};
 ghost use Rattle.folder.specs.Left.{IsLeft};
 ghost use Rattle.folder.specs.Sound.{Care};
 ghost use Rattle.folder.specs.State.{State, table};
+ghost use Rattle.work_plan.specs.Fitting.{IsFit};
 ghost use Rattle.work_plan.specs.Planning.{IsWorkPlan};
 ghost use Rattle.work_run.specs.Chosen.{IsChosen};
 ghost use Rattle.work_run.specs.Ends.{Comes, IsRefusedWork, CountsRead, HaveFewValues, sources_of};
@@ -27,8 +31,9 @@ use catalog_types::Program;
 use executor::{Outcome, RunRefusal, run};
 use folder::files_of_states;
 use outside_traits::Store;
-use plan_choice::{Choice, taken_rewritings};
+use plan_choice::{Choice, serving_rewritings, taken_rewritings};
 use plan_laws::kept_forms_have_their_shape;
+use rewriting_pieces::pieces_of_typed_rewritings;
 use rows_core::{Memory, Row};
 use std::alloc::Global;
 use work_plan::{WorkPlan, places_of_fit_plans, plan_work};
@@ -86,6 +91,8 @@ pub fn run_work<D: Store>(
 {
     kept_results_of_tables();
     taken_rewritings();
+    serving_rewritings();
+    pieces_of_typed_rewritings();
     places_of_fit_plans();
     files_of_states();
     kept_forms_have_their_shape();
@@ -95,33 +102,56 @@ pub fn run_work<D: Store>(
         used,
         read,
     } = choice;
-    let Outcome { rows, made } = match run(alloc, rewriting, store, catalog) {
+    let outcome = match run(alloc, rewriting, store, catalog) {
         Ok(outcome) => outcome,
         Err(refusal) => return Err(refusal),
     };
-    let Ok(reads) = copied(alloc, &used) else {
-        return Err(RunRefusal::Memory);
-    };
-    match plan_work(alloc, catalog, program, reads, made) {
-        Ok(plan) => Ok(Work {
-            rows,
-            used,
-            read,
-            plan,
-        }),
+    match planned(alloc, catalog, program, used, read, outcome) {
+        Ok(work) => Ok(work),
         Err(Memory) => Err(RunRefusal::Memory),
     }
 }
 
+// The work of an outcome, and what is recorded of it.
+pub(crate) fn planned(
+    alloc: Global,
+    catalog: &Catalog,
+    program: Option<Program>,
+    used: Vec<u32>,
+    read: u64,
+    outcome: Outcome,
+) -> Result<Work, Memory>
+    requires program { FitsProgram program (table_of catalog.now) }
+    requires counted { (table_of catalog.now).tick < most_ticks }
+    requires used { AreIdsOf (table_of catalog.now).entries used.items }
+    requires made { AllByRecursion (λ (kept : KeptPlace). IsFit (table_of catalog.now).streams
+        (plan_of kept.plan) kept.cuts × (0 < kept.machine)) outcome.made.items }
+    ensures rows { IfOk result (λ work. work.rows ≡ outcome.rows) }
+    ensures used { IfOk result (λ work. work.used ≡ used) }
+    ensures read { IfOk result (λ work. work.read ≡ read) }
+    ensures plan { IfOk result (λ work. IsWorkPlan (table_of catalog.now) program used.items
+        (map made_of outcome.made.items) work.plan) }
+{
+    let Outcome { rows, made } = outcome;
+    let reads = copied(alloc, &used)?;
+    let plan = plan_work(alloc, catalog, program, reads, made)?;
+    Ok(Work {
+        rows,
+        used,
+        read,
+        plan,
+    })
+}
+
 // What a catalogue holds is a table, which its readers say.
-fn know_table(catalog: &Catalog)
+pub(crate) fn know_table(catalog: &Catalog)
     ensures { IsTable (table_of catalog.now) }
 {
     let _ = catalog.streams();
 }
 
 // The same ids once more.
-fn copied(alloc: Global, ids: &[u32]) -> Result<Vec<u32>, Memory>
+pub(crate) fn copied(alloc: Global, ids: &[u32]) -> Result<Vec<u32>, Memory>
     ensures { IfOk result (λ copy. copy.items ≡ ids.now) }
 {
     let mut copy = Vec::with_capacity(alloc, ids.len())?;
