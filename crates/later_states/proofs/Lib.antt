@@ -1,0 +1,10 @@
+pub mod Kept
+pub mod Opened
+pub mod Parts
+pub mod Renamed
+pub mod Rows
+pub mod States
+pub mod StillRead
+pub mod Streams
+pub mod Tables
+pub mod Typed
