@@ -1,0 +1,73 @@
+-- The choice for a plan that is worked off is one for that plan at its cut.
+use Rattle.std.proofs.Common.{◌≡◌, ◌≤◌, length, IsOk, Result, Ok, Err, refl, sym, ap, subst, arith}
+use Rattle.std.specs.Prelude.{IfOk}
+use Rattle.rows_core.specs.declared.memory.Memory.{Memory}
+use Rattle.plan_core.specs.Literals.{HasValidLiterals}
+use Rattle.plan_core.specs.Nesting.{node_count, expr_count, nesting}
+use Rattle.plan_core.specs.PlainPlan.{PlainPlan, plan_of, leaves}
+use Rattle.plan_core.specs.PlanTyping.{plan_typing}
+use Rattle.plan_core.specs.TypedPlan.{TypedPlan}
+use Rattle.plan_spelling.specs.Spelling.{HasPlanSpelling}
+use Rattle.plan_canon.specs.Normal.{IsNormal}
+use Rattle.estimator.specs.Cuts.{Cuts}
+use Rattle.rewrite_core.specs.PlainRewriting.{PlainRewriting, rewriting_of}
+use Rattle.catalog_core.specs.Programs.{AreCuts, kinds_of_streams}
+use Rattle.catalog_core.specs.Results.{IsOver}
+use Rattle.catalog_core.specs.Table.{Table}
+use Rattle.plan_choice.specs.Taken.{IsTaken, IsChoice}
+use Rattle.plan_choice.specs.declared.choosing.Choice.{Choice}
+use Rattle.planning.specs.Running.{Target, IsTypedAt}
+use Rattle.work_plan.specs.Fitting.{IsFit}
+use Rattle.work_run.specs.Chosen.{IsChosen}
+
+abbrev AllTaken : (P : (t : Table) (plan normal : PlainPlan) (cuts : Cuts) (r : PlainRewriting) → Type 0) → Type 0
+AllTaken P = (t : Table) (plan normal : PlainPlan) (cuts : Cuts) (r : PlainRewriting) → IsTaken t plan normal cuts r → P t plan normal cuts r
+
+module _ (over : AllTaken (λ t plan normal cuts r. IsOk (plan_typing (kinds_of_streams t.streams) plan) → AreCuts t.streams (leaves plan) cuts → IsOver t.streams normal cuts))
+    (same_leaves : AllTaken (λ t plan normal cuts r. leaves normal ≡ leaves plan)) (is_normal : AllTaken (λ t plan normal cuts r. IsNormal (kinds_of_streams t.streams) normal))
+    (deep : AllTaken (λ t plan normal cuts r. node_count plan ≤ 40 → expr_count plan ≤ 512 → nesting normal ≤ 1024))
+    (t : Table) (typed : TypedPlan) (cuts : Cuts) where
+  module _ (target : Target) (choice : Choice) (plan_is : IsTypedAt t target typed cuts)
+      (spelled : HasPlanSpelling (plan_of choice.rewriting.plan)) (literals : HasValidLiterals (plan_of choice.rewriting.plan)) where
+    has_typing : IsOk (plan_typing (kinds_of_streams t.streams) target.plan)
+    has_typing = subst (λ (p : PlainPlan). IsOk (plan_typing (kinds_of_streams t.streams) p)) plan_is.plan (subst IsOk (sym plan_is.over) refl)
+
+    fit_for : (is : IsChoice t target.plan cuts choice) → IsFit t.streams is.normal cuts
+    fit_for is =
+        let r = rewriting_of choice.rewriting in
+        let root : plan_of choice.rewriting.plan ≡ is.normal = is.taken.least.is.0 in
+        let nine = plan_is.few_leaves in
+        record {
+          over = over t target.plan is.normal cuts r is.taken has_typing plan_is.are_cuts;
+          normal = is_normal t target.plan is.normal cuts r is.taken;
+          spelled = subst HasPlanSpelling root spelled;
+          literals = subst HasValidLiterals root literals;
+          deep = deep t target.plan is.normal cuts r is.taken plan_is.nodes plan_is.exprs;
+          few = omega (arith, ap length (same_leaves t target.plan is.normal cuts r is.taken), nine);
+        }
+
+    pub chosen_for : IsChoice t typed.plan cuts choice → IsChosen t target.plan cuts choice
+    chosen_for is =
+        let choice_is : IsChoice t target.plan cuts choice = subst (λ (p : PlainPlan). IsChoice t p cuts choice) plan_is.plan is in
+        record { choice_is = choice_is; typed = has_typing; are_cuts = plan_is.are_cuts; fit = fit_for choice_is }
+
+  pub chosen_result : (result : Result Choice Memory) → IfOk result (IsChoice t typed.plan cuts) → IfOk result (λ choice. HasPlanSpelling (plan_of choice.rewriting.plan)) → IfOk result (λ choice. HasValidLiterals (plan_of choice.rewriting.plan))
+      → IfOk result (λ choice. (target : Target) → IsTypedAt t target typed cuts → IsChosen t target.plan cuts choice)
+  chosen_result (Ok choice) is spelled literals = λ target plan_is. chosen_for target choice plan_is spelled literals is
+  chosen_result (Err none) is spelled literals = tt
+
+-- the same table and cut
+pub typed_there : (t u : Table) → t ≡ u → (target : Target) (typed : TypedPlan) (cuts given : Cuts) → given ≡ cuts → IsTypedAt t target typed cuts → IsTypedAt u target typed given
+typed_there t u same target typed cuts given is typed_at =
+    subst (λ (x : Table). IsTypedAt x target typed given) same (subst (λ (c : Cuts). IsTypedAt t target typed c) (sym is) typed_at)
+
+-- what is chosen there is chosen here
+pub chosen_at : (t u : Table) → u ≡ t → (target : Target) (typed : TypedPlan) (cuts given : Cuts) → given ≡ cuts → (choice : Choice) → IsTypedAt t target typed cuts
+    → ((other : Target) → IsTypedAt u other typed given → IsChosen u other.plan given choice) → IsChosen t target.plan cuts choice
+chosen_at t u same target typed cuts given is choice typed_at chosen =
+    subst (λ (x : Table). IsChosen x target.plan cuts choice) same
+    (subst (λ (c : Cuts). IsChosen u target.plan c choice) is (chosen target (typed_there t u (sym same) target typed cuts given is typed_at)))
+
+-- the rewriting of such a choice is taken of the plan
+pub taken_of : (t : Table) (target : Target) (cuts : Cuts) (choice : Choice) → cuts ≡ target.cuts → (is : IsChosen t target.plan cuts choice) → IsTaken t target.plan is.choice_is.normal target.cuts (rewriting_of choice.rewriting)
+taken_of t target cuts choice same is = subst (λ (c : Cuts). IsTaken t target.plan is.choice_is.normal c (rewriting_of choice.rewriting)) same is.choice_is.taken

@@ -1,0 +1,247 @@
+-- A collection, and what is told of kept results.
+use Rattle.std.proofs.Common.{◌≡◌, ◌⊎◌, ◌↔◌, inl, inr, refl, sym, ap, ◌∙◌, subst, ℕ, ◌<◌, ◌==◌, nat_le, Bool, true, false, IsTrue, List, [], ◌∷◌, map, Result, Ok, Err, IfOk, OnOk, IsErrOf, arith}
+use Rattle.std.specs.List.{All, AllByRecursion, Contains}
+use Rattle.std.proofs.lemmas.Bool.{eq-eqb}
+use Rattle.std.proofs.lemmas.Bool.Decides.{nat_tests}
+use Rattle.std.proofs.lemmas.List.Elements.{All-contains, All-from_recursion}
+use Rattle.std.proofs.lemmas.List.Folds.{list_any_at}
+use Rattle.std.proofs.lemmas.List.Sorted.{list_any-IsPermutation}
+use Rattle.outside_traits.specs.Counts.{Rose}
+use Rattle.outside_traits.specs.View.{View, Counts}
+use Rattle.outside_traits.specs.declared.failed.Failed.{Failed}
+use Rattle.outside_traits.proofs.RunLemmas.{narrows_none, spans_of, spans_on, spans_wider}
+use Rattle.rewrite_core.proofs.Looking.{Contains-first, Contains-behind, Contains-cons_cases}
+use Rattle.catalog_types.specs.PlainEntry.{PlainEntry}
+use Rattle.catalog_types.specs.declared.change.Change.{Change}
+use Rattle.catalog_types.specs.declared.change.Change.TheVariants as change
+use Rattle.entry_table.specs.Ids.{is_among, without}
+use Rattle.catalog_core.specs.IsTable.{IsTable}
+use Rattle.catalog_core.specs.Table.{Table, Fits, FitsCollection, most_ticks, after}
+use Rattle.catalog_core.proofs.AskedResults.{found-own}
+use Rattle.collection_plan.specs.Collecting.{IsCollection, IsCollectionPlan, file_of, files_of}
+use Rattle.collection_plan.specs.declared.collecting.CollectionPlan.{CollectionPlan}
+use Rattle.collection_plan.specs.declared.refusal.CollectionRefusal.{CollectionRefusal}
+use Rattle.collection_plan.specs.declared.refusal.CollectionRefusal.TheVariants as collection
+use Rattle.script_text.specs.Answer.{IsNarrow}
+use Rattle.script_text.specs.declared.answer.Answer.{Answer}
+use Rattle.script_text.specs.declared.answer.Answer.TheVariants as answer
+use Rattle.script_text.specs.declared.answer.Refusal.TheVariants as refusal
+use Rattle.script_text.specs.declared.answer.LimitKind.TheVariants as limit
+use Rattle.script_text.specs.declared.item.Command.TheVariants as command
+use Rattle.planning.specs.Recorded.{IsRecordOf}
+use Rattle.outside_traits.specs.Runs.{ChangesOnly}
+use Rattle.journal_store.specs.Journals.{generation_of}
+use Rattle.journal_store.specs.Readings.{generation_file}
+use Rattle.journal_store.specs.declared.journal.Journal.{Journal}
+use Rattle.folder.specs.declared.folder.Folder.{Folder}
+use Rattle.folder.specs.Folders.{journal_of, table_in}
+use Rattle.folder.specs.Next.{with_collection}
+use Rattle.folder.specs.Removing.{IsFree, ChangesAmong}
+use Rattle.folder.specs.Removing as removing
+use Rattle.folder.specs.Replay.{is_checkpoint}
+use Rattle.folder.specs.Sound.{Care}
+use Rattle.folder.specs.Standing.{IsNext}
+use Rattle.folder.specs.State.{State, table}
+use Rattle.folder_session.specs.declared.session.FolderSession.{FolderSession}
+use Rattle.folder_session.specs.Causes.{SparesStore, TellsOfNoFile}
+use Rattle.folder_session.specs.Machine as machine
+use Rattle.folder_session.specs.Machine.{outcome, refused, IsEvent, CollectsTo, summary_of}
+use Rattle.folder_session.specs.Standing.{Stands, Performs, LeavesWhereRefused, MayChange, ChangesAtMost, AreGone, LeavesNoFile, folder_of}
+use Rattle.folder_session.specs.WorkRefusals.{collection_refusal}
+use Rattle.folder_session.proofs.StepLemmas.{since_none}
+
+-- ---- what is told
+
+module _ (care : Care) (v : View) (session session' : FolderSession) (s : State) (stands : Stands care v session s) where
+  pub tells_entries : (held : List ℕ) (given : Answer) → session' ≡ session → (given ≡ answer.Entries (map summary_of (table_in (folder_of session)).entries)) ⊎ (given ≡ answer.Refused refusal.Memory)
+      → Performs care v v held session' s command.Entries given
+  tells_entries held given same (inl is) = record {
+    new = s;
+    step = inl ((λ i. outcome (is i) s) ∙ ap (λ (t : Table). outcome (answer.Entries (map summary_of t.entries)) s) stands.means.table_is);
+    stands = subst (λ (x : FolderSession). Stands care v x s) (sym same) stands;
+    since = since_none care v session s stands;
+  }
+  tells_entries held given same (inr none) = record {
+    new = s;
+    step = inr (refusal.Memory, tt, (λ i. outcome (none i) s));
+    stands = subst (λ (x : FolderSession). Stands care v x s) (sym same) stands;
+    since = since_none care v session s stands;
+  }
+
+pub entries_tell : (entries : List PlainEntry) (given : Answer) → (given ≡ answer.Entries (map summary_of entries)) ⊎ (given ≡ answer.Refused refusal.Memory) → TellsOfNoFile given
+entries_tell entries given (inl is) = subst TellsOfNoFile (sym is) tt
+entries_tell entries given (inr none) = subst TellsOfNoFile (sym none) tt
+
+pub entries_narrow : (entries : List PlainEntry) (given : Answer) → (given ≡ answer.Entries (map summary_of entries)) ⊎ (given ≡ answer.Refused refusal.Memory) → IsNarrow given
+entries_narrow entries given (inl is) = subst IsNarrow (sym is) tt
+entries_narrow entries given (inr none) = subst IsNarrow (sym none) tt
+
+pub entries_leave : (entries : List PlainEntry) (given : Answer) (v : View) → (given ≡ answer.Entries (map summary_of entries)) ⊎ (given ≡ answer.Refused refusal.Memory) → LeavesWhereRefused given v v
+entries_leave entries given v (inl is) = subst (λ (a : Answer). LeavesWhereRefused a v v) (sym is) tt
+entries_leave entries given v (inr none) = subst (λ (a : Answer). LeavesWhereRefused a v v) (sym none) (narrows_none v)
+
+-- ---- what a collection answers
+
+not_full : (ticks : ℕ) → ticks < most_ticks → nat_le most_ticks ticks ≡ false
+not_full ticks low = by (nat_le most_ticks ticks) refl
+  where
+    by : (b : Bool) → nat_le most_ticks ticks ≡ b → b ≡ false
+    by true is = absurd (grind (arith, nat_tests))
+    by false is = refl
+
+is_full : (ticks : ℕ) → ticks ≡ most_ticks → nat_le most_ticks ticks ≡ true
+is_full ticks most = by (nat_le most_ticks ticks) refl
+  where
+    by : (b : Bool) → nat_le most_ticks ticks ≡ b → b ≡ true
+    by true is = refl
+    by false is = absurd (grind (arith, nat_tests))
+
+module _ (care : Care) (held : List ℕ) (t : Table) (s : State) (same : t ≡ table s) (reclaim : ℕ) where
+  pub collected_err : (why : CollectionRefusal) → IsErrOf {T = CollectionPlan} (Err why) collection.Commands ↔ (t.tick ≡ most_ticks)
+      → machine.Performs held s (command.Collect reclaim) (refused s (collection_refusal why)) ⊎ IsEvent care s (command.Collect reclaim) (collection_refusal why)
+  collected_err collection.Commands exactly =
+      let full : t.tick ≡ most_ticks = exactly.0 refl in
+      let ticks : s.tick ≡ most_ticks = ap (λ (x : Table). x.tick) (sym same) ∙ full in
+      inl (subst (λ b. CollectsTo b held s reclaim (refused s (refusal.Limit limit.Commands))) (sym (is_full s.tick ticks)) refl)
+  collected_err collection.Memory exactly = inr tt
+
+  pub collected_ok : (plan : CollectionPlan) → IsCollectionPlan t held reclaim plan → machine.Performs held s (command.Collect reclaim) (outcome (answer.Evicted plan.ids.items plan.bytes) (with_collection s plan.ids.items))
+  collected_ok plan is =
+      let fits : FitsCollection is.ascending t = subst (λ (c : Change). Fits c t) is.change is.fits in
+      let low = fits.counted in
+      let ticks = ap (λ (x : Table). x.tick) same in
+      subst (λ b. CollectsTo b held s reclaim (outcome (answer.Evicted plan.ids.items plan.bytes) (with_collection s plan.ids.items))) (sym (not_full s.tick (omega (arith, low, ticks))))
+      (plan.ids.items, plan.bytes, subst (λ (x : Table). IsCollection x held reclaim plan.ids.items plan.bytes) same is.collection, refl)
+
+pub collection_spares : (why : CollectionRefusal) → SparesStore (collection_refusal why)
+collection_spares collection.Commands = tt
+collection_spares collection.Memory = tt
+
+-- ---- what is recorded
+
+pub collection_recorded : (t : Table) (held : List ℕ) (reclaim : ℕ) (plan : CollectionPlan) → IsCollectionPlan t held reclaim plan → IsRecordOf t plan.change plan.body.items
+collection_recorded t held reclaim plan is = record { fits = is.fits; spelled = is.spelled; is_body = is.is_body; short = is.short }
+
+pub collection_no_checkpoint : (t : Table) (held : List ℕ) (reclaim : ℕ) (plan : CollectionPlan) → IsCollectionPlan t held reclaim plan → is_checkpoint plan.change ≡ false
+collection_no_checkpoint t held reclaim plan is = ap is_checkpoint is.change
+
+-- the state without the ids as they are recorded is the one without them in the order of going
+same_collection : (s : State) (ids others : List ℕ) → without others s.entries ≡ without ids s.entries → with_collection s others ≡ with_collection s ids
+same_collection s ids others same = ap (λ (entries : List PlainEntry). record (with_collection s ids) { entries = entries }) same
+
+-- that state follows from this one by what is recorded
+pub next_collection : (care : Care) (v : View) (s : State) (t : Table) → t ≡ table s → (held : List ℕ) (reclaim : ℕ) (plan : CollectionPlan) → (is : IsCollectionPlan t held reclaim plan) → without is.ascending s.entries ≡ without plan.ids.items s.entries
+    → (Fits (change.Collect is.ascending) (table s) → IsNext care v s (change.Collect is.ascending) (with_collection s is.ascending)) → IsNext care v s plan.change (with_collection s plan.ids.items)
+next_collection care v s t same held reclaim plan is left next =
+    let fits = subst (λ (x : Table). Fits (change.Collect is.ascending) x) same (subst (λ (c : Change). Fits c t) is.change is.fits) in
+    subst (λ (c : Change). IsNext care v s c (with_collection s plan.ids.items)) (sym is.change)
+    (subst (λ (new : State). IsNext care v s (change.Collect is.ascending) new) (same_collection s plan.ids.items is.ascending left) (next fits))
+
+-- ---- the files of the results that went
+
+abbrev NamesFree : Type 0
+NamesFree = (t : Table) (ids : List ℕ) (e : PlainEntry) → IsTable t → Contains t.entries e → IsTrue (is_among ids e.id) → IsFree (after (change.Collect ids) t) e.file.file
+
+pub has_id : (ids : List ℕ) (id : ℕ) → Contains ids id → is_among ids id ≡ true
+has_id ids id has = list_any_at (λ (other : ℕ). other == id) ids has.0 id has.1 (ap (λ (other : ℕ). other == id) has.2 ∙ eq-eqb id id refl)
+
+module _ (names_free : NamesFree) (t : Table) (is_table : IsTable t) (held : List ℕ) (reclaim : ℕ) (plan : CollectionPlan) (is : IsCollectionPlan t held reclaim plan) where
+  abbrev Next : Table
+  Next = after (change.Collect is.ascending) t
+
+  goes : (e : PlainEntry) → Contains is.collection.victims.taken e → IsFree Next (file_of t e.id).file
+  goes e has =
+      let there = (is.collection.victims.can_go e has).0 in
+      let same : (file_of t e.id).file ≡ e.file.file = ap (λ file. file.file) (found-own t e is_table there).0 in
+      let named : is_among plan.ids.items e.id ≡ true = subst (λ (ids : List ℕ). is_among ids e.id ≡ true) (sym is.collection.victims.named) (has_id _ e.id (contains_map is.collection.victims.taken has)) in
+      let among : is_among is.ascending e.id ≡ true = sym (list_any-IsPermutation (λ (other : ℕ). other == e.id) plan.ids.items is.ascending is.same) ∙ named in
+      subst (IsFree Next) (sym same) (names_free t is.ascending e is_table there among)
+    where
+      contains_map : (es : List PlainEntry) → Contains es e → Contains (map (λ (x : PlainEntry). x.id) es) e.id
+      contains_map [] has = absurd (omega (arith, has.1))
+      contains_map (x ∷ es) has = elim (Contains-cons_cases x es e has) [
+        | inl is ↦ subst (λ (id : ℕ). Contains (x.id ∷ map (λ (y : PlainEntry). y.id) es) id) (ap (λ (y : PlainEntry). y.id) is) (Contains-first x.id (map (λ (y : PlainEntry). y.id) es))
+        | inr more ↦ Contains-behind x.id (map (λ (y : PlainEntry). y.id) es) e.id (contains_map es more)
+      ]
+
+  all_go : (es : List PlainEntry) → ((e : PlainEntry) → Contains es e → IsFree Next (file_of t e.id).file) → AllByRecursion (IsFree Next) (files_of t (map (λ (e : PlainEntry). e.id) es))
+  all_go [] each = tt
+  all_go (e ∷ es) each = (each e (Contains-first e es), all_go es (λ x has. each x (Contains-behind e es x has)))
+
+  pub files_free : All (IsFree (after plan.change t)) plan.files.items
+  files_free =
+      let files : plan.files.items ≡ files_of t (map (λ (e : PlainEntry). e.id) is.collection.victims.taken) = is.files ∙ ap (files_of t) is.collection.victims.named in
+      subst (λ (c : Change). All (IsFree (after c t)) plan.files.items) (sym is.change)
+      (subst (All (IsFree Next)) (sym files) (All-from_recursion (IsFree Next) _ (all_go is.collection.victims.taken goes)))
+
+-- they are the files of kept results, and of those that went
+module _ (t : Table) (is_table : IsTable t) (held : List ℕ) (reclaim : ℕ) (plan : CollectionPlan) (is : IsCollectionPlan t held reclaim plan) where
+  pub are_gone : (v : View) (old mid new : Counts) → mid.removes ≡ old.removes → Rose mid.removes new.removes ⊎ removing.AreGone v plan.files.items → AreGone t plan.ids.items v old new
+  are_gone v old mid new same (inl rose) = inl (subst (λ n. Rose n new.removes) same rose)
+  are_gone v old mid new same (inr gone) = inr (λ e has named.
+      let file : (file_of t e.id).file ≡ e.file.file = ap (λ file. file.file) (found-own t e is_table has).0 in
+      subst (λ n. v.there n ≡ false) file
+      (All-contains (λ n. v.there n ≡ false) plan.files.items (file_of t e.id).file gone
+      (subst (λ (files : List ℕ). Contains files (file_of t e.id).file) (sym is.files) (contains_files plan.ids.items e.id named))))
+    where
+      contains_files : (ids : List ℕ) (id : ℕ) → Contains ids id → Contains (files_of t ids) (file_of t id).file
+      contains_files [] id has = absurd (omega (arith, has.1))
+      contains_files (x ∷ ids) id has = elim (Contains-cons_cases x ids id has) [
+        | inl is ↦ subst (λ (y : ℕ). Contains (files_of t (x ∷ ids)) (file_of t y).file) is (Contains-first (file_of t x).file (files_of t ids))
+        | inr more ↦ Contains-behind (file_of t x).file (files_of t ids) (file_of t id).file (contains_files ids id more)
+      ]
+
+  -- each of them is a kept result's
+  of_results : (es : List PlainEntry) → ((e : PlainEntry) → Contains es e → Contains t.entries e) → (file : ℕ) → Contains (files_of t (map (λ (e : PlainEntry). e.id) es)) file → (e : PlainEntry) × Contains t.entries e × (e.file.file ≡ file)
+  of_results [] each file has = absurd (omega (arith, has.1))
+  of_results (e ∷ es) each file has = elim (Contains-cons_cases (file_of t e.id).file (files_of t (map (λ (x : PlainEntry). x.id) es)) file has) [
+    | inl is ↦ (let there = each e (Contains-first e es) in (e, there, ap (λ file. file.file) (sym (found-own t e is_table there).0) ∙ is))
+    | inr more ↦ of_results es (λ x in'. each x (Contains-behind e es x in')) file more
+  ]
+
+  pub file_of_result : (file : ℕ) → Contains plan.files.items file → (e : PlainEntry) × Contains t.entries e × (e.file.file ≡ file)
+  file_of_result file has =
+      of_results is.collection.victims.taken (λ e in'. (is.collection.victims.can_go e in').0) file
+      (subst (λ (files : List ℕ). Contains files file) (is.files ∙ ap (files_of t) is.collection.victims.named) has)
+
+-- ---- which files are changed
+
+-- a collection that is recorded and whose files are then removed
+module _ (t : Table) (held : List ℕ) (reclaim : ℕ) (plan : CollectionPlan) (is_table : IsTable t) (is : IsCollectionPlan t held reclaim plan) (folder : Folder) (same : t ≡ table_in folder) (u v w : View) where
+  pub changes_log : (wanted : ℕ) → ChangesOnly (generation_file (generation_of (journal_of folder))) u v → ChangesAtMost folder (command.Collect wanted) u v
+  changes_log wanted run = spans_of (generation_file (generation_of (journal_of folder))) (λ x. Unit {0}) (MayChange folder (command.Collect wanted)) (λ image. Unit {0}) u v run (inl refl) (λ image here others. tt)
+
+  changes_results : (wanted : ℕ) → ChangesAmong plan.files.items v w → ChangesAtMost folder (command.Collect wanted) v w
+  changes_results wanted run = spans_wider (Contains plan.files.items) (MayChange folder (command.Collect wanted)) (λ image. Unit {0}) (λ image. Unit {0}) v w run
+      (λ file has. inr (let of = file_of_result t is_table held reclaim plan is file has in (of.0, subst (λ (x : Table). Contains x.entries of.0) same of.1, of.2)))
+      (λ image any others. tt)
+
+  pub changes_both : (wanted : ℕ) → ChangesOnly (generation_file (generation_of (journal_of folder))) u v → ChangesAmong plan.files.items v w → ChangesAtMost folder (command.Collect wanted) u w
+  changes_both wanted first then = spans_on (MayChange folder (command.Collect wanted)) (λ image. Unit {0}) u v w (changes_log wanted first) (changes_results wanted then)
+
+-- a session that is the same but for the memory that it has taken
+pub changes_prepared : (u v : View) (wanted : ℕ) (session session' : FolderSession) → table_in (folder_of session') ≡ table_in (folder_of session) → journal_of (folder_of session') ≡ journal_of (folder_of session)
+    → ChangesAtMost (folder_of session') (command.Collect wanted) u v → ChangesAtMost (folder_of session) (command.Collect wanted) u v
+changes_prepared u v wanted session session' t j changes =
+    spans_wider (MayChange (folder_of session') (command.Collect wanted)) (MayChange (folder_of session) (command.Collect wanted)) (λ image. Unit {0}) (λ image. Unit {0}) u v changes
+    (λ file is. either file is) (λ image any others. tt)
+  where
+    either : (file : ℕ) → MayChange (folder_of session') (command.Collect wanted) file → MayChange (folder_of session) (command.Collect wanted) file
+    either file (inl log) = inl (subst (λ (x : Journal). file ≡ generation_file (generation_of x)) j log)
+    either file (inr of) = inr (of.0, subst (λ (x : Table). Contains x.entries of.0) t of.1, of.2)
+
+-- ---- which files are left
+
+pub gone_prepared : {T E : Type 0} (result : Result T E) (t t' : Table) (ids : List ℕ) (v : View) (old new : Counts) → t' ≡ t → OnOk result (AreGone t' ids v old new) → OnOk result (AreGone t ids v old new)
+gone_prepared (Ok x) t t' ids v old new same gone = subst (λ (y : Table). AreGone y ids v old new) same gone
+gone_prepared (Err e) t t' ids v old new same gone = tt
+
+pub left_as_told : (t : Table) (reclaim : ℕ) (ids : List ℕ) (bytes : ℕ) (v : View) (old new : Counts) (result : Result (FolderSession × Answer) Failed) → IfOk result (λ next. next.1 ≡ answer.Evicted ids bytes) → OnOk result (AreGone t ids v old new)
+    → IfOk result (λ next. LeavesNoFile t (command.Collect reclaim) next.1 v old new)
+left_as_told t reclaim ids bytes v old new (Ok next) is gone = subst (λ (a : Answer). LeavesNoFile t (command.Collect reclaim) a v old new) (sym is) gone
+left_as_told t reclaim ids bytes v old new (Err failed) is gone = tt
+
+-- of a command that is no collection nothing is said
+pub nothing_left : {P : Type 0} → P → (result : Result (FolderSession × Answer) Failed) → IfOk result (λ next. P)
+nothing_left p (Ok next) = p
+nothing_left p (Err failed) = tt

@@ -1,0 +1,137 @@
+-- What a command leaves as it was.
+use Rattle.std.proofs.Common.{◌≡◌, ◌∙◌, ℕ, ◌+◌, ◌≤◌, List, Ok, Err, Result, IfOk, IfErr, OnOk, OnErr, ◌⊎◌, refl, sym, subst, inl, inr, arith}
+use Rattle.rows_core.specs.declared.file_ref.FileRef.{FileRef}
+use Rattle.outside_traits.specs.Counts.{Rose}
+use Rattle.outside_traits.specs.View.{View, Counts}
+use Rattle.outside_traits.specs.Runs.{Narrows, ChangesOnly}
+use Rattle.outside_traits.specs.declared.failed.Failed.{Failed}
+use Rattle.outside_traits.proofs.RunLemmas.{narrows_on, spans_none, spans_of, spans_on, spans_wider, spans_narrowed}
+use Rattle.script_text.specs.declared.answer.Answer.{Answer}
+use Rattle.script_text.specs.declared.answer.Answer.TheVariants as answer
+use Rattle.script_text.specs.declared.answer.Refusal.{Refusal}
+use Rattle.script_text.specs.declared.answer.Refusal.TheVariants as refusal
+use Rattle.rewrite_core.specs.Files.{FileName}
+use Rattle.catalog_core.specs.Table.{Table}
+use Rattle.executor.specs.Runs.{HasRunCause}
+use Rattle.executor.specs.declared.refusal.RunRefusal.{RunRefusal}
+use Rattle.executor.specs.declared.refusal.RunRefusal.TheVariants as run
+use Rattle.journal_store.specs.Journals.{generation_of}
+use Rattle.journal_store.specs.Readings.{generation_file}
+use Rattle.journal_store.specs.declared.journal.Journal.{Journal}
+use Rattle.folder.specs.Folders.{journal_of, table_in}
+use Rattle.folder.specs.Written.{ChangesFrom}
+use Rattle.folder.specs.declared.folder.Folder.{Folder}
+use Rattle.folder_session.specs.declared.session.FolderSession.{FolderSession}
+use Rattle.rows_core.specs.declared.schema.Column.{Column}
+use Rattle.script_text.specs.declared.item.Command.{Command}
+use Rattle.script_text.specs.declared.item.Command.TheVariants as command
+use Rattle.folder_session.specs.Standing.{LeavesWhereRefused, IsAppended, IsWritten, AppendsAtMost, ChangesAtMost, MayChange, WritesAtMost, folder_of}
+use Rattle.folder_session.specs.WorkRefusals.{refusal_of}
+
+-- the answer is this one
+pub leaves_given : (u v : View) (given : Answer) → LeavesWhereRefused given u v → (result : Result (FolderSession × Answer) Failed) → IfOk result (λ next. next.1 ≡ given) → IfOk result (λ next. LeavesWhereRefused next.1 u v)
+leaves_given u v given leaves (Ok next) is = subst (λ (a : Answer). LeavesWhereRefused a u v) (sym is) leaves
+leaves_given u v given leaves (Err failed) is = tt
+
+-- reading came before it
+module _ (u v w : View) (first : Narrows u v) where
+  leaves_behind : (given : Answer) → LeavesWhereRefused given v w → LeavesWhereRefused given u w
+  leaves_behind (answer.Refused why) then = narrows_on u v w first then
+  leaves_behind _ then = tt
+
+  pub leaves_then : (result : Result (FolderSession × Answer) Failed) → IfOk result (λ next. LeavesWhereRefused next.1 v w) → IfOk result (λ next. LeavesWhereRefused next.1 u w)
+  leaves_then (Ok next) then = leaves_behind next.1 then
+  leaves_then (Err failed) then = tt
+
+-- a count that nothing raised before
+pub count_then : {T E : Type 0} (result : Result T E) (a b c : ℕ) → b ≡ a → OnOk result (c ≡ b) → OnOk result (c ≡ a)
+count_then (Ok x) a b c first then = then ∙ first
+count_then (Err e) a b c first then = tt
+
+-- ---- which files are written
+
+module _ (folder : Folder) where
+  pub writes_none : (v : View) → WritesAtMost folder v v
+  writes_none v = spans_none (IsWritten folder) (λ image. Unit {0}) v (λ image is. tt)
+
+  -- what was only read
+  pub reads_only : (u v : View) → Narrows u v → WritesAtMost folder u v
+  reads_only u v run = spans_narrowed (IsWritten folder) (λ image. Unit {0}) u v run (λ image is. tt)
+
+  pub writes_on : (u v w : View) → WritesAtMost folder u v → WritesAtMost folder v w → WritesAtMost folder u w
+  writes_on u v w first then = spans_on (IsWritten folder) (λ image. Unit {0}) u v w first then
+
+  -- a change is recorded in the log
+  pub writes_log : (u v : View) → ChangesOnly (generation_file (generation_of (journal_of folder))) u v → WritesAtMost folder u v
+  writes_log u v run = spans_of (generation_file (generation_of (journal_of folder))) (λ x. Unit {0}) (IsWritten folder) (λ image. Unit {0}) u v run (inl refl) (λ image here others. tt)
+
+  -- so it is where a stream is made
+  pub streams_log : (name : List ℕ) (columns : List Column) (u v : View) → ChangesOnly (generation_file (generation_of (journal_of folder))) u v → ChangesAtMost folder (command.Stream name columns) u v
+  streams_log name columns u v run =
+      spans_of (generation_file (generation_of (journal_of folder))) (λ x. Unit {0}) (MayChange folder (command.Stream name columns)) (λ image. Unit {0}) u v run refl (λ image here others. tt)
+
+  -- an append, its file before the log
+  pub appends_file : (u v : View) → ChangesOnly ((table_in folder).next_file + 0) u v → AppendsAtMost folder u v
+  appends_file u v run = spans_of ((table_in folder).next_file + 0) (λ x. Unit {0}) (IsAppended folder) (λ image. Unit {0}) u v run (inr (omega arith)) (λ image here others. tt)
+
+  pub appends_both : (u v w : View) → ChangesOnly ((table_in folder).next_file + 0) u v → ChangesOnly (generation_file (generation_of (journal_of folder))) v w → AppendsAtMost folder u w
+  appends_both u v w first then =
+      spans_on (IsAppended folder) (λ image. Unit {0}) u v w (appends_file u v first)
+      (spans_of (generation_file (generation_of (journal_of folder))) (λ x. Unit {0}) (IsAppended folder) (λ image. Unit {0}) v w then (inl refl) (λ image here others. tt))
+
+  -- a command that changes nothing
+  pub changes_none : (c : Command) (v : View) → ChangesAtMost folder c v v
+  changes_none c v = spans_none (MayChange folder c) (λ image. Unit {0}) v (λ image is. tt)
+
+  -- new files
+  pub writes_files : (u v : View) → ChangesFrom ((table_in folder).next_file + 0) u v → WritesAtMost folder u v
+  writes_files u v run = spans_wider (λ file. (table_in folder).next_file + 0 ≤ file) (IsWritten folder) (λ image. Unit {0}) (λ image. Unit {0}) u v run (λ file later. inr (omega (arith, later))) (λ image any others. tt)
+
+-- a session that is the same but for the memory that it has taken
+pub writes_prepared : (u v : View) (session session' : FolderSession) → table_in (folder_of session') ≡ table_in (folder_of session) → journal_of (folder_of session') ≡ journal_of (folder_of session)
+    → WritesAtMost (folder_of session') u v → WritesAtMost (folder_of session) u v
+writes_prepared u v session session' t j writes =
+    spans_wider (IsWritten (folder_of session')) (IsWritten (folder_of session)) (λ image. Unit {0}) (λ image. Unit {0}) u v writes
+    (λ file is. subst (λ (x : Table). (file ≡ generation_file (generation_of (journal_of (folder_of session)))) ⊎ (x.next_file ≤ file)) t
+    (subst (λ (x : Journal). (file ≡ generation_file (generation_of x)) ⊎ ((table_in (folder_of session')).next_file ≤ file)) j is))
+    (λ image any others. tt)
+
+pub appends_prepared : (u v : View) (session session' : FolderSession) → table_in (folder_of session') ≡ table_in (folder_of session) → journal_of (folder_of session') ≡ journal_of (folder_of session)
+    → AppendsAtMost (folder_of session') u v → AppendsAtMost (folder_of session) u v
+appends_prepared u v session session' t j appends =
+    spans_wider (IsAppended (folder_of session')) (IsAppended (folder_of session)) (λ image. Unit {0}) (λ image. Unit {0}) u v appends (λ file is. either file is) (λ image any others. tt)
+  where
+    either : (file : ℕ) → IsAppended (folder_of session') file → IsAppended (folder_of session) file
+    either file (inl log) = inl (subst (λ (x : Journal). file ≡ generation_file (generation_of x)) j log)
+    either file (inr next) = inr (subst (λ (x : Table). file ≡ x.next_file) t next)
+
+-- ---- counts of failed looks
+
+-- no other refusal raises it
+pub looked_before : (result : Result (FolderSession × Answer) Failed) (a b : ℕ) → b ≡ a → IfOk result (λ next. (next.1 ≡ answer.Refused refusal.Fault → ⊥) → b ≡ a)
+looked_before (Ok next) a b same = λ other. same
+looked_before (Err failed) a b same = tt
+
+pub failed_after : {T E : Type 0} (result : Result T E) (P : Type 0) → P → OnErr result P
+failed_after (Ok x) P holds = tt
+failed_after (Err e) P holds = holds
+
+pub refused_after : {T : Type 0} (result : Result T Refusal) (a b : ℕ) → b ≡ a → IfErr result (λ why. (why ≡ refusal.Fault → ⊥) → b ≡ a)
+refused_after (Ok x) a b same = tt
+refused_after (Err why) a b same = λ other. same
+
+pub unread_counts : (places : FileName → FileRef) (names : List FileName) (old new : Counts) (why : RunRefusal) → HasRunCause places names old new why → (refusal_of why ≡ refusal.Fault → ⊥) → new.reads ≡ old.reads
+unread_counts places names old new run.Fault cause other = absurd (other refl)
+unread_counts places names old new (run.Damaged file kept found) cause other = cause.4
+unread_counts places names old new (run.Unreadable file at) cause other = cause.2
+unread_counts places names old new run.Overflow cause other = cause
+unread_counts places names old new run.Machine cause other = cause
+unread_counts places names old new run.Memory cause other = cause
+
+pub fault_rose : (places : FileName → FileRef) (names : List FileName) (old new : Counts) (why : RunRefusal) → HasRunCause places names old new why → answer.Refused (refusal_of why) ≡ answer.Refused refusal.Fault → Rose old.reads new.reads
+fault_rose places names old new run.Fault cause is = cause
+fault_rose places names old new (run.Damaged file kept found) cause is = absurd (cc)
+fault_rose places names old new (run.Unreadable file at) cause is = absurd (cc)
+fault_rose places names old new run.Overflow cause is = absurd (cc)
+fault_rose places names old new run.Machine cause is = absurd (cc)
+fault_rose places names old new run.Memory cause is = absurd (cc)

@@ -1,0 +1,13 @@
+pub mod ChosenLemmas
+pub mod CollectLemmas
+pub mod FileLemmas
+pub mod LaterLemmas
+pub mod LeavingLemmas
+pub mod LoadLemmas
+pub mod OneReading
+pub mod OutcomeLemmas
+pub mod RefusalLemmas
+pub mod RowLemmas
+pub mod StepLemmas
+pub mod TakenLemmas
+pub mod WorkLemmas

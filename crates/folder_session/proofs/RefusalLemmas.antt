@@ -1,0 +1,385 @@
+-- Which refusals are laid to the store.
+use Rattle.std.proofs.Common.{◌≡◌, ◌⊎◌, ℕ, Bool, true, false, cond, List, Option, None, Some, Ok, Err, Result, IfOk, IfErr, refl, sym, ap, ◌∙◌, subst, inl, inr}
+use Rattle.std.specs.Prelude.{nat_le, nat_lt, is_some, length}
+use Rattle.rows_core.specs.declared.file_ref.Digest.{Digest}
+use Rattle.rows_core.specs.declared.file_ref.FileRef.{FileRef}
+use Rattle.rows_core.specs.declared.schema.Column.{Column}
+use Rattle.rows_core.specs.declared.value.Value.{Value}
+use Rattle.rows_core.specs.Schema.{has_repeat}
+use Rattle.catalog_types.specs.declared.change.Change.{Change}
+use Rattle.catalog_types.specs.declared.change.Change.TheVariants as change
+use Rattle.outside_traits.specs.Counts.{Rose}
+use Rattle.outside_traits.specs.View.{Counts}
+use Rattle.outside_traits.specs.declared.failed.Failed.{Failed}
+use Rattle.catalog_types.specs.declared.program.Program.{Program}
+use Rattle.estimator.specs.Cuts.{Cuts}
+use Rattle.catalog_core.specs.Programs.{extents_at, most_text_bytes, program_named, with_program}
+use Rattle.catalog_core.specs.Table.{Table, place_of, most_ticks, most_streams, most_programs, file_end, most_extents, most_extents_in_all, most_extent_bytes, extent_count}
+use Rattle.plan_binder.specs.declared.refusal.BindRefusal.{BindRefusal}
+use Rattle.plan_binder.specs.declared.refusal.BindRefusal.TheVariants as binding
+use Rattle.plan_core.specs.declared.refusal.PlanRefusal.{PlanRefusal}
+use Rattle.plan_core.specs.declared.refusal.PlanRefusal.TheVariants as typing
+use Rattle.plan_core.specs.Columns.{Rows}
+use Rattle.plan_core.specs.PlainPlan.{PlainPlan}
+use Rattle.plan_core.specs.PlanTyping.{Kinds}
+use Rattle.plan_grammar.specs.PlainNamed.{PlainTree}
+use Rattle.rewrite_core.specs.Files.{FileName, files_of}
+use Rattle.rewrite_core.specs.PlainRewriting.{PlainRewriting}
+use Rattle.growth_laws.specs.Pieces.{pieces_of}
+use Rattle.executor.specs.Runs.{HasRunCause, IsRunFound}
+use Rattle.executor.specs.declared.refusal.RunRefusal.{RunRefusal}
+use Rattle.executor.specs.declared.refusal.RunRefusal.TheVariants as run
+use Rattle.plan_choice.specs.Taken.{IsTaken}
+use Rattle.planning.specs.Appending.{Append, held, append_to, file_bytes, appending, appending_read, IsAppending, IsAppendingAt}
+use Rattle.planning.specs.Fetching.{IsFetching, IsFetchOfAny, counted, fetched_cuts}
+use Rattle.planning.specs.Making.{making, most_columns}
+use Rattle.planning.specs.Rows.{Reading, BadLine, have_long}
+use Rattle.planning.specs.Rows as rows
+use Rattle.planning.specs.Running.{Run, Target, bound_plan, typing_of, unbound, untyped, storing, run_of, running_typed, running_bound, running}
+use Rattle.script_text.specs.declared.answer.Answer.{Answer}
+use Rattle.script_text.specs.declared.answer.Answer.TheVariants as answer
+use Rattle.script_text.specs.declared.answer.LimitKind.TheVariants as limit
+use Rattle.script_text.specs.declared.answer.Refusal.{Refusal}
+use Rattle.script_text.specs.declared.answer.Refusal.TheVariants as refusal
+use Rattle.script_text.specs.declared.item.Command.{Command}
+use Rattle.script_text.specs.declared.item.Command.TheVariants as command
+use Rattle.folder.specs.Sound.{Care, Shown, Whole}
+use Rattle.folder.specs.State.{State, table}
+use Rattle.work_run.specs.Ends.{sources_of}
+use Rattle.folder_session.specs.declared.session.FolderSession.{FolderSession}
+use Rattle.folder_session.specs.Machine.{Outcome, outcome, refused, made, appended, RunsTo, FetchesTo, CollectsTo, IsWorkOn, Performs, IsWant, IsFileEvent, IsEvent, Step}
+use Rattle.folder_session.specs.Causes.{SparesStore, TellsOfNoFile, IsOfFiles, IsOfRun, IsOfFetch, HasByteCause}
+use Rattle.folder_session.specs.WorkRefusals.{refusal_of}
+use Rattle.folder_session.specs.Working.{IsFoundFor}
+
+-- ---- what planning refuses is laid to the command
+
+pub spares_if : {C : Type 0} (b : Bool) (x y : Result C Refusal) → IfErr x SparesStore → IfErr y SparesStore → IfErr (cond b x y) SparesStore
+spares_if true x y first second = first
+spares_if false x y first second = second
+
+making_spares : (t : Table) (name : List ℕ) (columns : List Column) → IfErr (making t name columns) SparesStore
+making_spares t name columns =
+    let by_ticks : Result Change Refusal = cond (nat_le most_ticks t.tick) (Err (refusal.Limit limit.Commands)) (Ok (change.Stream name columns)) in
+    let by_streams : Result Change Refusal = cond (nat_le most_streams (length t.streams)) (Err (refusal.Limit limit.Streams)) by_ticks in
+    let by_columns : Result Change Refusal = cond (nat_lt most_columns (length columns)) (Err (refusal.Limit limit.Columns)) by_streams in
+    let by_names : Result Change Refusal = cond (has_repeat columns) (Err refusal.IllTyped) by_columns in
+    spares_if {C = Change} (is_some (place_of t.streams name)) (Err (refusal.Exists name)) by_names tt
+    (spares_if {C = Change} (has_repeat columns) (Err refusal.IllTyped) by_columns tt
+    (spares_if {C = Change} (nat_lt most_columns (length columns)) (Err (refusal.Limit limit.Columns)) by_streams tt
+    (spares_if {C = Change} (nat_le most_streams (length t.streams)) (Err (refusal.Limit limit.Streams)) by_ticks tt
+    (spares_if {C = Change} (nat_le most_ticks t.tick) (Err (refusal.Limit limit.Commands)) (Ok (change.Stream name columns)) tt tt))))
+
+appending_spares : (t : Table) (place : ℕ) (read : List (List Value)) → IfErr (appending t place read) SparesStore
+appending_spares t place read =
+    let by_ticks : Result Append Refusal = cond (nat_le most_ticks t.tick) (Err (refusal.Limit limit.Commands)) (Ok (append_to place read)) in
+    let by_files : Result Append Refusal = cond (nat_le file_end t.next_file) (Err (refusal.Limit limit.Files)) by_ticks in
+    let by_all : Result Append Refusal = cond (nat_le most_extents_in_all (extent_count t.streams)) (Err (refusal.Limit limit.AllExtents)) by_files in
+    let by_extents : Result Append Refusal = cond (nat_le most_extents (length (extents_at t.streams place))) (Err (refusal.Limit limit.Extents)) by_all in
+    let by_bytes : Result Append Refusal = cond (nat_lt most_extent_bytes (length (file_bytes read))) (Err (refusal.Limit limit.Extent)) by_extents in
+    spares_if {C = Append} (have_long read) (Err (refusal.Limit limit.Text)) by_bytes tt
+    (spares_if {C = Append} (nat_lt most_extent_bytes (length (file_bytes read))) (Err (refusal.Limit limit.Extent)) by_extents tt
+    (spares_if {C = Append} (nat_le most_extents (length (extents_at t.streams place))) (Err (refusal.Limit limit.Extents)) by_all tt
+    (spares_if {C = Append} (nat_le most_extents_in_all (extent_count t.streams)) (Err (refusal.Limit limit.AllExtents)) by_files tt
+    (spares_if {C = Append} (nat_le file_end t.next_file) (Err (refusal.Limit limit.Files)) by_ticks tt
+    (spares_if {C = Append} (nat_le most_ticks t.tick) (Err (refusal.Limit limit.Commands)) (Ok (append_to place read)) tt tt)))))
+
+appending_read_spares : (t : Table) (place : ℕ) (read : Reading) → IfErr (appending_read t place read) SparesStore
+appending_read_spares t place (BadLine number) = tt
+appending_read_spares t place (rows.Rows read) = appending_spares t place read
+
+appending_at_spares : (t : Table) (place : Option ℕ) (name : List ℕ) (lines : List (List ℕ)) (given : Result Append Refusal) → IsAppendingAt t place name lines given → IfErr given SparesStore
+appending_at_spares t None name lines given is = subst (λ (g : Result Append Refusal). IfErr g SparesStore) (sym is) tt
+appending_at_spares t (Some place) name lines given is = subst (λ (g : Result Append Refusal). IfErr g SparesStore) (sym is.2) (appending_read_spares t place is.0)
+
+pub storing_spares : (t : Table) (run : Run) → IfErr (storing t run) SparesStore
+storing_spares t run =
+    let by_ticks : Result Run Refusal = cond (nat_le most_ticks t.tick) (Err (refusal.Limit limit.Commands)) (Ok run) in
+    let by_programs : Result Run Refusal = cond (nat_lt most_programs (length (with_program run.program t.programs))) (Err (refusal.Limit limit.Programs)) by_ticks in
+    spares_if {C = Run} (nat_lt most_text_bytes (length run.program.text)) (Err (refusal.Limit limit.PlanText)) by_programs tt
+    (spares_if {C = Run} (nat_lt most_programs (length (with_program run.program t.programs))) (Err (refusal.Limit limit.Programs)) by_ticks tt
+    (spares_if {C = Run} (nat_le most_ticks t.tick) (Err (refusal.Limit limit.Commands)) (Ok run) tt tt))
+
+pub untyped_spares : (why : PlanRefusal) → SparesStore (untyped why)
+untyped_spares (typing.Unknown number) = tt
+untyped_spares typing.IllTyped = tt
+untyped_spares typing.TooMany = tt
+untyped_spares typing.Memory = tt
+
+pub unbound_spares : (why : BindRefusal) → SparesStore (unbound why)
+unbound_spares (binding.Unknown name) = tt
+unbound_spares binding.IllTyped = tt
+unbound_spares binding.Memory = tt
+
+typed_spares : (t : Table) (run : Run) (kinds : Result Kinds PlanRefusal) → IfErr (running_typed t run kinds) SparesStore
+typed_spares t run (Ok kinds) = storing_spares t run
+typed_spares t run (Err why) = untyped_spares why
+
+bound_spares : (t : Table) (name : List ℕ) (tree : PlainTree) (plan : Result PlainPlan BindRefusal) → IfErr (running_bound t name tree plan) SparesStore
+bound_spares t name tree (Ok plan) = typed_spares t (run_of t.streams name tree plan) (typing_of t.streams plan)
+bound_spares t name tree (Err why) = unbound_spares why
+
+abbrev IsMemory : Refusal → Type 0
+IsMemory why = why ≡ refusal.Memory
+
+planned_spares : {C : Type 0} (planned : Result C Refusal) (why : Refusal) → IfErr planned SparesStore → planned ≡ Err why ⊎ IsMemory why → SparesStore why
+planned_spares {C = C} planned why spares (inl is) = subst (λ (r : Result C Refusal). IfErr r SparesStore) is spares
+planned_spares planned why spares (inr none) = subst SparesStore (sym none) tt
+
+pub making_refuses : (t : Table) (name : List ℕ) (columns : List Column) (why : Refusal) → making t name columns ≡ Err why ⊎ IsMemory why → SparesStore why
+making_refuses t name columns why either = planned_spares (making t name columns) why (making_spares t name columns) either
+
+pub appending_refuses : (t : Table) (name : List ℕ) (lines : List (List ℕ)) (why : Refusal) → IsAppending t name lines (Err why) ⊎ IsMemory why → SparesStore why
+appending_refuses t name lines why (inl is) = appending_at_spares t (place_of t.streams name) name lines (Err why) is
+appending_refuses t name lines why (inr none) = subst SparesStore (sym none) tt
+
+running_refuses : (t : Table) (name : List ℕ) (tree : PlainTree) (why : Refusal) → running t name tree ≡ Err why ⊎ IsMemory why → SparesStore why
+running_refuses t name tree why either = planned_spares (running t name tree) why (bound_spares t name tree (bound_plan t.streams tree)) either
+
+fetch_of_spares : (t : Table) (target : Target) (why : Refusal) → counted t target ≡ Err why → SparesStore why
+fetch_of_spares t target why is =
+    planned_spares (counted t target) why (spares_if {C = Target} (nat_le most_ticks t.tick) (Err (refusal.Limit limit.Commands)) (Ok target) tt tt) (inl is)
+
+fetch_of_any_spares : (t : Table) (name : List ℕ) (as_run : Bool) (found : Option Program) (why : Refusal) → IsFetchOfAny t name as_run found (Err why) → SparesStore why
+fetch_of_any_spares t name as_run (Some program) why is = fetch_of_spares t (record { plan = is.plan; cuts = fetched_cuts as_run t.streams program is.plan }) why (sym is.planned_is)
+fetch_of_any_spares t name as_run None why is = planned_spares {C = Target} (Err (refusal.Unknown name)) why tt (inl (sym is))
+
+fetching_spares : (t : Table) (name : List ℕ) (as_run : Bool) (why : Refusal) → IsFetching t name as_run (Err why) → SparesStore why
+fetching_spares t name as_run why is = fetch_of_any_spares t name as_run (program_named t.programs name) why is
+
+fetching_refuses : (t : Table) (name : List ℕ) (as_run : Bool) (why : Refusal) → IsFetching t name as_run (Err why) ⊎ IsMemory why → SparesStore why
+fetching_refuses t name as_run why (inl is) = fetching_spares t name as_run why is
+fetching_refuses t name as_run why (inr none) = subst SparesStore (sym none) tt
+
+-- ---- answers by the bytes of files
+
+module _ (t : Table) (files : ℕ → List ℕ) where
+  stream_cause : (name : List ℕ) (columns : List Column) (given : Answer) → TellsOfNoFile given → HasByteCause t (command.Stream name columns) files given
+  stream_cause name columns (answer.Refused why) tells = tells
+  stream_cause name columns answer.Ok tells = tt
+  stream_cause name columns (answer.Held n) tells = tt
+  stream_cause name columns (answer.Result rows used kept read) tells = tt
+  stream_cause name columns (answer.Evicted ids bytes) tells = tt
+  stream_cause name columns (answer.Entries summaries) tells = tt
+  stream_cause name columns (answer.Ready n) tells = tt
+  stream_cause name columns (answer.Left n) tells = tt
+
+  append_cause : (name : List ℕ) (lines : List (List ℕ)) (given : Answer) → TellsOfNoFile given → HasByteCause t (command.Append name lines) files given
+  append_cause name lines (answer.Refused why) tells = tells
+  append_cause name lines answer.Ok tells = tt
+  append_cause name lines (answer.Held n) tells = tt
+  append_cause name lines (answer.Result rows used kept read) tells = tt
+  append_cause name lines (answer.Evicted ids bytes) tells = tt
+  append_cause name lines (answer.Entries summaries) tells = tt
+  append_cause name lines (answer.Ready n) tells = tt
+  append_cause name lines (answer.Left n) tells = tt
+
+  collect_cause : (reclaim : ℕ) (given : Answer) → TellsOfNoFile given → HasByteCause t (command.Collect reclaim) files given
+  collect_cause reclaim (answer.Refused why) tells = tells
+  collect_cause reclaim answer.Ok tells = tt
+  collect_cause reclaim (answer.Held n) tells = tt
+  collect_cause reclaim (answer.Result rows used kept read) tells = tt
+  collect_cause reclaim (answer.Evicted ids bytes) tells = tt
+  collect_cause reclaim (answer.Entries summaries) tells = tt
+  collect_cause reclaim (answer.Ready n) tells = tt
+  collect_cause reclaim (answer.Left n) tells = tt
+
+  entries_cause : (given : Answer) → TellsOfNoFile given → HasByteCause t command.Entries files given
+  entries_cause (answer.Refused why) tells = tells
+  entries_cause answer.Ok tells = tt
+  entries_cause (answer.Held n) tells = tt
+  entries_cause (answer.Result rows used kept read) tells = tt
+  entries_cause (answer.Evicted ids bytes) tells = tt
+  entries_cause (answer.Entries summaries) tells = tt
+  entries_cause (answer.Ready n) tells = tt
+  entries_cause (answer.Left n) tells = tt
+
+  pub collect_causes : (c : Command) (reclaim : ℕ) (result : Result (FolderSession × Answer) Failed) → c ≡ command.Collect reclaim → IfOk result (λ next. TellsOfNoFile next.1) → IfOk result (λ next. HasByteCause t c files next.1)
+  collect_causes c reclaim (Ok next) is tells = subst (λ x. HasByteCause t x files next.1) (sym is) (collect_cause reclaim next.1 tells)
+  collect_causes c reclaim (Err failed) is tells = tt
+
+  pub entries_causes : (c : Command) (given : Answer) → c ≡ command.Entries → TellsOfNoFile given → HasByteCause t c files given
+  entries_causes c given is tells = subst (λ x. HasByteCause t x files given) (sym is) (entries_cause given tells)
+
+  pub stream_causes : (c : Command) (name : List ℕ) (columns : List Column) (result : Result (FolderSession × Answer) Failed) → c ≡ command.Stream name columns → IfOk result (λ next. TellsOfNoFile next.1) → IfOk result (λ next. HasByteCause t c files next.1)
+  stream_causes c name columns (Ok next) is tells = subst (λ x. HasByteCause t x files next.1) (sym is) (stream_cause name columns next.1 tells)
+  stream_causes c name columns (Err failed) is tells = tt
+
+  pub append_causes : (c : Command) (name : List ℕ) (lines : List (List ℕ)) (result : Result (FolderSession × Answer) Failed) → c ≡ command.Append name lines → IfOk result (λ next. TellsOfNoFile next.1) → IfOk result (λ next. HasByteCause t c files next.1)
+  append_causes c name lines (Ok next) is tells = subst (λ x. HasByteCause t x files next.1) (sym is) (append_cause name lines next.1 tells)
+  append_causes c name lines (Err failed) is tells = tt
+
+  -- what is refused before, and want of memory
+  of_spared : (planned : Result Run Refusal) (why : Refusal) → SparesStore why → IsOfRun t planned files why
+  of_spared (Err w) why spares = spares
+  of_spared (Ok run) (refusal.Damaged file kept found) spares = absurd spares
+  of_spared (Ok run) (refusal.Unreadable file at) spares = absurd spares
+  of_spared (Ok run) _ spares = tt
+
+  -- by the rewriting that is taken
+  of_taken : (run : Run) (normal : PlainPlan) (r : PlainRewriting) → IsTaken t run.plan normal run.program.cuts r → (why : Refusal) → IsOfFiles t r files why → IsOfRun t (Ok run) files why
+  of_taken run normal r taken (refusal.Damaged file kept found) is = record { normal = normal; rewriting = r; taken = taken; of_files = is }
+  of_taken run normal r taken (refusal.Unreadable file at) is = record { normal = normal; rewriting = r; taken = taken; of_files = is }
+  of_taken run normal r taken _ is = tt
+
+  module _ (name : List ℕ) (tree : PlainTree) where
+    pub run_refused : (why : Refusal) → running t name tree ≡ Err why ⊎ IsMemory why → HasByteCause t (command.Run name tree) files (answer.Refused why)
+    run_refused why either = of_spared (running t name tree) why (running_refuses t name tree why either)
+
+    pub run_found : (run : Run) (normal : PlainPlan) (r : PlainRewriting) → running t name tree ≡ Ok run → IsTaken t run.plan normal run.program.cuts r → (result : Result (FolderSession × Answer) Failed)
+        → IfOk result (λ next. IsFoundFor t r files next.1) → IfOk result (λ next. HasByteCause t (command.Run name tree) files next.1)
+    run_found run normal r is taken (Ok next) found = told next.1 found
+      where
+        told : (given : Answer) → IsFoundFor t r files given → HasByteCause t (command.Run name tree) files given
+        told (answer.Refused why) found = subst (λ (planned : Result Run Refusal). IsOfRun t planned files why) (sym is) (of_taken run normal r taken why found)
+        told _ found = tt
+    run_found run normal r is taken (Err failed) found = tt
+
+  -- a fetch
+  fetch_spared : (name : List ℕ) (as_run : Bool) (why : Refusal) → SparesStore why → IsOfFetch t name as_run files why
+  fetch_spared name as_run refusal.Fault spares = absurd spares
+  fetch_spared name as_run (refusal.Damaged file kept found) spares = absurd spares
+  fetch_spared name as_run (refusal.Unreadable file at) spares = absurd spares
+  fetch_spared name as_run _ spares = tt
+
+  fetch_taken : (name : List ℕ) (as_run : Bool) (target : Target) (normal : PlainPlan) (r : PlainRewriting) → IsFetching t name as_run (Ok target) → IsTaken t target.plan normal target.cuts r → (why : Refusal) → IsOfFiles t r files why → IsOfFetch t name as_run files why
+  fetch_taken name as_run target normal r planned taken refusal.Fault is = (target, planned)
+  fetch_taken name as_run target normal r planned taken (refusal.Damaged file kept found) is = (target, planned, record { normal = normal; rewriting = r; taken = taken; of_files = is })
+  fetch_taken name as_run target normal r planned taken (refusal.Unreadable file at) is = (target, planned, record { normal = normal; rewriting = r; taken = taken; of_files = is })
+  fetch_taken name as_run target normal r planned taken _ is = tt
+
+  module _ (name : List ℕ) (as_run : Bool) where
+    pub fetch_refused : (why : Refusal) → IsFetching t name as_run (Err why) ⊎ IsMemory why → HasByteCause t (command.Fetch name as_run) files (answer.Refused why)
+    fetch_refused why either = fetch_spared name as_run why (fetching_refuses t name as_run why either)
+
+    pub fetch_found : (target : Target) (normal : PlainPlan) (r : PlainRewriting) → IsFetching t name as_run (Ok target) → IsTaken t target.plan normal target.cuts r → (result : Result (FolderSession × Answer) Failed)
+        → IfOk result (λ next. IsFoundFor t r files next.1) → IfOk result (λ next. HasByteCause t (command.Fetch name as_run) files next.1)
+    fetch_found target normal r is taken (Ok next) found = told next.1 found
+      where
+        told : (given : Answer) → IsFoundFor t r files given → HasByteCause t (command.Fetch name as_run) files given
+        told (answer.Refused why) found = fetch_taken name as_run target normal r is taken why found
+        told _ found = tt
+    fetch_found target normal r is taken (Err failed) found = tt
+
+  -- ---- work
+
+  -- why it isn't done
+  pub work_found : (r : PlainRewriting) (places : FileName → FileRef) (old new : Counts) (why : RunRefusal) → HasRunCause places (files_of r) old new why → IsRunFound (sources_of t files) (pieces_of r) (files_of r) why
+      → IsOfFiles t r files (refusal_of why)
+  work_found r places old new (run.Damaged file kept found) cause is = (is, λ (same : found ≡ kept). cause.3 (same ∙ cause.2))
+  work_found r places old new (run.Unreadable file at) cause is = is
+  work_found r places old new run.Overflow cause is = tt
+  work_found r places old new run.Machine cause is = tt
+  work_found r places old new run.Fault cause is = tt
+  work_found r places old new run.Memory cause is = tt
+
+  -- a result, or want of memory where it was to be recorded
+  pub result_found : (r : PlainRewriting) (rows : Rows) (used kept : List ℕ) (read : ℕ) (result : Result (FolderSession × Answer) Failed) → IfOk result (λ next. next.1 ≡ answer.Result rows used kept read)
+      → IfOk result (λ next. IsFoundFor t r files next.1)
+  result_found r rows used kept read (Ok next) is = subst (λ (a : Answer). IsFoundFor t r files a) (sym is) tt
+  result_found r rows used kept read (Err failed) is = tt
+
+-- a command that reads no files tells no failed read
+pub no_fault_in : (old new : ℕ) (result : Result (FolderSession × Answer) Failed) → IfOk result (λ next. TellsOfNoFile next.1) → IfOk result (λ next. next.1 ≡ answer.Refused refusal.Fault → Rose old new)
+no_fault_in old new (Ok next) tells = λ is. absurd (subst TellsOfNoFile is tells)
+no_fault_in old new (Err failed) tells = tt
+
+-- ---- so is what the machine does where there is memory and each file is read
+
+-- the refusal that is answered is the one that was planned
+spares_same : (s : State) (why w : Refusal) (new : State) → outcome (answer.Refused why) new ≡ refused s w → SparesStore w → SparesStore why
+spares_same s why w new is spares =
+    let same : answer.Refused why ≡ answer.Refused w = ap (λ (o : Outcome). o.answer) is in
+    let one : w ≡ why = cc in
+    subst SparesStore one spares
+
+made_spares : (s : State) (name : List ℕ) (columns : List Column) (planned : Result Change Refusal) (why : Refusal) (new : State) → IfErr planned SparesStore → outcome (answer.Refused why) new ≡ made s name columns planned → SparesStore why
+made_spares s name columns (Ok change) why new spares is =
+    let same : answer.Refused why ≡ answer.Ok = ap (λ (o : Outcome). o.answer) is in
+    absurd (cc)
+made_spares s name columns (Err w) why new spares is = spares_same s why w new is spares
+
+appended_spares : (s : State) (planned : Result Append Refusal) (why : Refusal) (new : State) → IfErr planned SparesStore → outcome (answer.Refused why) new ≡ appended s planned → SparesStore why
+appended_spares s (Ok a) why new spares is =
+    let same : answer.Refused why ≡ answer.Held (held (table s) a) = ap (λ (o : Outcome). o.answer) is in
+    absurd (cc)
+appended_spares s (Err w) why new spares is = spares_same s why w new is spares
+
+on_spares : (s : State) (program : Option Program) (plan : PlainPlan) (cuts : Cuts) (why : Refusal) (new : State) → IsWorkOn s program plan cuts (answer.Refused why) new → SparesStore why
+on_spares s program plan cuts refusal.Fault new is = absurd is
+on_spares s program plan cuts (refusal.Damaged file kept found) new is = absurd is
+on_spares s program plan cuts (refusal.Unreadable file at) new is = absurd is
+on_spares s program plan cuts _ new is = tt
+
+ran_spares : (s : State) (planned : Result Run Refusal) (why : Refusal) (new : State) → IfErr planned SparesStore → RunsTo s planned (outcome (answer.Refused why) new) → SparesStore why
+ran_spares s (Ok run) why new spares is = on_spares s (Some run.program) run.plan run.program.cuts why new is
+ran_spares s (Err w) why new spares is = spares_same s why w new is spares
+
+fetched_spares : (s : State) (name : List ℕ) (as_run : Bool) (planned : Result Target Refusal) (why : Refusal) (new : State) → IsFetching (table s) name as_run planned → FetchesTo s planned (outcome (answer.Refused why) new) → SparesStore why
+fetched_spares s name as_run (Ok target) why new planned is = on_spares s None target.plan target.cuts why new is
+fetched_spares s name as_run (Err w) why new planned is = spares_same s why w new is (fetching_spares (table s) name as_run w planned)
+
+collected_spares : (full : Bool) (held : List ℕ) (s : State) (reclaim : ℕ) (why : Refusal) (new : State) → CollectsTo full held s reclaim (outcome (answer.Refused why) new) → SparesStore why
+collected_spares true held s reclaim why new is = spares_same s why (refusal.Limit limit.Commands) new is tt
+collected_spares false held s reclaim why new is =
+    let same : answer.Refused why ≡ answer.Evicted is.0 is.1 = ap (λ (o : Outcome). o.answer) is.3 in
+    absurd (cc)
+
+performed_spares : (held : List ℕ) (s : State) (c : Command) (why : Refusal) (new : State) → Performs held s c (outcome (answer.Refused why) new) → SparesStore why
+performed_spares held s (command.Stream name columns) why new is = made_spares s name columns (making (table s) name columns) why new (making_spares (table s) name columns) is
+performed_spares held s (command.Append name lines) why new is = appended_spares s is.0 why new (appending_at_spares (table s) (place_of (table s).streams name) name lines is.0 is.1) is.2
+performed_spares held s (command.Run name tree) why new is = ran_spares s (running (table s) name tree) why new (bound_spares (table s) name tree (bound_plan (table s).streams tree)) is
+performed_spares held s (command.Fetch name as_run) why new is = fetched_spares s name as_run is.0 why new is.1 is.2
+performed_spares held s (command.Collect reclaim) why new is = collected_spares (nat_le most_ticks s.tick) held s reclaim why new is
+performed_spares held s command.Entries why new is =
+    let same : answer.Refused why ≡ answer.Entries _ = ap (λ (o : Outcome). o.answer) is in
+    absurd (cc)
+performed_spares held s _ why new is = absurd is
+
+-- ---- what comes in the course of a command: want of memory, a failed read, and damage where files may show it
+
+want_spares : (why : Refusal) → IsWant why → SparesStore why
+want_spares refusal.Memory want = tt
+want_spares _ want = absurd want
+
+file_event_spares : (s : State) (why : Refusal) → IsFileEvent Whole s why → (why ≡ refusal.Fault → ⊥) → SparesStore why
+file_event_spares s refusal.Fault event none = none refl
+file_event_spares s (refusal.Damaged file kept found) event none =
+    let may : Whole ≡ Shown = event.may in
+    absurd (cc)
+file_event_spares s why event none = want_spares why event
+
+event_spares : (s : State) (c : Command) (why : Refusal) → IsEvent Whole s c why → (why ≡ refusal.Fault → ⊥) → SparesStore why
+event_spares s (command.Stream name columns) why event none = want_spares why event
+event_spares s (command.Append name lines) why event none = want_spares why event
+event_spares s (command.Run name tree) why event none = file_event_spares s why event none
+event_spares s (command.Fetch name as_run) why event none = file_event_spares s why event none
+event_spares s (command.Collect reclaim) why event none = want_spares why event
+event_spares s _ why event none = want_spares why event
+
+-- where the files hold their bytes no refusal but that of a failed read is laid to the store
+pub step_spares : (held : List ℕ) (s new : State) (c : Command) (why : Refusal) → Step Whole held s c (answer.Refused why) new → (why ≡ refusal.Fault → ⊥) → SparesStore why
+step_spares held s new c why (inl performs) none = performed_spares held s c why new performs
+step_spares held s new c why (inr event) none =
+    let same : answer.Refused why ≡ answer.Refused event.0 = ap (λ (o : Outcome). o.answer) event.2 in
+    let one : event.0 ≡ why = cc in
+    event_spares s c why (subst (IsEvent Whole s c) one event.1) none
+
+-- and never is one for unreadable bytes
+pub never_unreadable : (care : Care) (held : List ℕ) (s new : State) (c : Command) (file at : ℕ) → Step care held s c (answer.Refused (refusal.Unreadable file at)) new → ⊥
+never_unreadable care held s new c file at (inl performs) = performed_spares held s c (refusal.Unreadable file at) new performs
+never_unreadable care held s new c file at (inr event) =
+    let same : answer.Refused (refusal.Unreadable file at) ≡ answer.Refused event.0 = ap (λ (o : Outcome). o.answer) event.2 in
+    let one : event.0 ≡ refusal.Unreadable file at = cc in
+    unread c (subst (IsEvent care s c) one event.1)
+  where
+    unread : (c : Command) → IsEvent care s c (refusal.Unreadable file at) → ⊥
+    unread (command.Stream name columns) is = is
+    unread (command.Append name lines) is = is
+    unread (command.Run name tree) is = is
+    unread (command.Fetch name as_run) is = is
+    unread (command.Collect reclaim) is = is
+    unread _ is = is
+
+pub never_damaged : (held : List ℕ) (s new : State) (c : Command) (file : ℕ) (kept found : Digest) → Step Whole held s c (answer.Refused (refusal.Damaged file kept found)) new → ⊥
+never_damaged held s new c file kept found step = step_spares held s new c (refusal.Damaged file kept found) step (λ is. absurd (cc))

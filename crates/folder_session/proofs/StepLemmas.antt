@@ -1,0 +1,216 @@
+-- A step of a session: what its parts come to.
+use Rattle.std.proofs.Common.{◌≡◌, ◌⊎◌, ℕ, Bool, List, Option, None, Some, Ok, Err, Result, IfOk, OnErr, refl, sym, ap, ◌∙◌, subst, inl, inr}
+use Rattle.outside_traits.specs.View.{View}
+use Rattle.outside_traits.specs.declared.failed.Failed.{Failed}
+use Rattle.outside_traits.proofs.RunLemmas.{spans_none, spans_on, spans_wider}
+use Rattle.rows_core.specs.declared.schema.Column.{Column}
+use Rattle.plan_core.specs.PlainPlan.{PlainPlan}
+use Rattle.plan_grammar.specs.PlainNamed.{PlainTree}
+use Rattle.estimator.specs.Cuts.{Cuts}
+use Rattle.catalog_types.specs.declared.change.Change.{Change}
+use Rattle.catalog_types.specs.declared.program.Program.{Program}
+use Rattle.catalog_core.specs.Table.{Table}
+use Rattle.journal_store.specs.declared.journal.Journal.{Journal}
+use Rattle.executor.specs.declared.refusal.RunRefusal.{RunRefusal}
+use Rattle.executor.specs.declared.refusal.RunRefusal.TheVariants as run
+use Rattle.script_text.specs.declared.answer.Answer.{Answer}
+use Rattle.script_text.specs.declared.answer.Answer.TheVariants as answer
+use Rattle.script_text.specs.declared.answer.Refusal.{Refusal}
+use Rattle.script_text.specs.declared.answer.Refusal.TheVariants as refusal
+use Rattle.script_text.specs.declared.item.Command.{Command}
+use Rattle.script_text.specs.declared.item.Command.TheVariants as command
+use Rattle.planning.specs.Appending.{IsAppending, Append, held as held_after}
+use Rattle.planning.specs.Making.{making}
+use Rattle.planning.specs.Fetching.{IsFetching}
+use Rattle.planning.specs.Running.{Run, Target, running}
+use Rattle.folder.specs.Folders.{table_in, journal_of, FolderStands}
+use Rattle.folder.specs.Left.{IsLeft, Since, StaysSound, Everything, IsSoundForOneOf}
+use Rattle.folder.specs.Next.{with_stream, with_rows}
+use Rattle.folder.specs.Sound.{Care, IsSound}
+use Rattle.folder.specs.Standing.{Means}
+use Rattle.folder.specs.Standing as standing
+use Rattle.folder.specs.State.{State, table}
+use Rattle.work_run.specs.Ends.{IsRefusedWork}
+use Rattle.folder_session.specs.declared.session.FolderSession.{FolderSession}
+use Rattle.folder_session.specs.Machine as machine
+use Rattle.folder_session.specs.Machine.{outcome, refused, made, IsEvent, RunsTo, IsWorkOn, WorkStep}
+use Rattle.folder_session.specs.Standing.{Stands, Performs, Breaks, Records, KeepsNot, WorksOff, BreaksOff, folder_of}
+use Rattle.folder_session.specs.WorkRefusals.{refusal_of}
+
+-- ---- a session that is the same but for the memory that it has taken
+
+pub stands_prepared : (care : Care) (v : View) (session session' : FolderSession) (s : State) → table_in (folder_of session') ≡ table_in (folder_of session) → journal_of (folder_of session') ≡ journal_of (folder_of session) → Stands care v session s → Stands care v session' s
+stands_prepared care v session session' s t j stands = record {
+  means = subst (λ (x : Table). Means care v x (journal_of (folder_of session')) s) (sym t) (subst (λ (x : Journal). Means care v (table_in (folder_of session)) x s) (sym j) stands.means);
+  left = stands.left;
+}
+
+-- nor has it other logs
+pub table_prepared : (v : View) (session session' : FolderSession) → table_in (folder_of session') ≡ table_in (folder_of session) → journal_of (folder_of session') ≡ journal_of (folder_of session) → FolderStands v (folder_of session) → FolderStands v (folder_of session')
+table_prepared v session session' t j stands =
+    subst (λ (x : Table). standing.Stands v x (journal_of (folder_of session'))) (sym t) (subst (λ (x : Journal). standing.Stands v (table_in (folder_of session)) x) (sym j) stands)
+
+-- no time passes in a state
+pub since_none : (care : Care) (v : View) (session : FolderSession) (s : State) → Stands care v session s → Since care s s v v
+since_none care v session s stands = spans_none Everything (IsSoundForOneOf care s s) v (λ image is. inl (stands.means.settled image is))
+
+module _ (care : Care) (v : View) (session session' : FolderSession) (s : State) (stands : Stands care v session s) where
+  -- the session is as it was
+  pub records_none : table_in (folder_of session') ≡ table_in (folder_of session) → journal_of (folder_of session') ≡ journal_of (folder_of session) → Records care v v session' s s
+  records_none t j = record { stands = stands_prepared care v session session' s t j stands; since = since_none care v session s stands }
+
+  -- a refusal changes nothing
+  pub refuses : (held : List ℕ) (c : Command) (why : Refusal) → table_in (folder_of session') ≡ table_in (folder_of session) → journal_of (folder_of session') ≡ journal_of (folder_of session)
+      → machine.Performs held s c (refused s why) ⊎ IsEvent care s c why → Performs care v v held session' s c (answer.Refused why)
+  refuses held c why t j either = record {
+    new = s;
+    step = elim either [ inl given ↦ inl given | inr event ↦ inr (why, event, refl) ];
+    stands = stands_prepared care v session session' s t j stands;
+    since = since_none care v session s stands;
+  }
+
+-- ---- the outcome of a command
+
+module _ (care : Care) (held : List ℕ) (t : Table) (s : State) (same : t ≡ table s) where
+  pub made_ok : (name : List ℕ) (columns : List Column) (c : Change) → making t name columns ≡ Ok c → machine.Performs held s (command.Stream name columns) (outcome answer.Ok (with_stream s name columns))
+  made_ok name columns c is = sym (ap (made s name columns) (subst (λ x. making x name columns ≡ Ok c) same is))
+
+  pub made_err : (name : List ℕ) (columns : List Column) (why : Refusal) → making t name columns ≡ Err why ⊎ (why ≡ refusal.Memory) → machine.Performs held s (command.Stream name columns) (refused s why) ⊎ IsEvent care s (command.Stream name columns) why
+  made_err name columns why either = elim either [
+    | inl is ↦ inl (sym (ap (made s name columns) (subst (λ x. making x name columns ≡ Err why) same is)))
+    | inr none ↦ inr (subst (λ w. IsEvent care s (command.Stream name columns) w) (sym none) tt)
+  ]
+
+  pub appended_ok : (name : List ℕ) (lines : List (List ℕ)) (a : Append) (count : ℕ) → IsAppending t name lines (Ok a) → count ≡ held_after t a → machine.Performs held s (command.Append name lines) (outcome (answer.Held count) (with_rows s a.place a.rows))
+  appended_ok name lines a count is holds =
+      (Ok a, subst (λ x. IsAppending x name lines (Ok a)) same is, ap (λ n. outcome (answer.Held n) (with_rows s a.place a.rows)) (holds ∙ ap (λ x. held_after x a) same))
+
+  pub appended_err : (name : List ℕ) (lines : List (List ℕ)) (why : Refusal) → IsAppending t name lines (Err why) ⊎ (why ≡ refusal.Memory) → machine.Performs held s (command.Append name lines) (refused s why) ⊎ IsEvent care s (command.Append name lines) why
+  appended_err name lines why either = elim either [
+    | inl is ↦ inl (Err why, subst (λ x. IsAppending x name lines (Err why)) same is, refl)
+    | inr none ↦ inr (subst (λ w. IsEvent care s (command.Append name lines) w) (sym none) tt)
+  ]
+
+  -- a run before its work
+  pub ran_err : (name : List ℕ) (tree : PlainTree) (why : Refusal) → running t name tree ≡ Err why ⊎ (why ≡ refusal.Memory) → machine.Performs held s (command.Run name tree) (refused s why) ⊎ IsEvent care s (command.Run name tree) why
+  ran_err name tree why either = elim either [
+    | inl is ↦ inl (subst (λ x. RunsTo s x (refused s why)) (sym (subst (λ x. running x name tree ≡ Err why) same is)) refl)
+    | inr none ↦ inr (subst (λ w. IsEvent care s (command.Run name tree) w) (sym none) tt)
+  ]
+
+  -- its plan was worked off
+  pub ran_step : (name : List ℕ) (tree : PlainTree) (r : Run) (program : Program) → running t name tree ≡ Ok r → program ≡ r.program → (given : Answer) (new : State)
+      → WorkStep care s (Some program) r.plan program.cuts given new → machine.Step care held s (command.Run name tree) given new
+  ran_step name tree r program is program_is given new (inl works) =
+      inl (subst (λ x. RunsTo s x (outcome given new)) (sym (subst (λ x. running x name tree ≡ Ok r) same is)) (subst (λ (p : Program). IsWorkOn s (Some p) r.plan p.cuts given new) program_is works))
+  ran_step name tree r program is program_is given new (inr event) = inr event
+
+  -- a fetch before its work
+  pub fetched_err : (name : List ℕ) (as_run : Bool) (why : Refusal) → IsFetching t name as_run (Err why) ⊎ (why ≡ refusal.Memory) → machine.Performs held s (command.Fetch name as_run) (refused s why) ⊎ IsEvent care s (command.Fetch name as_run) why
+  fetched_err name as_run why either = elim either [
+    | inl is ↦ inl (Err why, subst (λ x. IsFetching x name as_run (Err why)) same is, refl)
+    | inr none ↦ inr (subst (λ w. IsEvent care s (command.Fetch name as_run) w) (sym none) tt)
+  ]
+
+  -- its plan was worked off
+  pub fetched_step : (name : List ℕ) (as_run : Bool) (target : Target) (cuts : Cuts) → IsFetching t name as_run (Ok target) → cuts ≡ target.cuts → (given : Answer) (new : State)
+      → WorkStep care s None target.plan cuts given new → machine.Step care held s (command.Fetch name as_run) given new
+  fetched_step name as_run target cuts is cuts_are given new (inl works) =
+      inl (Ok target, subst (λ x. IsFetching x name as_run (Ok target)) same is, subst (λ (c : Cuts). IsWorkOn s None target.plan c given new) cuts_are works)
+  fetched_step name as_run target cuts is cuts_are given new (inr event) = inr event
+
+-- want of memory may come in the course of any command
+pub want_event : (care : Care) (s : State) (c : Command) → IsEvent care s c refusal.Memory
+want_event care s (command.Stream name columns) = tt
+want_event care s (command.Append name lines) = tt
+want_event care s (command.Run name tree) = tt
+want_event care s (command.Fetch name as_run) = tt
+want_event care s (command.Collect reclaim) = tt
+want_event care s command.Entries = tt
+want_event care s (command.OpenJob job name tree) = tt
+want_event care s (command.Step job) = tt
+want_event care s (command.Close job) = tt
+want_event care s (command.DropJob job) = tt
+
+-- ---- what is recorded
+
+module _ (care : Care) (held : List ℕ) (u v : View) (s new : State) (c : Command) (given : Answer) (performs : machine.Performs held s c (outcome given new)) where
+  pub kept_performs : (result : Result (FolderSession × Answer) Failed) → IfOk result (λ next. Records care u v next.0 s new) → IfOk result (λ next. next.1 ≡ given) → IfOk result (λ next. Performs care u v held next.0 s c next.1)
+  kept_performs (Ok next) recorded same = record { new = new; step = inl (subst (λ a. machine.Performs held s c (outcome a new)) (sym same) performs); stands = recorded.stands; since = recorded.since }
+  kept_performs (Err failed) recorded same = tt
+
+  pub kept_breaks : (result : Result (FolderSession × Answer) Failed) → OnErr result (KeepsNot care u v s new) → OnErr result (Breaks care u v held s c)
+  kept_breaks (Ok next) broke = tt
+  kept_breaks (Err failed) broke = record { answer = given; new = new; step = inl performs; since = broke.since; left = broke.left }
+
+  pub either_breaks : (result : Result (FolderSession × Answer) Failed) → OnErr result (KeepsNot care u v s new ⊎ KeepsNot care u v s s) → OnErr result (Breaks care u v held s c)
+  either_breaks (Ok next) broke = tt
+  either_breaks (Err failed) (inl broke) = record { answer = given; new = new; step = inl performs; since = broke.since; left = broke.left }
+  either_breaks (Err failed) (inr broke) = record { answer = answer.Refused refusal.Memory; new = s; step = inr (refusal.Memory, want_event care s c, refl); since = broke.since; left = broke.left }
+
+-- ---- a run before what is recorded, in which nothing changes
+
+module _ (care : Care) (t u v : View) (s new : State) (before : StaysSound care s t u) where
+  pub since_stays : (other : State) → Since care s other t u
+  since_stays other = spans_wider Everything Everything (λ image. IsSound care image s) (IsSoundForOneOf care s other) t u before (λ g any. any) (λ image is others. inl is)
+
+  pub records_behind : (result : Result (FolderSession × Answer) Failed) → IfOk result (λ next. Records care u v next.0 s new) → IfOk result (λ next. Records care t v next.0 s new)
+  records_behind (Ok next) recorded = record { stands = recorded.stands; since = spans_on Everything (IsSoundForOneOf care s new) t u v (since_stays new) recorded.since }
+  records_behind (Err failed) recorded = tt
+
+  pub breaks_behind : (result : Result (FolderSession × Answer) Failed) → OnErr result (KeepsNot care u v s new) → OnErr result (KeepsNot care t v s new ⊎ KeepsNot care t v s s)
+  breaks_behind (Ok next) broke = tt
+  breaks_behind (Err failed) broke = inl (record { since = spans_on Everything (IsSoundForOneOf care s new) t u v (since_stays new) broke.since; left = broke.left })
+
+  keeps_not_behind : (other : State) → KeepsNot care u v s other → KeepsNot care t v s other
+  keeps_not_behind other broke = record { since = spans_on Everything (IsSoundForOneOf care s other) t u v (since_stays other) broke.since; left = broke.left }
+
+  pub either_behind : (result : Result (FolderSession × Answer) Failed) → OnErr result (KeepsNot care u v s new ⊎ KeepsNot care u v s s) → OnErr result (KeepsNot care t v s new ⊎ KeepsNot care t v s s)
+  either_behind (Ok next) broke = tt
+  either_behind (Err failed) (inl broke) = inl (keeps_not_behind new broke)
+  either_behind (Err failed) (inr broke) = inr (keeps_not_behind s broke)
+
+  -- the store failed in it
+  pub breaks_before : IsLeft care u s s → KeepsNot care t u s s
+  breaks_before left = record { since = since_stays s; left = inl left }
+
+-- ---- work
+
+module _ (care : Care) (u v : View) (s new : State) (program : Option Program) (plan : PlainPlan) (cuts : Cuts) (given : Answer) (works : IsWorkOn s program plan cuts given new) where
+  pub kept_works : (result : Result (FolderSession × Answer) Failed) → IfOk result (λ next. Records care u v next.0 s new) → IfOk result (λ next. next.1 ≡ given) → IfOk result (λ next. WorksOff care u v next.0 s program plan cuts next.1)
+  kept_works (Ok next) recorded same = record { new = new; step = inl (subst (λ a. IsWorkOn s program plan cuts a new) (sym same) works); stands = recorded.stands; since = recorded.since }
+  kept_works (Err failed) recorded same = tt
+
+  pub broken_works : (result : Result (FolderSession × Answer) Failed) → OnErr result (KeepsNot care u v s new ⊎ KeepsNot care u v s s) → OnErr result (BreaksOff care u v s program plan cuts)
+  broken_works (Ok next) broke = tt
+  broken_works (Err failed) (inl broke) = record { answer = given; new = new; step = inl works; since = broke.since; left = broke.left }
+  broken_works (Err failed) (inr broke) = record { answer = answer.Refused refusal.Memory; new = s; step = inr (refusal.Memory, tt, refl); since = broke.since; left = broke.left }
+
+-- work that isn't done, as a step
+pub refused_work : (care : Care) (s : State) (program : Option Program) (plan : PlainPlan) (cuts : Cuts) (why : RunRefusal) → IsRefusedWork care s plan cuts why → WorkStep care s program plan cuts (answer.Refused (refusal_of why)) s
+refused_work care s program plan cuts run.Overflow is = inl (is, refl)
+refused_work care s program plan cuts run.Machine is = inl (is, refl)
+refused_work care s program plan cuts run.Fault is = inr (refusal.Fault, tt, refl)
+refused_work care s program plan cuts (run.Damaged file kept found) is = inr (refusal.Damaged file kept found, is, refl)
+refused_work care s program plan cuts (run.Unreadable file at) is = absurd is
+refused_work care s program plan cuts run.Memory is = inr (refusal.Memory, tt, refl)
+
+-- a run whose work is done, or breaks off
+module _ (care : Care) (held : List ℕ) (u v : View) (s : State) (t : Table) (same : t ≡ table s) (name : List ℕ) (tree : PlainTree) (r : Run) (program : Program) (is : running t name tree ≡ Ok r) (program_is : program ≡ r.program) where
+  pub ran_performs : (result : Result (FolderSession × Answer) Failed) → IfOk result (λ next. WorksOff care u v next.0 s (Some program) r.plan program.cuts next.1) → IfOk result (λ next. Performs care u v held next.0 s (command.Run name tree) next.1)
+  ran_performs (Ok next) done = record { new = done.new; step = ran_step care held t s same name tree r program is program_is next.1 done.new done.step; stands = done.stands; since = done.since }
+  ran_performs (Err failed) done = tt
+
+  pub ran_breaks : (result : Result (FolderSession × Answer) Failed) → OnErr result (BreaksOff care u v s (Some program) r.plan program.cuts) → OnErr result (Breaks care u v held s (command.Run name tree))
+  ran_breaks (Ok next) broke = tt
+  ran_breaks (Err failed) broke = record { answer = broke.answer; new = broke.new; step = ran_step care held t s same name tree r program is program_is broke.answer broke.new broke.step; since = broke.since; left = broke.left }
+
+-- and a fetch
+module _ (care : Care) (held : List ℕ) (u v : View) (s : State) (t : Table) (same : t ≡ table s) (name : List ℕ) (as_run : Bool) (target : Target) (cuts : Cuts) (is : IsFetching t name as_run (Ok target)) (cuts_are : cuts ≡ target.cuts) where
+  pub fetched_performs : (result : Result (FolderSession × Answer) Failed) → IfOk result (λ next. WorksOff care u v next.0 s None target.plan cuts next.1) → IfOk result (λ next. Performs care u v held next.0 s (command.Fetch name as_run) next.1)
+  fetched_performs (Ok next) done = record { new = done.new; step = fetched_step care held t s same name as_run target cuts is cuts_are next.1 done.new done.step; stands = done.stands; since = done.since }
+  fetched_performs (Err failed) done = tt
+
+  pub fetched_breaks : (result : Result (FolderSession × Answer) Failed) → OnErr result (BreaksOff care u v s None target.plan cuts) → OnErr result (Breaks care u v held s (command.Fetch name as_run))
+  fetched_breaks (Ok next) broke = tt
+  fetched_breaks (Err failed) broke = record { answer = broke.answer; new = broke.new; step = fetched_step care held t s same name as_run target cuts is cuts_are broke.answer broke.new broke.step; since = broke.since; left = broke.left }

@@ -1,0 +1,8 @@
+use Rattle.folder_session.proofs.RefusalLemmas.{never_damaged, never_unreadable}
+use Rattle.folder_session.proofs.laws.files_are_read.Goals as goal
+
+pub returns-clause-damaged : goal.returns-clause-damaged
+returns-clause-damaged c = never_damaged
+
+pub returns-clause-unreadable : goal.returns-clause-unreadable
+returns-clause-unreadable c = never_unreadable

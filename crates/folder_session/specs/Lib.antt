@@ -1,0 +1,8 @@
+pub mod Causes
+pub mod Machine
+pub mod Outcomes
+pub mod Refusals
+pub mod Standing
+pub mod Taken
+pub mod WorkRefusals
+pub mod Working

@@ -1,0 +1,15 @@
+//! A folder that was loaded, and each command of a script performed over it that concerns no job.
+#![tactic(auto)]
+
+pub mod choosing;
+mod collecting;
+pub mod laws;
+pub mod refusals;
+pub mod session;
+mod working;
+
+pub use choosing::chosen;
+pub use folder::LoadRefusal;
+pub use laws::{files_are_read, one_outcome, refusals_have_causes};
+pub use refusals::refusal_of;
+pub use session::FolderSession;
