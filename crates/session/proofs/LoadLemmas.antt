@@ -1,16 +1,24 @@
--- Why a folder isn't loaded.
-use Rattle.std.proofs.Common.{◌≡◌, ◌⊎◌, ℕ, Err, ap, refl, inl, inr}
+-- Why a session isn't loaded: for what its folder session isn't.
+use Rattle.std.proofs.Common.{◌≡◌, ◌⊎◌, inl, inr, refl, ap, ℕ, Result, Ok, Err}
 use Rattle.std.specs.Prelude.{IsErrOf}
 use Rattle.folder.specs.declared.refusal.LoadRefusal.{LoadRefusal}
 use Rattle.folder.specs.declared.refusal.LoadRefusal.TheVariants.{Fault, NotAStore, Memory}
 
--- a place that is told is that one
-pub only_of : {T : Type 0} (r : LoadRefusal) (file at : ℕ) → ((h b : ℕ) → r ≡ NotAStore h b → (h ≡ file) × (b ≡ at)) → IsErrOf {T = T} (Err r) (NotAStore file at) ⊎ (IsErrOf {T = T} (Err r) Fault ⊎ IsErrOf {T = T} (Err r) Memory)
-only_of Fault file at place = inr (inl refl)
-only_of (NotAStore h b) file at place =
-    let same = place h b refl in
-    let first = same.0 in
-    let second = same.1 in
-    let whole : NotAStore h b ≡ NotAStore file at = cc in
-    inl (ap Err whole)
-only_of Memory file at place = inr (inr refl)
+-- the refusal that another call's was
+pub same_err : {T U : Type 0} (r e : LoadRefusal) → IsErrOf {T = T} (Err r) e → IsErrOf {T = U} (Err r) e
+same_err {T} {U} r e is = let first : ◌≡◌ {A = Result T LoadRefusal} (Err r) (Err e) = is in let same : r ≡ e = cc in ap Err same
+
+pub same_only : {T U : Type 0} (r : LoadRefusal) (file at : ℕ) → IsErrOf {T = T} (Err r) (NotAStore file at) ⊎ (IsErrOf {T = T} (Err r) Fault ⊎ IsErrOf {T = T} (Err r) Memory)
+    → IsErrOf {T = U} (Err r) (NotAStore file at) ⊎ (IsErrOf {T = U} (Err r) Fault ⊎ IsErrOf {T = U} (Err r) Memory)
+same_only {T} {U} r file at (inl is) = inl (same_err {T = T} {U = U} r (NotAStore file at) is)
+same_only {T} {U} r file at (inr (inl is)) = inr (inl (same_err {T = T} {U = U} r Fault is))
+same_only {T} {U} r file at (inr (inr is)) = inr (inr (same_err {T = T} {U = U} r Memory is))
+
+-- what was loaded isn't refused
+never : {T : Type 0} (x : T) (e : LoadRefusal) → IsErrOf {T = T} (Ok x) e → ⊥
+never {T} x e is = let both : ◌≡◌ {A = Result T LoadRefusal} (Ok x) (Err e) = is in absurd (cc)
+
+pub not_refused : {T : Type 0} (x : T) (file at : ℕ) → IsErrOf {T = T} (Ok x) (NotAStore file at) ⊎ (IsErrOf {T = T} (Ok x) Fault ⊎ IsErrOf {T = T} (Ok x) Memory) → ⊥
+not_refused {T} x file at (inl is) = never x (NotAStore file at) is
+not_refused {T} x file at (inr (inl is)) = never x Fault is
+not_refused {T} x file at (inr (inr is)) = never x Memory is

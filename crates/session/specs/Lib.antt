@@ -1,8 +1,7 @@
 pub mod Causes
+pub mod Jobs
 pub mod Machine
-pub mod Outcomes
 pub mod Refusals
 pub mod Standing
 pub mod Taken
-pub mod WorkRefusals
-pub mod Working
+pub mod Work

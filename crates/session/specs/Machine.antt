@@ -1,118 +1,193 @@
--- The abstract machine: what it answers to each command, and what it then holds.
-use Rattle.std.specs.Prelude.{◌≡◌, ◌⊎◌, ℕ, nat_le, Bool, true, false, List, [], map, Option, None, Some, Result, Ok, Err, ⊤}
-use Rattle.rows_core.specs.declared.schema.Column.{Column}
+-- The abstract machine: a folder's state and the open jobs, what is answered to each command, and what is held then.
+use Rattle.std.specs.Prelude.{◌≡◌, ◌⊎◌, ℕ, ◌+◌, ◌-◌, ◌≤◌, ◌<◌, min, bytes_eq, if◌then◌else◌, Bool, List, [], ◌∷◌, ◌++◌, length, flat_map, Option, None, Some, Result, Ok, Err, ⊤}
+use Rattle.std.specs.List.{find, list_any}
 use Rattle.plan_core.specs.PlainPlan.{PlainPlan}
-use Rattle.estimator.specs.Cuts.{Cuts}
-use Rattle.catalog_types.specs.PlainEntry.{PlainEntry}
-use Rattle.catalog_types.specs.declared.change.Change.{Change}
-use Rattle.catalog_types.specs.declared.program.Program.{Program}
+use Rattle.plan_grammar.specs.PlainNamed.{PlainTree}
+use Rattle.estimator.specs.Bytes.{capped}
+use Rattle.rewrite_core.specs.Files.{AreIdsOf, files_of}
+use Rattle.rewrite_core.specs.PlainRewriting.{PlainRewriting}
+use Rattle.plan_canon.specs.Normal.{IsNormalFormOf}
+use Rattle.plan_choice.specs.Taken.{IsTaken}
+use Rattle.planning.specs.Opening.{opening}
+use Rattle.planning.specs.Running.{Run, storing}
 use Rattle.script_text.specs.declared.answer.Answer.{Answer}
 use Rattle.script_text.specs.declared.answer.Answer.TheVariants as answer
-use Rattle.catalog_core.specs.Table.{most_ticks}
-use Rattle.collection_plan.specs.Collecting.{IsCollection}
-use Rattle.script_text.specs.declared.answer.EntrySummary.{EntrySummary}
 use Rattle.script_text.specs.declared.answer.LimitKind.TheVariants as limit
 use Rattle.script_text.specs.declared.answer.Refusal.{Refusal}
 use Rattle.script_text.specs.declared.answer.Refusal.TheVariants as refusal
 use Rattle.script_text.specs.declared.item.Command.{Command}
 use Rattle.script_text.specs.declared.item.Command.TheVariants as command
-use Rattle.planning.specs.Appending.{IsAppending, Append, held}
-use Rattle.planning.specs.Fetching.{IsFetching}
-use Rattle.planning.specs.Making.{making}
-use Rattle.planning.specs.Running.{running, Run, Target}
 use Rattle.folder.specs.Sound.{Care}
-use Rattle.folder.specs.State.{State, table}
-use Rattle.folder.specs.Damage.{ShowsDamage}
-use Rattle.folder.specs.Next.{with_stream, with_rows, with_collection}
-use Rattle.work_run.specs.Working.{Works, Overflows, IsDear}
-use Rattle.work_run.specs.Working as working
+use Rattle.folder.specs.State.{State, kinds_in, table}
+use Rattle.folder_session.specs.Machine as folder
+use Rattle.folder_session.specs.Machine.{IsFileEvent, IsWant}
+use Rattle.work_run.specs.Working.{WorksBy, Overflows, IsDear}
+use Rattle.work_run.specs.Working as work
 
--- an answer, and the state after it
-pub record Outcome : Type 0 where
-  pub answer : Answer
-  pub state : State
+-- ---- jobs
 
-abbrev pub outcome : Answer → State → Outcome
-outcome given state = record { answer = given; state = state }
+-- A job: its name; the plan that it was opened with, and what that is stored as when it is closed, with the extents of its opening;
+-- the rewriting that was taken then, and the ids of the kept results that this reads; and how many of its files are read.
+pub record Job : Type 0 where
+  pub name : List ℕ
+  pub run : Run
+  pub rewriting : PlainRewriting
+  pub used : List ℕ
+  pub done : ℕ
 
--- a refusal leaves the state
-abbrev pub refused : State → Refusal → Outcome
-refused s why = outcome (answer.Refused why) s
+-- how many files it reads, each as often as it is named, and how many of them are left
+abbrev pub steps_of : Job → ℕ
+steps_of job = length (files_of job.rewriting)
 
--- ---- streams and rows
+abbrev pub left_of : Job → ℕ
+left_of job = steps_of job - job.done
 
-abbrev pub made : State → List ℕ → List Column → Result Change Refusal → Outcome
-made s name columns (Ok change) = outcome answer.Ok (with_stream s name columns)
-made s name columns (Err why) = refused s why
+-- so many of its files are read
+abbrev pub read_to : ℕ → Job → Job
+read_to done job = record job { done = done }
 
-abbrev pub appended : State → Result Append Refusal → Outcome
-appended s (Ok a) = outcome (answer.Held (held (table s) a)) (with_rows s a.place a.rows)
-appended s (Err why) = refused s why
+-- ---- jobs by name, in the order of their opening
 
--- ---- working a plan off, at a cut
+abbrev pub is_named : List ℕ → Job → Bool
+is_named name job = bytes_eq job.name name
 
--- The rows are the meaning of the plan as it is written, on the extents of the cut, whatever is kept; or it is refused for an
--- overflow, or for a machine time above its limit. A refusal leaves the state.
-abbrev pub IsWorkOn : State → Option Program → PlainPlan → Cuts → Answer → State → Type 0
-IsWorkOn s program plan cuts (answer.Result rows used kept read) new = Works s program plan cuts (working.given rows used kept read) new
-IsWorkOn s program plan cuts (answer.Refused refusal.Overflow) new = Overflows s plan cuts × (new ≡ s)
-IsWorkOn s program plan cuts (answer.Refused (refusal.Limit limit.Machine)) new = IsDear s plan cuts × (new ≡ s)
-IsWorkOn s program plan cuts _ new = ⊥
+abbrev pub job_named : List Job → List ℕ → Option Job
+job_named jobs name = find (is_named name) jobs
 
--- a run works its plan off on all extents, and the name then stands for the plan and these extents
-abbrev pub RunsTo : State → Result Run Refusal → Outcome → Type 0
-RunsTo s (Ok run) given = IsWorkOn s (Some run.program) run.plan run.program.cuts given.answer given.state
-RunsTo s (Err why) given = given ≡ refused s why
+abbrev pub is_open : List Job → List ℕ → Bool
+is_open jobs name = list_any (is_named name) jobs
 
--- a fetch works off the plan that goes by a name, on all extents or on those of its last run; the name goes on standing for it
-abbrev pub FetchesTo : State → Result Target Refusal → Outcome → Type 0
-FetchesTo s (Ok target) given = IsWorkOn s None target.plan target.cuts given.answer given.state
-FetchesTo s (Err why) given = given ≡ refused s why
+-- the first of the name gives way to these
+abbrev pub put_for : List ℕ → List Job → List Job → List Job
+put_for name by [] = []
+put_for name by (job ∷ jobs) = if is_named name job then by ++ jobs else (job ∷ put_for name by jobs)
 
--- ---- kept results
-
--- Those of the greatest ratio go, until their files have so many bytes together, or none is left that may go. It is refused
--- where as many commands are recorded as may be.
-abbrev pub CollectsTo : Bool → State → ℕ → Outcome → Type 0
-CollectsTo true s reclaim given = given ≡ refused s (refusal.Limit limit.Commands)
-CollectsTo false s reclaim given = (ids : List ℕ) × (bytes : ℕ) × IsCollection (table s) [] reclaim ids bytes × (given ≡ outcome (answer.Evicted ids bytes) (with_collection s ids))
-
--- what is told of each
-abbrev pub summary_of : PlainEntry → EntrySummary
-summary_of e = record { id = e.id; size = e.file.len; machine = e.machine; uses = e.uses; last = e.last; made = e.made }
+-- the kept results that they hold
+abbrev pub held_by : List Job → List ℕ
+held_by jobs = flat_map (λ job. job.used) jobs
 
 -- ---- the machine
 
+pub record Machine : Type 0 where
+  pub state : State
+  pub jobs : List Job
+
+-- as it is after loading: no job is open
+abbrev pub without_jobs : State → Machine
+without_jobs s = record { state = s; jobs = [] }
+
+abbrev pub with_jobs : Machine → List Job → Machine
+with_jobs m jobs = record { state = m.state; jobs = jobs }
+
+-- an answer, and the machine after it
+pub record Outcome : Type 0 where
+  pub answer : Answer
+  pub machine : Machine
+
+abbrev pub outcome : Answer → Machine → Outcome
+outcome given m = record { answer = given; machine = m }
+
+abbrev pub refused : Machine → Refusal → Outcome
+refused m why = outcome (answer.Refused why) m
+
+-- ---- commands on jobs
+
+-- the job as it is opened: none of its files is read
+abbrev pub new_job : List ℕ → Run → PlainRewriting → List ℕ → Job
+new_job name run rewriting used = record { name = name; run = run; rewriting = rewriting; used = used; done = 0 }
+
+-- a least rewriting of the plan's normal form is taken, and the job stands behind the others
+pub record Opens (m : Machine) (name : List ℕ) (run : Run) (given : Outcome) : Type 0 where
+  pub normal : PlainPlan
+  pub rewriting : PlainRewriting
+  pub taken : IsTaken (table m.state) run.plan normal run.program.cuts rewriting
+  pub used : List ℕ
+  pub are_used : AreIdsOf (files_of rewriting) used
+  pub is : given ≡ outcome (answer.Ready (capped (length (files_of rewriting)))) (with_jobs m (m.jobs ++ new_job name run rewriting used ∷ []))
+
+abbrev pub OpensTo : Machine → List ℕ → Result Run Refusal → Outcome → Type 0
+OpensTo m name (Ok run) given = Opens m name run given
+OpensTo m name (Err why) given = given ≡ refused m why
+
+-- one more of the job's files is read, or none where none is left
+abbrev pub stepped : Job → Job
+stepped job = read_to (min (job.done + 1) (steps_of job)) job
+
+abbrev pub StepsTo : Machine → List ℕ → Option Job → Outcome → Type 0
+StepsTo m name (Some job) given = given ≡ outcome (answer.Left (capped (left_of (stepped job)))) (with_jobs m (put_for name (stepped job ∷ []) m.jobs))
+StepsTo m name None given = given ≡ refused m (refusal.Unknown name)
+
+-- all its files are read
+abbrev pub read_whole : Machine → List ℕ → Job → Machine
+read_whole m name job = with_jobs m (put_for name (read_to (steps_of job) job ∷ []) m.jobs)
+
+-- The rows are the meaning of the plan as it is written, on the extents at the job's opening, whatever came between. They are made by
+-- the job's rewriting of the plan's normal form; and the job is gone.
+pub record Closes (m : Machine) (name : List ℕ) (job : Job) (is : work.Given) (new : Machine) : Type 0 where
+  pub normal : PlainPlan
+  pub is_normal : IsNormalFormOf (kinds_in m.state.streams) job.run.plan normal
+  pub works : WorksBy m.state (Some job.run.program) job.run.plan normal job.run.program.cuts job.rewriting is new.state
+  pub gone : new.jobs ≡ put_for name [] m.jobs
+
+-- Or it is refused for an overflow, or for a machine time above its limit; then the job stays, and its files are read.
+abbrev pub IsClosing : Machine → List ℕ → Job → Answer → Machine → Type 0
+IsClosing m name job (answer.Result rows used kept read) new = Closes m name job (work.given rows used kept read) new
+IsClosing m name job (answer.Refused refusal.Overflow) new = Overflows m.state job.run.plan job.run.program.cuts × (new ≡ read_whole m name job)
+IsClosing m name job (answer.Refused (refusal.Limit limit.Machine)) new = IsDear m.state job.run.plan job.run.program.cuts × (new ≡ read_whole m name job)
+IsClosing m name job _ new = ⊥
+
+abbrev pub ClosesBy : Machine → List ℕ → Job → Result Run Refusal → Outcome → Type 0
+ClosesBy m name job (Ok run) given = IsClosing m name job given.answer given.machine
+ClosesBy m name job (Err why) given = given ≡ refused m why
+
+-- the limits of programs and of commands are looked at when it is closed
+abbrev pub ClosesTo : Machine → List ℕ → Option Job → Outcome → Type 0
+ClosesTo m name (Some job) given = ClosesBy m name job (storing (table m.state) job.run) given
+ClosesTo m name None given = given ≡ refused m (refusal.Unknown name)
+
+abbrev pub DropsTo : Machine → List ℕ → Option Job → Outcome → Type 0
+DropsTo m name (Some job) given = given ≡ outcome answer.Ok (with_jobs m (put_for name [] m.jobs))
+DropsTo m name None given = given ≡ refused m (refusal.Unknown name)
+
+-- ---- the steps of the machine
+
+-- any other command is the folder's, while the jobs hold what they read
+pub record PerformsBeside (m : Machine) (c : Command) (given : Outcome) : Type 0 where
+  pub of_folder : folder.Performs (held_by m.jobs) m.state c (folder.outcome given.answer given.machine.state)
+  pub jobs : given.machine.jobs ≡ m.jobs
+
 -- what the machine does where there is memory and each file is read
-abbrev pub Performs : State → Command → Outcome → Type 0
-Performs s (command.Stream name columns) given = given ≡ made s name columns (making (table s) name columns)
-Performs s (command.Append name lines) given = (plan : Result Append Refusal) × IsAppending (table s) name lines plan × (given ≡ appended s plan)
-Performs s (command.Run name tree) given = RunsTo s (running (table s) name tree) given
-Performs s (command.Fetch name as_run) given = (planned : Result Target Refusal) × IsFetching (table s) name as_run planned × FetchesTo s planned given
-Performs s (command.Collect reclaim) given = CollectsTo (nat_le most_ticks s.tick) s reclaim given
-Performs s command.Entries given = given ≡ outcome (answer.Entries (map summary_of s.entries)) s
+abbrev pub Performs : Machine → Command → Outcome → Type 0
+Performs m (command.OpenJob job name tree) given = OpensTo m job (opening (table m.state) (is_open m.jobs job) (length m.jobs) job name tree) given
+Performs m (command.Step job) given = StepsTo m job (job_named m.jobs job) given
+Performs m (command.Close job) given = ClosesTo m job (job_named m.jobs job) given
+Performs m (command.DropJob job) given = DropsTo m job (job_named m.jobs job) given
+Performs m c given = PerformsBeside m c given
 
--- want of memory, which may be answered in place of any answer
-abbrev pub IsWant : Refusal → Type 0
-IsWant refusal.Memory = ⊤
-IsWant _ = ⊥
+-- a file of the job is left
+abbrev pub HasLeft : Option Job → Type 0
+HasLeft (Some job) = 0 < left_of job
+HasLeft None = ⊥
 
--- so may, where files are read, a failed read, and a file that shows damage, as none does that holds its bytes
-abbrev pub IsFileEvent : Care → State → Refusal → Type 0
-IsFileEvent care s refusal.Fault = ⊤
-IsFileEvent care s (refusal.Damaged file kept found) = ShowsDamage care s file kept found
-IsFileEvent care s why = IsWant why
+-- What may come in the course of a command in place of its answer: want of memory, and where files are read what reading meets. A
+-- step reads where a file is left; where none is, and where a job is dropped, no memory is wanted.
+abbrev pub IsEvent : Care → Machine → Command → Refusal → Type 0
+IsEvent care m (command.OpenJob job name tree) why = IsWant why
+IsEvent care m (command.Step job) why = HasLeft (job_named m.jobs job) × IsFileEvent care m.state why
+IsEvent care m (command.Close job) why = IsFileEvent care m.state why
+IsEvent care m (command.DropJob job) why = ⊥
+IsEvent care m c why = folder.IsEvent care m.state c why
 
--- what may come in the course of a command; only runs and fetches read files
-abbrev pub IsEvent : Care → State → Command → Refusal → Type 0
-IsEvent care s (command.Run name tree) why = IsFileEvent care s why
-IsEvent care s (command.Fetch name as_run) why = IsFileEvent care s why
-IsEvent care s _ why = IsWant why
+-- some more of the job's files may be read
+abbrev pub IsReadOn : List ℕ → List Job → Option Job → List Job → Type 0
+IsReadOn name jobs (Some job) new = (done : ℕ) × (job.done ≤ done) × (done ≤ steps_of job) × (new ≡ put_for name (read_to done job ∷ []) jobs)
+IsReadOn name jobs None new = new ≡ jobs
 
--- one step over files of which so much is known; an event changes nothing
-abbrev pub Step : Care → State → Command → Answer → State → Type 0
-Step care old given_to given new = Performs old given_to (outcome given new) ⊎ ((why : Refusal) × IsEvent care old given_to why × (outcome given new ≡ refused old why))
+-- what an event leaves: all as it was, but that a close that is refused leaves read what it read whole
+abbrev pub Remains : Machine → Command → Machine → Type 0
+Remains m (command.Close job) new = (new.state ≡ m.state) × IsReadOn job m.jobs (job_named m.jobs job) new.jobs
+Remains m c new = new ≡ m
 
--- the same of work
-abbrev pub WorkStep : Care → State → Option Program → PlainPlan → Cuts → Answer → State → Type 0
-WorkStep care old program plan cuts given new = IsWorkOn old program plan cuts given new ⊎ ((why : Refusal) × IsFileEvent care old why × (outcome given new ≡ refused old why))
+-- one step over files of which so much is known
+abbrev pub Step : Care → Machine → Command → Answer → Machine → Type 0
+Step care old given_to given new = Performs old given_to (outcome given new) ⊎ ((why : Refusal) × IsEvent care old given_to why × (given ≡ answer.Refused why) × Remains old given_to new)

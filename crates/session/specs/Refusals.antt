@@ -1,71 +1,46 @@
 -- For which cause each refusal of a command comes.
-use Rattle.std.specs.Prelude.{◌≡◌, ◌≤◌, Result, Ok, Err, ⊤}
-use Rattle.plan_core.specs.PlainPlan.{PlainPlan}
-use Rattle.estimator.specs.Cuts.{Cuts}
-use Rattle.catalog_core.specs.IsTable.{IsTable}
-use Rattle.catalog_core.specs.Table.{most_ticks}
-use Rattle.script_text.specs.declared.answer.LimitKind.TheVariants as limit
+use Rattle.std.specs.Prelude.{◌≡◌, ℕ, List, [], ◌∷◌, length, Option, None, Some, Result, Ok, Err}
+use Rattle.folder.specs.State.{table}
+use Rattle.planning.specs.Opening.{opening}
+use Rattle.planning.specs.Running.{Run, storing}
 use Rattle.script_text.specs.declared.answer.Refusal.{Refusal}
 use Rattle.script_text.specs.declared.answer.Refusal.TheVariants as refusal
 use Rattle.script_text.specs.declared.item.Command.{Command}
 use Rattle.script_text.specs.declared.item.Command.TheVariants as command
-use Rattle.planning.specs.Appending.{IsAppending}
-use Rattle.planning.specs.Fetching.{IsFetching}
-use Rattle.planning.specs.Making.{making}
-use Rattle.planning.specs.Running.{Run, Target, running}
-use Rattle.folder.specs.State.{State, table}
-use Rattle.work_run.specs.Working.{Overflows, IsDear}
+use Rattle.folder_session.specs.Refusals as folder
+use Rattle.folder_session.specs.Refusals.{IsRefusedOn}
+use Rattle.session.specs.Machine.{Job, Machine, is_open, job_named, put_for, read_to}
 
--- work on a plan at a cut is refused by what it meets
-abbrev pub IsRefusedOn : State → PlainPlan → Cuts → Refusal → Type 0
-IsRefusedOn s plan cuts refusal.Overflow = Overflows s plan cuts
-IsRefusedOn s plan cuts (refusal.Limit limit.Machine) = IsDear s plan cuts
-IsRefusedOn s plan cuts _ = ⊥
+-- no job of the name is open
+abbrev pub IsUnknown : Option Job → List ℕ → Refusal → Type 0
+IsUnknown None name why = why ≡ refusal.Unknown name
+IsUnknown (Some job) name why = ⊥
 
--- a run is refused: by its meaning and its machine time, or before its work
-abbrev pub IsRunRefused : State → Result Run Refusal → Refusal → Type 0
-IsRunRefused s (Ok run) why = IsRefusedOn s run.plan run.program.cuts why
-IsRunRefused s (Err planned) why = planned ≡ why
+-- a limit is passed, or else by the meaning of the plan and its machine time
+abbrev pub IsClosingRefused : Machine → Job → Result Run Refusal → Refusal → Type 0
+IsClosingRefused m job (Ok run) why = IsRefusedOn m.state job.run.plan job.run.program.cuts why
+IsClosingRefused m job (Err planned) why = planned ≡ why
 
--- and so is a fetch
-abbrev pub IsFetchRefused : State → Result Target Refusal → Refusal → Type 0
-IsFetchRefused s (Ok target) why = IsRefusedOn s target.plan target.cuts why
-IsFetchRefused s (Err planned) why = planned ≡ why
+abbrev pub IsCloseRefused : Machine → Option Job → List ℕ → Refusal → Type 0
+IsCloseRefused m (Some job) name why = IsClosingRefused m job (storing (table m.state) job.run) why
+IsCloseRefused m None name why = why ≡ refusal.Unknown name
 
--- a collection is, where as many commands are recorded as may be
-abbrev pub IsCollectionRefused : State → Refusal → Type 0
-IsCollectionRefused s (refusal.Limit limit.Commands) = most_ticks ≤ s.tick
-IsCollectionRefused s _ = ⊥
+-- The cause of a refusal: of a command that concerns no job, that of the folder's command.
+abbrev pub IsRefusedFor : Machine → Command → Refusal → Type 0
+IsRefusedFor m (command.OpenJob job name tree) why = opening (table m.state) (is_open m.jobs job) (length m.jobs) job name tree ≡ Err why
+IsRefusedFor m (command.Step job) why = IsUnknown (job_named m.jobs job) job why
+IsRefusedFor m (command.Close job) why = IsCloseRefused m (job_named m.jobs job) job why
+IsRefusedFor m (command.DropJob job) why = IsUnknown (job_named m.jobs job) job why
+IsRefusedFor m c why = folder.IsRefusedFor m.state c why
 
--- The cause of a refusal in a state: it is the one of the plan of the command, where each plan tells the first that holds.
-abbrev pub IsRefusedFor : State → Command → Refusal → Type 0
-IsRefusedFor s (command.Stream name columns) why = making (table s) name columns ≡ Err why
-IsRefusedFor s (command.Append name lines) why = IsAppending (table s) name lines (Err why)
-IsRefusedFor s (command.Run name tree) why = IsRunRefused s (running (table s) name tree) why
-IsRefusedFor s (command.Fetch name as_run) why = (planned : Result Target Refusal) × IsFetching (table s) name as_run planned × IsFetchRefused s planned why
-IsRefusedFor s (command.Collect reclaim) why = IsCollectionRefused s why
-IsRefusedFor s command.Entries why = ⊥
+-- ---- what a refusal changes
 
--- an overflow and the limit of machine time may hold of one run; then it is answered either
-abbrev pub IsOtherEvent : Refusal → Refusal → Type 0
-IsOtherEvent refusal.Overflow other = other ≡ refusal.Limit limit.Machine
-IsOtherEvent (refusal.Limit limit.Machine) other = other ≡ refusal.Overflow
-IsOtherEvent _ other = ⊥
+-- so many files of the job are read
+abbrev pub HasReadTo : List ℕ → List Job → Option Job → List Job → Type 0
+HasReadTo name jobs (Some job) new = (done : ℕ) × (new ≡ put_for name (read_to done job ∷ []) jobs)
+HasReadTo name jobs None new = new ≡ jobs
 
--- a plan meets an overflow at this cut, and its machine time is above the limit: one of the two is answered
-abbrev pub HasTwoRefusals : State → PlainPlan → Cuts → Type 0
-HasTwoRefusals s plan cuts = Overflows s plan cuts × IsDear s plan cuts
-
-abbrev pub RunHasNoChoice : State → Result Run Refusal → Type 0
-RunHasNoChoice s (Ok run) = HasTwoRefusals s run.plan run.program.cuts → ⊥
-RunHasNoChoice s (Err planned) = ⊤
-
--- A command that leaves the machine no choice of its answer: all but a run or a fetch with two refusals, of which the first event
--- decides. Of a collection it is said where the state has what each state that is reached has.
-abbrev pub HasNoChoice : State → Command → Type 0
-HasNoChoice s (command.Stream name columns) = ⊤
-HasNoChoice s (command.Append name lines) = ⊤
-HasNoChoice s (command.Run name tree) = RunHasNoChoice s (running (table s) name tree)
-HasNoChoice s (command.Fetch name as_run) = (target : Target) → IsFetching (table s) name as_run (Ok target) → HasTwoRefusals s target.plan target.cuts → ⊥
-HasNoChoice s (command.Collect reclaim) = IsTable (table s)
-HasNoChoice s command.Entries = ⊤
+-- nothing, but that a job whose close is refused may have read on
+abbrev pub StaysBut : Machine → Command → Machine → Type 0
+StaysBut m (command.Close job) new = (new.state ≡ m.state) × HasReadTo job m.jobs (job_named m.jobs job) new.jobs
+StaysBut m c new = new ≡ m

@@ -1,121 +1,43 @@
 -- How a session stands to its store, and what a step does to both.
-use Rattle.std.specs.Prelude.{◌≡◌, ◌⊎◌, ℕ, ◌≤◌, false, List, Option, ⊤}
-use Rattle.std.specs.List.{Contains}
-use Rattle.outside_traits.specs.Counts.{Rose}
-use Rattle.outside_traits.specs.Runs.{Narrows, Spans}
-use Rattle.outside_traits.specs.View.{View, Counts}
-use Rattle.plan_core.specs.PlainPlan.{PlainPlan}
-use Rattle.estimator.specs.Cuts.{Cuts}
-use Rattle.catalog_core.specs.Table.{Table}
-use Rattle.catalog_types.specs.PlainEntry.{PlainEntry}
-use Rattle.catalog_types.specs.declared.program.Program.{Program}
+use Rattle.std.specs.Prelude.{◌≡◌, ℕ, List}
+use Rattle.outside_traits.specs.View.{View}
 use Rattle.script_text.specs.declared.answer.Answer.{Answer}
-use Rattle.script_text.specs.declared.answer.Answer.TheVariants.{Evicted, Refused}
 use Rattle.script_text.specs.declared.item.Command.{Command}
-use Rattle.script_text.specs.declared.item.Command.TheVariants as command
-use Rattle.folder.specs.Folders.{FolderMeans, journal_of, table_in}
-use Rattle.folder.specs.Left.{IsLeft, IsLeftWith, Since}
+use Rattle.folder.specs.Folders.{table_in}
+use Rattle.folder.specs.Left.{IsLeftWith, Since}
 use Rattle.folder.specs.Sound.{Care}
-use Rattle.folder.specs.State.{State}
 use Rattle.folder.specs.declared.folder.Folder.{Folder}
-use Rattle.journal_store.specs.Journals.{generation_of}
-use Rattle.journal_store.specs.Readings.{generation_file}
+use Rattle.folder_session.specs.Standing as folder
+use Rattle.session.specs.Jobs.{OpenJobs, AreHeldOver, AreJobs}
+use Rattle.session.specs.Machine.{Machine, Step}
 use Rattle.session.specs.declared.session.Session.{Session}
-use Rattle.session.specs.Machine.{Step, WorkStep}
 
 abbrev pub folder_of : Session → Folder
-folder_of session = session.folder
+folder_of session = folder.folder_of session.base
 
--- the session means this state, which the store is left with
-pub record Stands (care : Care) (v : View) (session : Session) (s : State) : Type 0 where
-  pub means : FolderMeans care v (folder_of session) s
-  pub left : IsLeft care v s s
+abbrev pub jobs_of : Session → OpenJobs
+jobs_of session = session.jobs.jobs.items
 
--- the answer is the machine's, the session means the state after it, and each crash since leaves the state before or that
-pub record Performs (care : Care) (u v : View) (session : Session) (s : State) (command : Command) (given : Answer) : Type 0 where
-  pub new : State
-  pub step : Step care s command given new
+-- each of its jobs is open over its table
+abbrev pub HoldsJobs : Session → Type 0
+HoldsJobs session = AreHeldOver (table_in (folder_of session)) (jobs_of session)
+
+-- the session means this machine, whose state the store is left with
+pub record Stands (care : Care) (v : View) (session : Session) (m : Machine) : Type 0 where
+  pub base : folder.Stands care v session.base m.state
+  pub jobs : AreJobs m.state m.jobs (jobs_of session)
+
+-- the answer is the machine's, the session means the machine after it, and each crash since leaves the state before or that after
+pub record Performs (care : Care) (u v : View) (session : Session) (m : Machine) (command : Command) (given : Answer) : Type 0 where
+  pub new : Machine
+  pub step : Step care m command given new
   pub stands : Stands care v session new
-  pub since : Since care s new u v
+  pub since : Since care m.state new.state u v
 
 -- the store failed in the command: each crash since leaves the state before or after it, and so the store is left
-pub record Breaks (care : Care) (u v : View) (s : State) (command : Command) : Type 0 where
+pub record Breaks (care : Care) (u v : View) (m : Machine) (command : Command) : Type 0 where
   pub answer : Answer
-  pub new : State
-  pub step : Step care s command answer new
-  pub since : Since care s new u v
-  pub left : IsLeftWith care v s new
-
--- a change was recorded: the session means the next state, and each crash since leaves the one before or that
-pub record Records (care : Care) (u v : View) (session : Session) (s new : State) : Type 0 where
-  pub stands : Stands care v session new
-  pub since : Since care s new u v
-
--- work was worked off, or was refused: the session means the state after it, and each crash since leaves the one before or that
-pub record WorksOff (care : Care) (u v : View) (session : Session) (s : State) (program : Option Program) (plan : PlainPlan) (cuts : Cuts) (given : Answer) : Type 0 where
-  pub new : State
-  pub step : WorkStep care s program plan cuts given new
-  pub stands : Stands care v session new
-  pub since : Since care s new u v
-
--- the store failed in the work
-pub record BreaksOff (care : Care) (u v : View) (s : State) (program : Option Program) (plan : PlainPlan) (cuts : Cuts) : Type 0 where
-  pub answer : Answer
-  pub new : State
-  pub step : WorkStep care s program plan cuts answer new
-  pub since : Since care s new u v
-  pub left : IsLeftWith care v s new
-
--- the store failed while it was recorded
-pub record KeepsNot (care : Care) (u v : View) (s new : State) : Type 0 where
-  pub since : Since care s new u v
-  pub left : IsLeftWith care v s new
-
--- a refusal changes no file: each crash since leaves what a crash left before
-abbrev pub LeavesWhereRefused : Answer → View → View → Type 0
-LeavesWhereRefused (Refused why) u v = Narrows u v
-LeavesWhereRefused _ u v = ⊤
-
-abbrev pub IsLogInUse : Folder → ℕ → Type 0
-IsLogInUse folder file = file ≡ generation_file (generation_of (journal_of folder))
-
--- the log in use, and files that no state names yet
-abbrev pub IsWritten : Folder → ℕ → Type 0
-IsWritten folder file = IsLogInUse folder file ⊎ ((table_in folder).next_file ≤ file)
-
--- no other file is changed, nor what a crash since leaves of one
-abbrev pub WritesAtMost : Folder → View → View → Type 0
-WritesAtMost folder u v = Spans (IsWritten folder) (λ image. Unit {0}) u v
-
--- the log in use, and the next file
-abbrev pub IsAppended : Folder → ℕ → Type 0
-IsAppended folder file = IsLogInUse folder file ⊎ (file ≡ (table_in folder).next_file)
-
-abbrev pub AppendsAtMost : Folder → View → View → Type 0
-AppendsAtMost folder u v = Spans (IsAppended folder) (λ image. Unit {0}) u v
-
--- it has the file of a kept result
-abbrev pub IsOfResult : Folder → ℕ → Type 0
-IsOfResult folder file = (e : PlainEntry) × Contains (table_in folder).entries e × (e.file.file ≡ file)
-
--- the files that a command may change: the log in use; an append the next file, a run or a fetch others that no state names
--- yet, and a collection those of kept results, which it removes
-abbrev pub MayChange : Folder → Command → ℕ → Type 0
-MayChange folder (command.Stream name columns) file = IsLogInUse folder file
-MayChange folder (command.Append name lines) file = IsAppended folder file
-MayChange folder (command.Collect reclaim) file = IsLogInUse folder file ⊎ IsOfResult folder file
-MayChange folder command.Entries file = ⊥
-MayChange folder c file = IsWritten folder file
-
--- no other file is changed, nor what a crash since leaves of one
-abbrev pub ChangesAtMost : Folder → Command → View → View → Type 0
-ChangesAtMost folder c u v = Spans (MayChange folder c) (λ image. Unit {0}) u v
-
--- the files of the kept results with these ids aren't there, unless a removal failed
-abbrev pub AreGone : Table → List ℕ → View → Counts → Counts → Type 0
-AreGone t ids v old new = Rose old.removes new.removes ⊎ ((e : PlainEntry) → Contains t.entries e → Contains ids e.id → v.there e.file.file ≡ false)
-
--- so it is with those that a collection tells
-abbrev pub LeavesNoFile : Table → Command → Answer → View → Counts → Counts → Type 0
-LeavesNoFile t (command.Collect reclaim) (Evicted ids bytes) v old new = AreGone t ids v old new
-LeavesNoFile t _ _ v old new = ⊤
+  pub new : Machine
+  pub step : Step care m command answer new
+  pub since : Since care m.state new.state u v
+  pub left : IsLeftWith care v m.state new.state

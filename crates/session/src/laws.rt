@@ -1,52 +1,27 @@
 //! What holds of every step of the machine.
-ghost use Rattle.std.specs.Prelude.{◌≡◌, ◌⊎◌, ℕ};
+ghost use Rattle.std.specs.Prelude.{◌≡◌, ℕ};
 ghost use Rattle.rows_core.specs.declared.file_ref.Digest.{Digest};
 ghost use Rattle.script_text.specs.declared.answer.Answer.{Answer};
 ghost use Rattle.script_text.specs.declared.answer.Refusal.{Refusal};
 ghost use Rattle.script_text.specs.declared.item.Command.{Command};
 ghost use Rattle.folder.specs.Sound.{Care, Whole};
-ghost use Rattle.folder.specs.State.{State};
-ghost use Rattle.session.specs.Machine.{Outcome, outcome, refused, Performs, Step};
-ghost use Rattle.session.specs.Outcomes.{Agree};
-ghost use Rattle.session.specs.Refusals.{HasNoChoice, IsRefusedFor, IsOtherEvent};
-
-use collection_plan::one_collection;
-use plan_canon::laws::one_normal_form;
-use plan_text::plan_laws::one_plan;
+ghost use Rattle.session.specs.Machine.{Machine, outcome, Performs, Step};
+ghost use Rattle.session.specs.Refusals.{IsRefusedFor, StaysBut};
 
 /// Where the files hold their bytes no command is refused for damage, and where they are a state's none for
 /// unreadable bytes.
 pub fn files_are_read()
-    ensures damaged { (s new : State) (given_to : Command) (file : ℕ) (kept found : Digest)
-        → Step Whole s given_to (Answer.Refused (Refusal.Damaged file kept found)) new → ⊥ }
-    ensures unreadable { (care : Care) (s new : State) (given_to : Command) (file at : ℕ)
-        → Step care s given_to (Answer.Refused (Refusal.Unreadable file at)) new → ⊥ }
+    ensures damaged { (m new : Machine) (given_to : Command) (file : ℕ) (kept found : Digest)
+        → Step Whole m given_to (Answer.Refused (Refusal.Damaged file kept found)) new → ⊥ }
+    ensures unreadable { (care : Care) (m new : Machine) (given_to : Command) (file at : ℕ)
+        → Step care m given_to (Answer.Refused (Refusal.Unreadable file at)) new → ⊥ }
 {}
 
-/// In each state a command that leaves no choice has one answer, and one state after it, where there is
-/// memory and each file is read; but two results may differ in which kept results were used, which are kept
-/// and how many bytes were read, and not in their rows. A run or a fetch leaves a choice only where its plan
-/// meets an overflow and its machine time is above the limit.
-pub fn one_outcome()
-    ensures { (s : State) (given_to : Command) (a b : Outcome)
-        → HasNoChoice s given_to → Performs s given_to a → Performs s given_to b → Agree a b }
-{
-    one_normal_form();
-    one_plan();
-    one_collection();
-}
-
-/// A command is refused only where the cause of that refusal holds; where one holds it is answered that
-/// refusal, or the other one of a run or a fetch that has two; and no refusal changes the state.
+/// Where there is memory and each file is read a command is refused only where the cause of that refusal
+/// holds. No refusal changes the machine, but that a job whose close is refused has read on.
 pub fn refusals_have_causes()
-    ensures cause { (s new : State) (given_to : Command) (why : Refusal)
-        → Performs s given_to (outcome (Answer.Refused why) new) → IsRefusedFor s given_to why }
-    ensures exactly { (s : State) (given_to : Command) (given : Outcome) (why : Refusal)
-        → Performs s given_to given → IsRefusedFor s given_to why → (given ≡ refused s why)
-        ⊎ ((other : Refusal) × IsOtherEvent why other × (given ≡ refused s other)) }
-    ensures unchanged { (care : Care) (s new : State) (given_to : Command) (why : Refusal)
-        → Step care s given_to (Answer.Refused why) new → new ≡ s }
-{
-    one_normal_form();
-    one_plan();
-}
+    ensures cause { (m new : Machine) (given_to : Command) (why : Refusal)
+        → Performs m given_to (outcome (Answer.Refused why) new) → IsRefusedFor m given_to why }
+    ensures unchanged { (care : Care) (m new : Machine) (given_to : Command) (why : Refusal)
+        → Step care m given_to (Answer.Refused why) new → StaysBut m given_to new }
+{}

@@ -1,12 +1,11 @@
-//! The session: a folder that was loaded, and each command of a script performed over it.
+//! The session: a folder that was loaded, the jobs that are open over it, and each command of a script performed.
 #![tactic(auto)]
 
-mod collecting;
+mod jobs;
 pub mod laws;
-mod refusals;
 pub mod session;
-mod working;
+mod work;
 
-pub use folder::LoadRefusal;
-pub use laws::{files_are_read, one_outcome, refusals_have_causes};
+pub use folder_session::LoadRefusal;
+pub use laws::{files_are_read, refusals_have_causes};
 pub use session::Session;

@@ -1,60 +1,56 @@
 //! The session: a folder that was loaded, and the commands performed over it.
-ghost use Rattle.std.specs.Prelude.{◌≡◌, ◌⊎◌, ℕ, ◌+◌, ◌<◌, ◌≤◌, ◌^◌, false, List, length};
+ghost use Rattle.std.specs.Prelude.{◌≡◌, ◌⊎◌, ℕ, ◌+◌, ◌≤◌, List, [], length};
 ghost use Rattle.std.specs.Prelude.{IsTrue, IfOk, IsErrOf, OnOk, OnErr};
 ghost use Rattle.outside_traits.specs.Counts.{Rose};
-ghost use Rattle.outside_traits.specs.View.{View, Counts, Now, Only};
-ghost use Rattle.outside_traits.specs.Calls.{Rises, MayRaiseReads, MayRaiseWrites};
-ghost use Rattle.outside_traits.specs.Runs.{ChangesOnly, Narrows};
-ghost use Rattle.catalog_types.specs.declared.change.Change.{Change};
-ghost use Rattle.catalog_core.specs.Catalogs.{IsReady};
-ghost use Rattle.catalog_core.specs.Table.{Fits, after};
-ghost use Rattle.folder.specs.Folders.{catalog_of, journal_of, table_in, FolderStands};
+ghost use Rattle.outside_traits.specs.View.{View, Counts};
+ghost use Rattle.outside_traits.specs.Calls.{Rises};
+ghost use Rattle.outside_traits.specs.Runs.{Narrows};
+ghost use Rattle.folder.specs.Folders.{journal_of, table_in, FolderStands};
 ghost use Rattle.folder.specs.Left.{IsLeft, IsLeftWith, Since};
-ghost use Rattle.folder.specs.Replay.{ReadsAs, StopsReading, is_checkpoint};
+ghost use Rattle.folder.specs.Replay.{ReadsAs, StopsReading};
 ghost use Rattle.folder.specs.Sound.{Care};
-ghost use Rattle.folder.specs.Standing.{IsNext};
-ghost use Rattle.folder.specs.State.{State, table};
+ghost use Rattle.folder.specs.State.{State};
 ghost use Rattle.journal_store.specs.Journals.{generation_of};
 ghost use Rattle.journal_store.specs.Readings.{generation_file, IsUnfinished, LogHasAtMost};
-ghost use Rattle.planning.specs.Appending.{Append, append_change, file_bytes};
-ghost use Rattle.planning.specs.Recorded.{IsRecordOf};
-ghost use Rattle.folder.specs.Next.{with_rows, AreRowsOf};
 ghost use Rattle.script_text.specs.Answer.{IsNarrow};
 ghost use Rattle.script_text.specs.Script.{IsWhole};
 ghost use Rattle.script_text.specs.declared.answer.Refusal.{Refusal};
-ghost use Rattle.script_text.specs.declared.item.Command.TheVariants as command;
-ghost use Rattle.session.specs.Machine.{Step};
-ghost use Rattle.session.specs.Causes.{TellsOfNoFile, HasByteCause};
+ghost use Rattle.folder_session.specs.Machine.{IsOfJobs};
+ghost use Rattle.folder_session.specs.Standing.{LeavesWhereRefused, ChangesAtMost, LeavesNoFile};
+ghost use Rattle.session.specs.Causes.{HasByteCause};
+ghost use Rattle.session.specs.Machine.{Machine, without_jobs};
 ghost use Rattle.session.specs.Taken.{TakesAsTold, TakesFor};
 
-use catalog_core::CatalogRefusal;
-use catalog_types::Change;
-use folder::{Folder, LoadRefusal, left_stores, next_states};
+use crate::jobs::{held_ids, know_table};
+use folder::left_stores;
+use folder_session::{FolderSession, LoadRefusal};
+use job_table::JobTable;
+use later_states::open_work_stays;
 use outside_traits::{Failed, Store};
-use planning::{AppendPlan, Recording, plan_append, plan_stream};
-use rows_core::{Column, Memory, Name, Seq, Text};
+use rows_core::Memory;
 use script_text::{Answer, Command, Refusal};
 use std::alloc::Global;
+use work_run::OpenWork;
 
-/// A folder that was loaded. What it holds in memory is the folder's table: the rows of extents stand in
-/// their files alone.
+/// A folder that was loaded, and the jobs that are open over it, which end with the process. What it holds in
+/// memory is the folder's table, and what was read for jobs: the rows of extents stand in their files alone.
 #[derive(Drop)]
 pub struct Session {
-    pub(crate) folder: Folder,
+    pub(crate) base: FolderSession,
+    pub(crate) jobs: JobTable<OpenWork>,
     pub(crate) alloc: Global,
 }
 
 impl Session {
-    ghost use Rattle.session.specs.Standing.{Stands, Performs, Breaks, Records, KeepsNot, folder_of};
-    ghost use Rattle.session.specs.Standing.{LeavesWhereRefused, ChangesAtMost, LeavesNoFile};
+    ghost use Rattle.session.specs.Standing.{Stands, Performs, Breaks, HoldsJobs, folder_of, jobs_of};
 
     /// Loads a folder, which is made where its making isn't finished. `NotAStore` comes exactly where its log
     /// files have no reading, with the first byte where reading stops, unless the store fails or memory is
     /// refused first; `Fault` only where the store failed. No file is read but the logs, and no more is taken
-    /// than their bytes.
+    /// than their bytes. No job is open.
     pub fn load<D: Store>(alloc: Global, store: &mut D) -> Result<Session, LoadRefusal>
         ensures stands { IsTrue D.tells → (care : Care) (a b : State) → IsLeft care (D.view store.old) a b
-            → IfOk result (λ session. Stands care (D.view store.new) session a) }
+            → IfOk result (λ session. Stands care (D.view store.new) session (without_jobs a)) }
         // On every store that tells its files the table is what they read as, and what each crash now leaves
         // reads as.
         ensures reading { IsTrue D.tells
@@ -87,29 +83,38 @@ impl Session {
         ensures most_taken { IsTrue D.tells → (most : ℕ) → LogHasAtMost (D.view store.old).files most
             → (D.counts store.new).taken
             ≤ (D.counts store.old).taken + length ((D.view store.old).files 0) + most }
+        ensures no_jobs { IfOk result (λ session. jobs_of session ≡ []) }
+        ensures holds { IfOk result HoldsJobs }
         ensures counts { Rises (D.counts store.old) (D.counts store.new) }
     {
-        left_stores::<D>();
-        match Folder::load(alloc, store) {
-            Ok(folder) => Ok(Session { folder, alloc }),
+        match FolderSession::load(alloc, store) {
+            Ok(base) => Ok(Session {
+                base,
+                jobs: JobTable::new(alloc),
+                alloc,
+            }),
             Err(refusal) => Err(refusal),
         }
     }
 
-    /// Performs a command, and answers it. A refused command changes nothing. All memory is taken before the
-    /// first write; from then on only a failed write or sync ends the command, which is `Failed`: then the
-    /// store is left with the state before the command and the one after it.
+    /// Performs a command, and answers it. A refused command changes nothing, but that a job whose close is
+    /// refused has read what it read. All memory is taken before the first write; from then on only a failed
+    /// write or sync ends the command, which is `Failed`: then the store is left with the state before the
+    /// command and the one after it. No answer but those of commands on jobs changes a job, and no job is in
+    /// the store.
     pub fn step<D: Store>(
         self,
         store: &mut D,
         command: Command,
     ) -> Result<(Session, Answer), Failed>
-        requires { IsWhole command }
-        ensures ok { IsTrue D.tells → (care : Care) (s : State) → Stands care (D.view store.old) self s
+        requires whole { IsWhole command }
+        requires holds { HoldsJobs self }
+        ensures holds { IfOk result (λ next. HoldsJobs next.0) }
+        ensures ok { IsTrue D.tells → (care : Care) (m : Machine) → Stands care (D.view store.old) self m
             → IfOk result
-            (λ next. Performs care (D.view store.old) (D.view store.new) next.0 s command next.1) }
-        ensures err { IsTrue D.tells → (care : Care) (s : State) → Stands care (D.view store.old) self s
-            → OnErr result (Breaks care (D.view store.old) (D.view store.new) s command) }
+            (λ next. Performs care (D.view store.old) (D.view store.new) next.0 m command next.1) }
+        ensures err { IsTrue D.tells → (care : Care) (m : Machine) → Stands care (D.view store.old) self m
+            → OnErr result (Breaks care (D.view store.old) (D.view store.new) m command) }
         ensures narrow { IfOk result (λ next. IsNarrow next.1) }
         // Whatever the answer, only the log in use and files that no state names yet are written, by an
         // append the next one alone, and only files of kept results are removed.
@@ -128,194 +133,83 @@ impl Session {
         ensures only_fault { IfOk result (λ next. (next.1 ≡ Answer.Refused Refusal.Fault → ⊥)
             → (D.counts store.new).reads ≡ (D.counts store.old).reads) }
         ensures looks { OnErr result ((D.counts store.new).reads ≡ (D.counts store.old).reads) }
-        // Where the store tells its files, damage and unreadable bytes are those of a file that a run or a
-        // fetch reads.
-        ensures found { IsTrue D.tells → IfOk result (λ next. HasByteCause (table_in (folder_of self)) command
-            (D.view store.old).files next.1) }
-        // A result has taken the bytes that it tells, and no command more than the files that it reads have.
-        ensures taken { IsTrue D.tells → (care : Care) (s : State) → Stands care (D.view store.old) self s
-            → IfOk result (λ next. TakesAsTold next.1 (D.counts store.old) (D.counts store.new)) }
-        ensures most { IsTrue D.tells
-            → TakesFor (table_in (folder_of self)) command (D.counts store.old) (D.counts store.new) }
+        // Where the store tells its files, damage and unreadable bytes are those of a file that the command
+        // reads.
+        ensures found { IsTrue D.tells → IfOk result (λ next. HasByteCause (table_in (folder_of self))
+            (jobs_of self) command (D.view store.old).files next.1) }
+        // A result has taken the bytes that it tells, but for those that a job's steps took before, and no
+        // command more than the files that it reads have.
+        ensures taken { IsTrue D.tells → (care : Care) (m : Machine) → Stands care (D.view store.old) self m
+            → IfOk result (λ next. TakesAsTold (table_in (folder_of self)) (jobs_of self) command next.1
+            (D.counts store.old) (D.counts store.new)) }
+        ensures most { IsTrue D.tells → TakesFor (table_in (folder_of self)) (jobs_of self) command
+            (D.counts store.old) (D.counts store.new) }
         // Also on a store that isn't left each crash leaves logs that read as the session's table.
         ensures crash { IsTrue D.tells → FolderStands (D.view store.old) (folder_of self)
             → IfOk result (λ next. FolderStands (D.view store.new) (folder_of next.0)) }
         ensures counts { Rises (D.counts store.old) (D.counts store.new) }
     {
+        left_stores::<D>();
         match command {
-            Command::Stream { name, columns } => self.make(store, name, columns),
-            Command::Append { name, lines } => self.append(store, name, lines),
-            Command::Run { name, plan } => self.run(store, name, &plan),
-            Command::Fetch { name, as_run } => self.fetch(store, name, as_run),
-            Command::Collect { bytes } => self.collect(store, bytes),
-            Command::Entries => Ok(self.tell_entries()),
+            Command::OpenJob { job, name, plan } => Ok(self.open_job::<D>(job, name, &plan)),
+            Command::Step { job } => Ok(self.read_next(store, job)),
+            Command::Close { job } => self.close(store, job),
+            Command::DropJob { job } => Ok(self.drop_job::<D>(job)),
+            command => self.perform(store, command),
         }
     }
 
-    // Makes a stream.
-    fn make<D: Store>(
-        self,
-        store: &mut D,
-        name: Name,
-        columns: Seq<Column>,
-    ) -> Result<(Session, Answer), Failed>
-        requires { 0 < length columns }
-        ensures ok { IsTrue D.tells → (care : Care) (s : State) → Stands care (D.view store.old) self s
-            → IfOk result (λ next. Performs care (D.view store.old) (D.view store.new) next.0 s
-            (command.Stream name columns) next.1) }
-        ensures err { IsTrue D.tells → (care : Care) (s : State) → Stands care (D.view store.old) self s
-            → OnErr result (Breaks care (D.view store.old) (D.view store.new) s
-            (command.Stream name columns)) }
+    // Performs a command that concerns no job.
+    fn perform<D: Store>(self, store: &mut D, command: Command) -> Result<(Session, Answer), Failed>
+        requires whole { IsWhole command }
+        requires of_folder { IsOfJobs command → ⊥ }
+        requires holds { HoldsJobs self }
+        ensures holds { IfOk result (λ next. HoldsJobs next.0) }
+        ensures ok { IsTrue D.tells → (care : Care) (m : Machine) → Stands care (D.view store.old) self m
+            → IfOk result
+            (λ next. Performs care (D.view store.old) (D.view store.new) next.0 m command next.1) }
+        ensures err { IsTrue D.tells → (care : Care) (m : Machine) → Stands care (D.view store.old) self m
+            → OnErr result (Breaks care (D.view store.old) (D.view store.new) m command) }
         ensures narrow { IfOk result (λ next. IsNarrow next.1) }
-        ensures alone { ChangesAtMost (folder_of self) (command.Stream name columns) (D.view store.old)
-            (D.view store.new) }
+        ensures alone { ChangesAtMost (folder_of self) command (D.view store.old) (D.view store.new) }
+        ensures gone { IsTrue D.tells → IfOk result (λ next. LeavesNoFile (table_in (folder_of self)) command
+            next.1 (D.view store.new) (D.counts store.old) (D.counts store.new)) }
         ensures cause { OnErr result (Rose (D.counts store.old).writes (D.counts store.new).writes) }
         ensures no_fault { OnOk result ((D.counts store.new).writes ≡ (D.counts store.old).writes) }
         ensures refused { IfOk result
             (λ next. LeavesWhereRefused next.1 (D.view store.old) (D.view store.new)) }
-        ensures of_no_file { IfOk result (λ next. TellsOfNoFile next.1) }
+        ensures fault { IfOk result (λ next. next.1 ≡ Answer.Refused Refusal.Fault
+            → Rose (D.counts store.old).reads (D.counts store.new).reads) }
+        ensures only_fault { IfOk result (λ next. (next.1 ≡ Answer.Refused Refusal.Fault → ⊥)
+            → (D.counts store.new).reads ≡ (D.counts store.old).reads) }
+        ensures looks { OnErr result ((D.counts store.new).reads ≡ (D.counts store.old).reads) }
+        ensures found { IsTrue D.tells → IfOk result (λ next. HasByteCause (table_in (folder_of self))
+            (jobs_of self) command (D.view store.old).files next.1) }
+        ensures taken { IsTrue D.tells → (care : Care) (m : Machine) → Stands care (D.view store.old) self m
+            → IfOk result (λ next. TakesAsTold (table_in (folder_of self)) (jobs_of self) command next.1
+            (D.counts store.old) (D.counts store.new)) }
+        ensures most { IsTrue D.tells → TakesFor (table_in (folder_of self)) (jobs_of self) command
+            (D.counts store.old) (D.counts store.new) }
         ensures crash { IsTrue D.tells → FolderStands (D.view store.old) (folder_of self)
             → IfOk result (λ next. FolderStands (D.view store.new) (folder_of next.0)) }
-        ensures counts { MayRaiseWrites (D.counts store.old) (D.counts store.new) }
+        ensures counts { Rises (D.counts store.old) (D.counts store.new) }
     {
-        next_states::<D>();
-        let mut session = self;
-        let recording = match plan_stream(session.alloc, session.folder.catalog(), name, columns) {
-            Ok(recording) => recording,
-            Err(refusal) => return Ok((session, Answer::Refused(refusal))),
+        open_work_stays();
+        know_table(self.base.catalog());
+        let Session { base, jobs, alloc } = self;
+        let held = match held_ids(alloc, &jobs) {
+            Ok(held) => held,
+            Err(Memory) => {
+                let session = Session { base, jobs, alloc };
+                return Ok((session, Answer::Refused(Refusal::Memory)));
+            }
         };
-        match session.prepare(&recording.change) {
-            Ok(()) => session.record(store, recording, Answer::Ok),
-            Err(Memory) => Ok((session, Answer::Refused(Refusal::Memory))),
-        }
-    }
-
-    // Appends the rows that these lines spell: their file is written and made stable, and then recorded.
-    fn append<D: Store>(
-        self,
-        store: &mut D,
-        name: Name,
-        lines: Seq<Text>,
-    ) -> Result<(Session, Answer), Failed>
-        requires { 0 < length lines }
-        ensures ok { IsTrue D.tells → (care : Care) (s : State) → Stands care (D.view store.old) self s
-            → IfOk result (λ next. Performs care (D.view store.old) (D.view store.new) next.0 s
-            (command.Append name lines) next.1) }
-        ensures err { IsTrue D.tells → (care : Care) (s : State) → Stands care (D.view store.old) self s
-            → OnErr result (Breaks care (D.view store.old) (D.view store.new) s (command.Append name lines)) }
-        ensures narrow { IfOk result (λ next. IsNarrow next.1) }
-        ensures alone { ChangesAtMost (folder_of self) (command.Append name lines) (D.view store.old)
-            (D.view store.new) }
-        ensures cause { OnErr result (Rose (D.counts store.old).writes (D.counts store.new).writes) }
-        ensures no_fault { OnOk result ((D.counts store.new).writes ≡ (D.counts store.old).writes) }
-        ensures refused { IfOk result
-            (λ next. LeavesWhereRefused next.1 (D.view store.old) (D.view store.new)) }
-        ensures of_no_file { IfOk result (λ next. TellsOfNoFile next.1) }
-        ensures crash { IsTrue D.tells → FolderStands (D.view store.old) (folder_of self)
-            → IfOk result (λ next. FolderStands (D.view store.new) (folder_of next.0)) }
-        ensures counts { MayRaiseWrites (D.counts store.old) (D.counts store.new) }
-    {
-        let mut session = self;
-        let plan = match plan_append(session.alloc, session.folder.catalog(), name, lines) {
-            Ok(plan) => plan,
-            Err(refusal) => return Ok((session, Answer::Refused(refusal))),
-        };
-        match session.prepare(&plan.recording.change) {
-            Ok(()) => session.record_file(store, plan),
-            Err(Memory) => Ok((session, Answer::Refused(Refusal::Memory))),
-        }
-    }
-}
-
-impl Session {
-    ghost use Rattle.session.specs.Standing.{Stands, Performs, Breaks, Records, KeepsNot, folder_of};
-    ghost use Rattle.session.specs.Standing.{AppendsAtMost};
-
-    // Records a change for which the folder is ready.
-    pub(crate) fn record<D: Store>(
-        self,
-        store: &mut D,
-        recording: Recording,
-        answer: Answer,
-    ) -> Result<(Session, Answer), Failed>
-        requires ready { IsReady (catalog_of (folder_of self)) recording.change }
-        requires record { IsRecordOf (table_in (folder_of self)) recording.change recording.body.items }
-        requires no_checkpoint { is_checkpoint recording.change ≡ false }
-        ensures ok { IsTrue D.tells → (care : Care) (s new : State) → Stands care (D.view store.old) self s
-            → IsNext care (D.view store.old) s recording.change new
-            → IfOk result (λ next. Records care (D.view store.old) (D.view store.new) next.0 s new) }
-        ensures err { IsTrue D.tells → (care : Care) (s new : State) → Stands care (D.view store.old) self s
-            → IsNext care (D.view store.old) s recording.change new
-            → OnErr result (KeepsNot care (D.view store.old) (D.view store.new) s new) }
-        ensures answer { IfOk result (λ next. next.1 ≡ answer) }
-        ensures table { IfOk result (λ next. table_in (folder_of next.0)
-            ≡ after recording.change (table_in (folder_of self))) }
-        ensures alone { ChangesOnly (generation_file (generation_of (journal_of (folder_of self))))
-            (D.view store.old) (D.view store.new) }
-        ensures cause { OnErr result (Rose (D.counts store.old).writes (D.counts store.new).writes) }
-        ensures no_fault { OnOk result ((D.counts store.new).writes ≡ (D.counts store.old).writes) }
-        ensures crash { IsTrue D.tells → FolderStands (D.view store.old) (folder_of self)
-            → IfOk result (λ next. FolderStands (D.view store.new) (folder_of next.0)) }
-        ensures counts { MayRaiseWrites (D.counts store.old) (D.counts store.new) }
-    {
-        left_stores::<D>();
-        let Session { folder, alloc } = self;
-        let Recording { change, body } = recording;
-        match folder.record(store, change, &body) {
-            Ok(folder) => Ok((Session { folder, alloc }, answer)),
+        match base.step(store, command, &held) {
+            Ok((base, answer)) => {
+                know_table(base.catalog());
+                Ok((Session { base, jobs, alloc }, answer))
+            }
             Err(Failed) => Err(Failed),
-        }
-    }
-
-    // Writes the file of an append, for which the folder is ready, and then records it.
-    fn record_file<D: Store>(
-        self,
-        store: &mut D,
-        plan: AppendPlan,
-    ) -> Result<(Session, Answer), Failed>
-        requires ready { IsReady (catalog_of (folder_of self)) plan.recording.change }
-        requires record { IsRecordOf (table_in (folder_of self)) plan.recording.change
-            plan.recording.body.items }
-        requires append { (a : Append)
-            × (plan.recording.change ≡ append_change (table_in (folder_of self)) a)
-            × (plan.bytes.items ≡ file_bytes a.rows) }
-        ensures ok { IsTrue D.tells → (care : Care) (s : State) (a : Append)
-            → Stands care (D.view store.old) self s → AreRowsOf s a.place a.rows
-            → plan.recording.change ≡ append_change (table s) a → plan.bytes.items ≡ file_bytes a.rows
-            → IfOk result (λ next. Records care (D.view store.old) (D.view store.new) next.0 s
-            (with_rows s a.place a.rows)) }
-        ensures err { IsTrue D.tells → (care : Care) (s : State) (a : Append)
-            → Stands care (D.view store.old) self s → AreRowsOf s a.place a.rows
-            → plan.recording.change ≡ append_change (table s) a → plan.bytes.items ≡ file_bytes a.rows
-            → OnErr result (KeepsNot care (D.view store.old) (D.view store.new) s
-            (with_rows s a.place a.rows) ⊎ KeepsNot care (D.view store.old) (D.view store.new) s s) }
-        ensures answer { IfOk result (λ next. next.1 ≡ Answer.Held plan.held) }
-        ensures alone { AppendsAtMost (folder_of self) (D.view store.old) (D.view store.new) }
-        ensures cause { OnErr result (Rose (D.counts store.old).writes (D.counts store.new).writes) }
-        ensures no_fault { OnOk result ((D.counts store.new).writes ≡ (D.counts store.old).writes) }
-        ensures crash { IsTrue D.tells → FolderStands (D.view store.old) (folder_of self)
-            → IfOk result (λ next. FolderStands (D.view store.new) (folder_of next.0)) }
-        ensures counts { MayRaiseWrites (D.counts store.old) (D.counts store.new) }
-    {
-        next_states::<D>();
-        left_stores::<D>();
-        match self.folder.write_next(store, 0, &plan.bytes) {
-            Ok(()) => self.record(store, plan.recording, Answer::Held(plan.held)),
-            Err(Failed) => Err(Failed),
-        }
-    }
-
-    // Takes all the memory that recording the change wants.
-    pub(crate) fn prepare(&mut self, change: &Change) -> Result<(), Memory>
-        requires { Fits change.now (table_in (folder_of self.old)) }
-        ensures table { table_in (folder_of self.new) ≡ table_in (folder_of self.old) }
-        ensures journal { journal_of (folder_of self.new) ≡ journal_of (folder_of self.old) }
-        ensures ready { OnOk result (IsReady (catalog_of (folder_of self.new)) change.now) }
-    {
-        match self.folder.prepare(change) {
-            Ok(()) => Ok(()),
-            Err(CatalogRefusal::Misfit) => unreachable!(),
-            Err(CatalogRefusal::Memory) => Err(Memory),
         }
     }
 }

@@ -1,4 +1,4 @@
-use Rattle.session.proofs.RefusalLemmas.{never_damaged, never_unreadable}
+use Rattle.session.proofs.CauseLemmas.{never_damaged, never_unreadable}
 use Rattle.session.proofs.laws.files_are_read.Goals as goal
 
 pub returns-clause-damaged : goal.returns-clause-damaged

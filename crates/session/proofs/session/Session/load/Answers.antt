@@ -1,38 +1,19 @@
-use Rattle.std.proofs.Common.{Err, ap}
-use Rattle.session.proofs.LoadLemmas.{only_of}
+use Rattle.std.proofs.Common.{sym, subst, []}
+use Rattle.folder_session.specs.declared.session.FolderSession.{FolderSession}
+use Rattle.session.specs.Jobs.{AreJobs}
+use Rattle.session.specs.declared.session.Session.{Session}
+use Rattle.session.proofs.LoadLemmas.{same_err, same_only, not_refused}
+use Rattle.folder.specs.declared.refusal.LoadRefusal.TheVariants.{NotAStore}
 use Rattle.session.proofs.session.Session.load.Goals as goal
 
 pub returns-in-Ok-clause-stands : goal.returns-in-Ok-clause-stands
-returns-in-Ok-clause-stands g c = λ told care a b left.
-    let means = c.in-Ok.ensures.means told care a b left in
-    record { means = means; left = c.left_stores.ensures.meant care c.load.new.store _ _ a means }
+returns-in-Ok-clause-stands g c = λ told care a b left. record { base = c.in-Ok.ensures.stands told care a b left; jobs = subst (AreJobs a []) (sym c.new.ensures) tt }
 
 pub returns-in-Ok-clause-only : goal.returns-in-Ok-clause-only
-returns-in-Ok-clause-only g c = λ told file at stops. absurd (c.in-Ok.ensures.exactly told file at stops)
+returns-in-Ok-clause-only g c = λ told file at stops. absurd (not_refused c.in-Ok.base file at (c.in-Ok.ensures.only told file at stops))
+
+pub returns-in-Err-clause-not_a_store : goal.returns-in-Err-clause-not_a_store
+returns-in-Err-clause-not_a_store g c = λ told file at is. c.in-Err.ensures.not_a_store told file at (same_err {T = Session} {U = FolderSession} c.in-Err.refusal (NotAStore file at) is)
 
 pub returns-in-Err-clause-only : goal.returns-in-Err-clause-only
-returns-in-Err-clause-only g c = λ told file at stops. only_of c.in-Err.refusal file at (λ h b is. c.in-Err.ensures.place told file at h b stops (ap Err is))
-
-pub returns-in-Ok-clause-reading : goal.returns-in-Ok-clause-reading
-returns-in-Ok-clause-reading g c = c.in-Ok.ensures.reading
-
-pub returns-in-Ok-clause-crash : goal.returns-in-Ok-clause-crash
-returns-in-Ok-clause-crash g c = c.in-Ok.ensures.stands
-
-pub returns-in-Ok-clause-taken : goal.returns-in-Ok-clause-taken
-returns-in-Ok-clause-taken g c = c.in-Ok.ensures.taken
-
-pub returns-in-Ok-clause-most_taken : goal.returns-in-Ok-clause-most_taken
-returns-in-Ok-clause-most_taken g c = c.load.ensures.most_taken
-
-pub returns-in-Err-clause-most_taken : goal.returns-in-Err-clause-most_taken
-returns-in-Err-clause-most_taken g c = c.load.ensures.most_taken
-
-pub returns-in-Ok-clause-finished : goal.returns-in-Ok-clause-finished
-returns-in-Ok-clause-finished g c = c.load.ensures.finished
-
-pub returns-in-Err-clause-finished : goal.returns-in-Err-clause-finished
-returns-in-Err-clause-finished g c = c.load.ensures.finished
-
-pub returns-in-Ok-clause-no_fault : goal.returns-in-Ok-clause-no_fault
-returns-in-Ok-clause-no_fault g c = c.in-Ok.ensures.no_fault
+returns-in-Err-clause-only g c = λ told file at stops. same_only {T = FolderSession} {U = Session} c.in-Err.refusal file at (c.in-Err.ensures.only told file at stops)

@@ -1,175 +1,30 @@
-use Rattle.std.proofs.Common.{sym, subst, refl, IfOk, Ok}
+use Rattle.std.proofs.Common.{IfOk, sym, subst}
 use Rattle.script_text.specs.declared.item.Command.{Command}
 use Rattle.folder.specs.Folders.{table_in, FolderStands}
-use Rattle.session.specs.declared.session.Session.{Session}
-use Rattle.session.specs.Causes.{HasByteCause}
-use Rattle.session.specs.Standing.{Performs, ChangesAtMost, LeavesNoFile, folder_of}
-use Rattle.session.specs.Taken.{TakesFor}
-use Rattle.session.proofs.CollectLemmas.{nothing_left, entries_leave, entries_narrow, entries_tell, tells_entries}
-use Rattle.session.proofs.RefusalLemmas.{stream_causes, append_causes, collect_causes, entries_causes, no_fault_in}
-use Rattle.session.proofs.TakenLemmas.{told_of_any, none_for}
-use Rattle.session.proofs.LeavingLemmas.{changes_none, looked_before, failed_after}
+use Rattle.folder_session.specs.Standing as folder
+use Rattle.folder_session.specs.declared.session.FolderSession.{FolderSession}
+use Rattle.session.specs.Standing.{Performs, folder_of, jobs_of}
+use Rattle.session.specs.Taken.{TakesAsTold}
 use Rattle.session.proofs.session.Session.step.Goals as goal
 
-pub returns-in-Stream-clause-ok : goal.returns-in-Stream-clause-ok
-returns-in-Stream-clause-ok g c = λ told care s stands.
-    subst (λ (x : Command). IfOk c.make.result (λ next. Performs care (g.D.Store.view c.args.store.now) (g.D.Store.view c.make.new.store) next.0 s x next.1)) (sym c.in-Stream.is) (c.make.ensures.ok told care s stands)
+pub returns-in-Step-clause-taken : goal.returns-in-Step-clause-taken
+returns-in-Step-clause-taken g c = λ told care m stands.
+    subst (λ (x : Command). TakesAsTold (table_in (folder_of c.args.self)) (jobs_of c.args.self) x c.read_next.result.1 (g.D.Store.counts c.args.store.now) (g.D.Store.counts c.read_next.new.store)) (sym c.in-Step.is)
+    (c.read_next.ensures.taken told care m stands)
 
-pub returns-in-Append-clause-ok : goal.returns-in-Append-clause-ok
-returns-in-Append-clause-ok g c = λ told care s stands.
-    subst (λ (x : Command). IfOk c.append.result (λ next. Performs care (g.D.Store.view c.args.store.now) (g.D.Store.view c.append.new.store) next.0 s x next.1)) (sym c.in-Append.is) (c.append.ensures.ok told care s stands)
+pub returns-in-Step-clause-crash : goal.returns-in-Step-clause-crash
+returns-in-Step-clause-crash g c = λ told stands.
+    subst (λ (b : FolderSession). FolderStands (g.D.Store.view c.read_next.new.store) (folder.folder_of b)) (sym c.read_next.ensures.base)
+    (c.left_stores.ensures.stands c.args.store.now c.read_next.new.store _ _ c.read_next.ensures.narrows stands)
 
-pub returns-in-Run-clause-ok : goal.returns-in-Run-clause-ok
-returns-in-Run-clause-ok g c = λ told care s stands.
-    subst (λ (x : Command). IfOk c.run.result (λ next. Performs care (g.D.Store.view c.args.store.now) (g.D.Store.view c.run.new.store) next.0 s x next.1)) (sym c.in-Run.is) (c.run.ensures.ok told care s stands)
+pub returns-in-Close-clause-ok : goal.returns-in-Close-clause-ok
+returns-in-Close-clause-ok g c = λ told care m stands.
+    subst (λ (x : Command). IfOk c.close.result (λ next. Performs care (g.D.Store.view c.args.store.now) (g.D.Store.view c.close.new.store) next.0 m x next.1)) (sym c.in-Close.is) (c.close.ensures.ok told care m stands)
 
-pub returns-in-Stream-clause-taken : goal.returns-in-Stream-clause-taken
-returns-in-Stream-clause-taken g c = λ told care s stands. told_of_any (g.D.Store.counts c.args.store.now) (g.D.Store.counts c.make.new.store) _ c.make.ensures.of_no_file
+pub returns-in-Close-clause-taken : goal.returns-in-Close-clause-taken
+returns-in-Close-clause-taken g c = λ told care m stands.
+    subst (λ (x : Command). IfOk c.close.result (λ next. TakesAsTold (table_in (folder_of c.args.self)) (jobs_of c.args.self) x next.1 (g.D.Store.counts c.args.store.now) (g.D.Store.counts c.close.new.store))) (sym c.in-Close.is)
+    (c.close.ensures.taken told care m stands)
 
-pub returns-in-Append-clause-taken : goal.returns-in-Append-clause-taken
-returns-in-Append-clause-taken g c = λ told care s stands. told_of_any (g.D.Store.counts c.args.store.now) (g.D.Store.counts c.append.new.store) _ c.append.ensures.of_no_file
-
-pub returns-in-Stream-clause-most : goal.returns-in-Stream-clause-most
-returns-in-Stream-clause-most g c = λ told. none_for (table_in (folder_of c.args.self)) c.args.command (g.D.Store.counts c.args.store.now) (g.D.Store.counts c.make.new.store) c.make.ensures.counts.taken
-
-pub returns-in-Append-clause-most : goal.returns-in-Append-clause-most
-returns-in-Append-clause-most g c = λ told. none_for (table_in (folder_of c.args.self)) c.args.command (g.D.Store.counts c.args.store.now) (g.D.Store.counts c.append.new.store) c.append.ensures.counts.taken
-
-pub returns-in-Run-clause-most : goal.returns-in-Run-clause-most
-returns-in-Run-clause-most g c = λ told.
-    subst (λ (x : Command). TakesFor (table_in (folder_of c.args.self)) x (g.D.Store.counts c.args.store.now) (g.D.Store.counts c.run.new.store)) (sym c.in-Run.is) (c.run.ensures.most told)
-
-pub returns-in-Stream-clause-found : goal.returns-in-Stream-clause-found
-returns-in-Stream-clause-found g c = λ told. stream_causes (table_in (folder_of c.args.self)) (g.D.Store.view c.args.store.now).files _ _ _ _ c.in-Stream.is c.make.ensures.of_no_file
-
-pub returns-in-Append-clause-found : goal.returns-in-Append-clause-found
-returns-in-Append-clause-found g c = λ told. append_causes (table_in (folder_of c.args.self)) (g.D.Store.view c.args.store.now).files _ _ _ _ c.in-Append.is c.append.ensures.of_no_file
-
-pub returns-in-Run-clause-found : goal.returns-in-Run-clause-found
-returns-in-Run-clause-found g c = λ told.
-    subst (λ (x : Command). IfOk c.run.result (λ next. HasByteCause (table_in (folder_of c.args.self)) x (g.D.Store.view c.args.store.now).files next.1)) (sym c.in-Run.is) (c.run.ensures.found told)
-
-pub returns-in-Stream-clause-fault : goal.returns-in-Stream-clause-fault
-returns-in-Stream-clause-fault g c = no_fault_in _ _ _ c.make.ensures.of_no_file
-
-pub returns-in-Append-clause-fault : goal.returns-in-Append-clause-fault
-returns-in-Append-clause-fault g c = no_fault_in _ _ _ c.append.ensures.of_no_file
-
-pub returns-in-Stream-clause-only_fault : goal.returns-in-Stream-clause-only_fault
-returns-in-Stream-clause-only_fault g c = looked_before _ _ _ c.make.ensures.counts.reads
-
-pub returns-in-Append-clause-only_fault : goal.returns-in-Append-clause-only_fault
-returns-in-Append-clause-only_fault g c = looked_before _ _ _ c.append.ensures.counts.reads
-
-pub returns-in-Stream-clause-looks : goal.returns-in-Stream-clause-looks
-returns-in-Stream-clause-looks g c = failed_after _ _ c.make.ensures.counts.reads
-
-pub returns-in-Append-clause-looks : goal.returns-in-Append-clause-looks
-returns-in-Append-clause-looks g c = failed_after _ _ c.append.ensures.counts.reads
-
-pub returns-in-Stream-clause-alone : goal.returns-in-Stream-clause-alone
-returns-in-Stream-clause-alone g c = subst (λ (x : Command). ChangesAtMost (folder_of c.args.self) x (g.D.Store.view c.args.store.now) (g.D.Store.view c.make.new.store)) (sym c.in-Stream.is) c.make.ensures.alone
-
-pub returns-in-Stream-clause-gone : goal.returns-in-Stream-clause-gone
-returns-in-Stream-clause-gone g c = λ told.
-    subst (λ (x : Command). IfOk c.make.result (λ next. LeavesNoFile (table_in (folder_of c.args.self)) x next.1 (g.D.Store.view c.make.new.store) (g.D.Store.counts c.args.store.now) (g.D.Store.counts c.make.new.store))) (sym c.in-Stream.is) (nothing_left tt c.make.result)
-
-pub returns-in-Append-clause-alone : goal.returns-in-Append-clause-alone
-returns-in-Append-clause-alone g c = subst (λ (x : Command). ChangesAtMost (folder_of c.args.self) x (g.D.Store.view c.args.store.now) (g.D.Store.view c.append.new.store)) (sym c.in-Append.is) c.append.ensures.alone
-
-pub returns-in-Append-clause-gone : goal.returns-in-Append-clause-gone
-returns-in-Append-clause-gone g c = λ told.
-    subst (λ (x : Command). IfOk c.append.result (λ next. LeavesNoFile (table_in (folder_of c.args.self)) x next.1 (g.D.Store.view c.append.new.store) (g.D.Store.counts c.args.store.now) (g.D.Store.counts c.append.new.store))) (sym c.in-Append.is) (nothing_left tt c.append.result)
-
-pub returns-in-Run-clause-alone : goal.returns-in-Run-clause-alone
-returns-in-Run-clause-alone g c = subst (λ (x : Command). ChangesAtMost (folder_of c.args.self) x (g.D.Store.view c.args.store.now) (g.D.Store.view c.run.new.store)) (sym c.in-Run.is) c.run.ensures.alone
-
-pub returns-in-Run-clause-gone : goal.returns-in-Run-clause-gone
-returns-in-Run-clause-gone g c = λ told.
-    subst (λ (x : Command). IfOk c.run.result (λ next. LeavesNoFile (table_in (folder_of c.args.self)) x next.1 (g.D.Store.view c.run.new.store) (g.D.Store.counts c.args.store.now) (g.D.Store.counts c.run.new.store))) (sym c.in-Run.is) (nothing_left tt c.run.result)
-
-pub returns-in-Fetch-clause-alone : goal.returns-in-Fetch-clause-alone
-returns-in-Fetch-clause-alone g c = subst (λ (x : Command). ChangesAtMost (folder_of c.args.self) x (g.D.Store.view c.args.store.now) (g.D.Store.view c.fetch.new.store)) (sym c.in-Fetch.is) c.fetch.ensures.alone
-
-pub returns-in-Fetch-clause-gone : goal.returns-in-Fetch-clause-gone
-returns-in-Fetch-clause-gone g c = λ told.
-    subst (λ (x : Command). IfOk c.fetch.result (λ next. LeavesNoFile (table_in (folder_of c.args.self)) x next.1 (g.D.Store.view c.fetch.new.store) (g.D.Store.counts c.args.store.now) (g.D.Store.counts c.fetch.new.store))) (sym c.in-Fetch.is) (nothing_left tt c.fetch.result)
-
-pub returns-in-Fetch-clause-ok : goal.returns-in-Fetch-clause-ok
-returns-in-Fetch-clause-ok g c = λ told care s stands.
-    subst (λ (x : Command). IfOk c.fetch.result (λ next. Performs care (g.D.Store.view c.args.store.now) (g.D.Store.view c.fetch.new.store) next.0 s x next.1)) (sym c.in-Fetch.is) (c.fetch.ensures.ok told care s stands)
-
-pub returns-in-Fetch-clause-most : goal.returns-in-Fetch-clause-most
-returns-in-Fetch-clause-most g c = λ told.
-    subst (λ (x : Command). TakesFor (table_in (folder_of c.args.self)) x (g.D.Store.counts c.args.store.now) (g.D.Store.counts c.fetch.new.store)) (sym c.in-Fetch.is) (c.fetch.ensures.most told)
-
-pub returns-in-Fetch-clause-found : goal.returns-in-Fetch-clause-found
-returns-in-Fetch-clause-found g c = λ told.
-    subst (λ (x : Command). IfOk c.fetch.result (λ next. HasByteCause (table_in (folder_of c.args.self)) x (g.D.Store.view c.args.store.now).files next.1)) (sym c.in-Fetch.is) (c.fetch.ensures.found told)
-
--- ---- a collection
-
-pub returns-in-Collect-clause-ok : goal.returns-in-Collect-clause-ok
-returns-in-Collect-clause-ok g c = λ told care s stands.
-    subst (λ (x : Command). IfOk c.collect.result (λ next. Performs care (g.D.Store.view c.args.store.now) (g.D.Store.view c.collect.new.store) next.0 s x next.1)) (sym c.in-Collect.is) (c.collect.ensures.ok told care s stands)
-
-pub returns-in-Collect-clause-alone : goal.returns-in-Collect-clause-alone
-returns-in-Collect-clause-alone g c = subst (λ (x : Command). ChangesAtMost (folder_of c.args.self) x (g.D.Store.view c.args.store.now) (g.D.Store.view c.collect.new.store)) (sym c.in-Collect.is) c.collect.ensures.alone
-
-pub returns-in-Collect-clause-gone : goal.returns-in-Collect-clause-gone
-returns-in-Collect-clause-gone g c = λ told.
-    subst (λ (x : Command). IfOk c.collect.result (λ next. LeavesNoFile (table_in (folder_of c.args.self)) x next.1 (g.D.Store.view c.collect.new.store) (g.D.Store.counts c.args.store.now) (g.D.Store.counts c.collect.new.store))) (sym c.in-Collect.is) (c.collect.ensures.gone told)
-
-pub returns-in-Collect-clause-taken : goal.returns-in-Collect-clause-taken
-returns-in-Collect-clause-taken g c = λ told care s stands. told_of_any (g.D.Store.counts c.args.store.now) (g.D.Store.counts c.collect.new.store) _ c.collect.ensures.of_no_file
-
-pub returns-in-Collect-clause-most : goal.returns-in-Collect-clause-most
-returns-in-Collect-clause-most g c = λ told. none_for (table_in (folder_of c.args.self)) c.args.command (g.D.Store.counts c.args.store.now) (g.D.Store.counts c.collect.new.store) c.collect.ensures.taken
-
-pub returns-in-Collect-clause-found : goal.returns-in-Collect-clause-found
-returns-in-Collect-clause-found g c = λ told. collect_causes (table_in (folder_of c.args.self)) (g.D.Store.view c.args.store.now).files _ _ _ c.in-Collect.is c.collect.ensures.of_no_file
-
-pub returns-in-Collect-clause-fault : goal.returns-in-Collect-clause-fault
-returns-in-Collect-clause-fault g c = no_fault_in _ _ _ c.collect.ensures.of_no_file
-
-pub returns-in-Collect-clause-only_fault : goal.returns-in-Collect-clause-only_fault
-returns-in-Collect-clause-only_fault g c = looked_before _ _ _ c.collect.ensures.reads
-
-pub returns-in-Collect-clause-looks : goal.returns-in-Collect-clause-looks
-returns-in-Collect-clause-looks g c = failed_after _ _ c.collect.ensures.reads
-
--- ---- what is kept is told
-
-pub returns-in-Entries-clause-ok : goal.returns-in-Entries-clause-ok
-returns-in-Entries-clause-ok g c = λ told care s stands.
-    subst (λ (x : Command). Performs care (g.D.Store.view c.args.store.now) (g.D.Store.view c.args.store.now) c.tell_entries.result.0 s x c.tell_entries.result.1) (sym c.in-Entries.is)
-    (tells_entries care _ c.args.self c.tell_entries.result.0 s stands c.tell_entries.result.1 c.tell_entries.ensures.session c.tell_entries.ensures.told)
-
-pub returns-in-Entries-clause-narrow : goal.returns-in-Entries-clause-narrow
-returns-in-Entries-clause-narrow g c = entries_narrow _ _ c.tell_entries.ensures.told
-
-pub returns-in-Entries-clause-refused : goal.returns-in-Entries-clause-refused
-returns-in-Entries-clause-refused g c = entries_leave _ _ _ c.tell_entries.ensures.told
-
-pub returns-in-Entries-clause-alone : goal.returns-in-Entries-clause-alone
-returns-in-Entries-clause-alone g c = changes_none (folder_of c.args.self) c.args.command _
-
-pub returns-in-Entries-clause-gone : goal.returns-in-Entries-clause-gone
-returns-in-Entries-clause-gone g c = λ told.
-    subst (λ (x : Command). LeavesNoFile (table_in (folder_of c.args.self)) x c.tell_entries.result.1 (g.D.Store.view c.args.store.now) (g.D.Store.counts c.args.store.now) (g.D.Store.counts c.args.store.now)) (sym c.in-Entries.is) tt
-
-pub returns-in-Entries-clause-taken : goal.returns-in-Entries-clause-taken
-returns-in-Entries-clause-taken g c = λ told care s stands. told_of_any (g.D.Store.counts c.args.store.now) (g.D.Store.counts c.args.store.now) (Ok c.tell_entries.result) (entries_tell _ _ c.tell_entries.ensures.told)
-
-pub returns-in-Entries-clause-most : goal.returns-in-Entries-clause-most
-returns-in-Entries-clause-most g c = λ told. none_for (table_in (folder_of c.args.self)) c.args.command (g.D.Store.counts c.args.store.now) (g.D.Store.counts c.args.store.now) refl
-
-pub returns-in-Entries-clause-found : goal.returns-in-Entries-clause-found
-returns-in-Entries-clause-found g c = λ told.
-    entries_causes (table_in (folder_of c.args.self)) (g.D.Store.view c.args.store.now).files c.args.command c.tell_entries.result.1 c.in-Entries.is (entries_tell _ _ c.tell_entries.ensures.told)
-
-pub returns-in-Entries-clause-fault : goal.returns-in-Entries-clause-fault
-returns-in-Entries-clause-fault g c = no_fault_in _ _ (Ok c.tell_entries.result) (entries_tell _ _ c.tell_entries.ensures.told)
-
-pub returns-in-Entries-clause-crash : goal.returns-in-Entries-clause-crash
-returns-in-Entries-clause-crash g c = λ told stands. subst (λ (x : Session). FolderStands (g.D.Store.view c.args.store.now) (folder_of x)) (sym c.tell_entries.ensures.session) stands
+pub returns-in-Close-clause-alone : goal.returns-in-Close-clause-alone
+returns-in-Close-clause-alone g c = subst (λ (x : Command). folder.ChangesAtMost (folder_of c.args.self) x (g.D.Store.view c.args.store.now) (g.D.Store.view c.close.new.store)) (sym c.in-Close.is) c.close.ensures.alone

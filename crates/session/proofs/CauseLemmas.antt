@@ -1,0 +1,184 @@
+-- For which cause a refusal comes, and what it leaves.
+use Rattle.std.proofs.Common.{◌≡◌, ◌⊎◌, inl, inr, refl, sym, ap, ◌∙◌, subst, ℕ, Bool, true, false, cond, List, [], ◌∷◌, length, Option, Some, None, Result, Ok, Err, arith}
+use Rattle.estimator.specs.Bytes.{capped}
+use Rattle.rewrite_core.specs.Files.{files_of}
+use Rattle.rows_core.specs.declared.file_ref.Digest.{Digest}
+use Rattle.planning.specs.Opening.{opening}
+use Rattle.planning.specs.Running.{Run, storing}
+use Rattle.script_text.specs.declared.answer.Answer.{Answer}
+use Rattle.script_text.specs.declared.answer.Answer.TheVariants as answer
+use Rattle.script_text.specs.declared.answer.LimitKind.TheVariants as limit
+use Rattle.script_text.specs.declared.answer.Refusal.{Refusal}
+use Rattle.script_text.specs.declared.answer.Refusal.TheVariants as refusal
+use Rattle.script_text.specs.declared.item.Command.{Command}
+use Rattle.script_text.specs.declared.item.Command.TheVariants as command
+use Rattle.folder.specs.Sound.{Care, Whole}
+use Rattle.folder.specs.State.{State, table}
+use Rattle.folder_session.specs.Machine as folder
+use Rattle.folder_session.specs.Machine.{IsFileEvent}
+use Rattle.folder_session.specs.Refusals.{IsRefusedOn}
+use Rattle.folder_session.specs.Refusals as of_folder_refused
+use Rattle.folder_session.proofs.OutcomeLemmas as of_folder
+use Rattle.session.specs.Machine.{Job, Machine, Outcome, outcome, refused, is_named, is_open, job_named, left_of, stepped, steps_of, put_for, read_to, read_whole, with_jobs, OpensTo, StepsTo, ClosesTo, ClosesBy, IsClosing, DropsTo, Performs, PerformsBeside, IsReadOn, IsEvent, Remains, Step, held_by}
+use Rattle.session.specs.Refusals.{IsUnknown, IsClosingRefused, IsCloseRefused, IsRefusedFor, HasReadTo, StaysBut}
+use Rattle.session.proofs.SparingLemmas.{performed_spares, step_spares}
+
+-- what is refused for one reason isn't refused for another
+same_refusal : (m new : Machine) (why told : Refusal) → outcome (answer.Refused why) new ≡ refused m told → told ≡ why
+same_refusal m new why told e = let answers : answer.Refused why ≡ answer.Refused told = ap (λ (o : Outcome). o.answer) e in cc
+
+module _ (m new : Machine) (why : Refusal) where
+  opened_cause : (name : List ℕ) (planned : Result Run Refusal) → OpensTo m name planned (outcome (answer.Refused why) new) → planned ≡ Err why
+  opened_cause name (Ok run) opens = let answers : answer.Refused why ≡ answer.Ready (capped (length (files_of opens.rewriting))) = ap (λ (o : Outcome). o.answer) opens.is in absurd (cc)
+  opened_cause name (Err told) is = ap Err (same_refusal m new why told is)
+
+  stepped_cause : (name : List ℕ) (job : Option Job) → StepsTo m name job (outcome (answer.Refused why) new) → IsUnknown job name why
+  stepped_cause name (Some job) is = let answers : answer.Refused why ≡ answer.Left (capped (left_of (stepped job))) = ap (λ (o : Outcome). o.answer) is in absurd (cc)
+  stepped_cause name None is = sym (same_refusal m new why (refusal.Unknown name) is)
+
+  dropped_cause : (name : List ℕ) (job : Option Job) → DropsTo m name job (outcome (answer.Refused why) new) → IsUnknown job name why
+  dropped_cause name (Some job) is = let answers : answer.Refused why ≡ answer.Ok = ap (λ (o : Outcome). o.answer) is in absurd (cc)
+  dropped_cause name None is = sym (same_refusal m new why (refusal.Unknown name) is)
+
+  on_cause : (name : List ℕ) (job : Job) (w : Refusal) → IsClosing m name job (answer.Refused w) new → IsRefusedOn m.state job.run.plan job.run.program.cuts w × (new ≡ read_whole m name job)
+  on_cause name job refusal.Overflow is = is
+  on_cause name job (refusal.Limit limit.Machine) is = is
+  on_cause name job _ is = absurd is
+
+  closing_cause : (name : List ℕ) (job : Job) (planned : Result Run Refusal) → ClosesBy m name job planned (outcome (answer.Refused why) new) → IsClosingRefused m job planned why
+  closing_cause name job (Ok run) is = (on_cause name job why is).0
+  closing_cause name job (Err told) is = same_refusal m new why told is
+
+  closed_cause : (name : List ℕ) (job : Option Job) → ClosesTo m name job (outcome (answer.Refused why) new) → IsCloseRefused m job name why
+  closed_cause name (Some job) is = closing_cause name job (storing (table m.state) job.run) is
+  closed_cause name None is = sym (same_refusal m new why (refusal.Unknown name) is)
+
+  beside_cause : (c : Command) → PerformsBeside m c (outcome (answer.Refused why) new) → of_folder_refused.IsRefusedFor m.state c why
+  beside_cause c beside = of_folder.cause_of (held_by m.jobs) m.state new.state c why beside.of_folder
+
+  pub cause_of : (c : Command) → Performs m c (outcome (answer.Refused why) new) → IsRefusedFor m c why
+  cause_of (command.OpenJob job name tree) is = opened_cause job (opening (table m.state) (is_open m.jobs job) (length m.jobs) job name tree) is
+  cause_of (command.Step job) is = stepped_cause job (job_named m.jobs job) is
+  cause_of (command.Close job) is = closed_cause job (job_named m.jobs job) is
+  cause_of (command.DropJob job) is = dropped_cause job (job_named m.jobs job) is
+  cause_of (command.Stream name columns) is = beside_cause (command.Stream name columns) is
+  cause_of (command.Append name lines) is = beside_cause (command.Append name lines) is
+  cause_of (command.Run name tree) is = beside_cause (command.Run name tree) is
+  cause_of (command.Fetch name as_run) is = beside_cause (command.Fetch name as_run) is
+  cause_of (command.Collect reclaim) is = beside_cause (command.Collect reclaim) is
+  cause_of command.Entries is = beside_cause command.Entries is
+
+  -- ---- what it leaves
+
+  left_as : (told : Refusal) → outcome (answer.Refused why) new ≡ refused m told → new ≡ m
+  left_as told is = ap (λ (o : Outcome). o.machine) is
+
+  opened_left : (name : List ℕ) (planned : Result Run Refusal) → OpensTo m name planned (outcome (answer.Refused why) new) → new ≡ m
+  opened_left name (Ok run) opens = let answers : answer.Refused why ≡ answer.Ready (capped (length (files_of opens.rewriting))) = ap (λ (o : Outcome). o.answer) opens.is in absurd (cc)
+  opened_left name (Err told) is = left_as told is
+
+  stepped_left : (name : List ℕ) (job : Option Job) → StepsTo m name job (outcome (answer.Refused why) new) → new ≡ m
+  stepped_left name (Some job) is = let answers : answer.Refused why ≡ answer.Left (capped (left_of (stepped job))) = ap (λ (o : Outcome). o.answer) is in absurd (cc)
+  stepped_left name None is = left_as (refusal.Unknown name) is
+
+  dropped_left : (name : List ℕ) (job : Option Job) → DropsTo m name job (outcome (answer.Refused why) new) → new ≡ m
+  dropped_left name (Some job) is = let answers : answer.Refused why ≡ answer.Ok = ap (λ (o : Outcome). o.answer) is in absurd (cc)
+  dropped_left name None is = left_as (refusal.Unknown name) is
+
+  beside_left : (c : Command) → PerformsBeside m c (outcome (answer.Refused why) new) → new ≡ m
+  beside_left c beside =
+      let state = of_folder.state_kept Whole (held_by m.jobs) m.state new.state c why (inl beside.of_folder) in
+      λ i. record { state = state i; jobs = beside.jobs i }
+
+-- a job put in its own place
+own_place : (name : List ℕ) (jobs : List Job) (job : Job) → job_named jobs name ≡ Some job → put_for name (job ∷ []) jobs ≡ jobs
+own_place name [] job is = let never : None ≡ Some job = is in absurd (cc)
+own_place name (j ∷ jobs) job is = by (is_named name j) refl (own_place name jobs job)
+  where
+    by : (b : Bool) → is_named name j ≡ b → (job_named jobs name ≡ Some job → put_for name (job ∷ []) jobs ≡ jobs) → put_for name (job ∷ []) (j ∷ jobs) ≡ j ∷ jobs
+    by true e next =
+        let here : Some j ≡ Some job = subst (λ (b : Bool). cond b (Some j) (job_named jobs name) ≡ Some job) e is in
+        let same : j ≡ job = cc in
+        subst (λ (b : Bool). cond b (job ∷ jobs) (j ∷ put_for name (job ∷ []) jobs) ≡ j ∷ jobs) (sym e) (ap (λ (x : Job). x ∷ jobs) (sym same))
+    by false e next =
+        let there : job_named jobs name ≡ Some job = subst (λ (b : Bool). cond b (Some j) (job_named jobs name) ≡ Some job) e is in
+        subst (λ (b : Bool). cond b (job ∷ jobs) (j ∷ put_for name (job ∷ []) jobs) ≡ j ∷ jobs) (sym e) (ap (λ (xs : List Job). j ∷ xs) (next there))
+
+-- as it was, it has read to where it had
+not_further : (name : List ℕ) (jobs : List Job) (found : Option Job) → job_named jobs name ≡ found → HasReadTo name jobs found jobs
+not_further name jobs (Some job) is = (job.done, sym (own_place name jobs job is))
+not_further name jobs None is = refl
+
+read_further : (name : List ℕ) (jobs : List Job) (found : Option Job) (new : List Job) → IsReadOn name jobs found new → HasReadTo name jobs found new
+read_further name jobs (Some job) new is = (is.0, is.3)
+read_further name jobs None new is = is
+
+closing_left : (m new : Machine) (why : Refusal) (name : List ℕ) (job : Job) (planned : Result Run Refusal) → job_named m.jobs name ≡ Some job → ClosesBy m name job planned (outcome (answer.Refused why) new)
+    → (new.state ≡ m.state) × HasReadTo name m.jobs (Some job) new.jobs
+closing_left m new why name job (Ok run) found is =
+    let whole : new ≡ read_whole m name job = (on_cause m new why name job why is).1 in
+    (ap (λ (x : Machine). x.state) whole, (steps_of job, ap (λ (x : Machine). x.jobs) whole))
+closing_left m new why name job (Err told) found is =
+    let same : new ≡ m = ap (λ (o : Outcome). o.machine) is in
+    (ap (λ (x : Machine). x.state) same, (job.done, ap (λ (x : Machine). x.jobs) same ∙ sym (own_place name m.jobs job found)))
+
+closed_left : (m new : Machine) (why : Refusal) (name : List ℕ) (found : Option Job) → job_named m.jobs name ≡ found → ClosesTo m name found (outcome (answer.Refused why) new)
+    → (new.state ≡ m.state) × HasReadTo name m.jobs found new.jobs
+closed_left m new why name (Some job) found is = closing_left m new why name job (storing (table m.state) job.run) found is
+closed_left m new why name None found is = let same : new ≡ m = ap (λ (o : Outcome). o.machine) is in (ap (λ (x : Machine). x.state) same, ap (λ (x : Machine). x.jobs) same)
+
+event_left : (m new : Machine) (c : Command) → Remains m c new → StaysBut m c new
+event_left m new (command.OpenJob job name tree) is = is
+event_left m new (command.Step job) is = is
+event_left m new (command.Close job) is = (is.0, read_further job m.jobs (job_named m.jobs job) new.jobs is.1)
+event_left m new (command.DropJob job) is = is
+event_left m new (command.Stream name columns) is = is
+event_left m new (command.Append name lines) is = is
+event_left m new (command.Run name tree) is = is
+event_left m new (command.Fetch name as_run) is = is
+event_left m new (command.Collect reclaim) is = is
+event_left m new command.Entries is = is
+
+pub unchanged : (care : Care) (m new : Machine) (c : Command) (why : Refusal) → Step care m c (answer.Refused why) new → StaysBut m c new
+unchanged care m new c why (inr event) = event_left m new c event.3
+unchanged care m new (command.OpenJob job name tree) why (inl is) = opened_left m new why job (opening (table m.state) (is_open m.jobs job) (length m.jobs) job name tree) is
+unchanged care m new (command.Step job) why (inl is) = stepped_left m new why job (job_named m.jobs job) is
+unchanged care m new (command.Close job) why (inl is) = closed_left m new why job (job_named m.jobs job) refl is
+unchanged care m new (command.DropJob job) why (inl is) = dropped_left m new why job (job_named m.jobs job) is
+unchanged care m new (command.Stream name columns) why (inl is) = beside_left m new why (command.Stream name columns) is
+unchanged care m new (command.Append name lines) why (inl is) = beside_left m new why (command.Append name lines) is
+unchanged care m new (command.Run name tree) why (inl is) = beside_left m new why (command.Run name tree) is
+unchanged care m new (command.Fetch name as_run) why (inl is) = beside_left m new why (command.Fetch name as_run) is
+unchanged care m new (command.Collect reclaim) why (inl is) = beside_left m new why (command.Collect reclaim) is
+unchanged care m new command.Entries why (inl is) = beside_left m new why command.Entries is
+
+-- ---- where the files are read
+
+pub never_damaged : (m new : Machine) (c : Command) (file : ℕ) (kept found : Digest) → Step Whole m c (answer.Refused (refusal.Damaged file kept found)) new → ⊥
+never_damaged m new c file kept found step = step_spares m new c (refusal.Damaged file kept found) step (λ is. absurd (cc))
+
+-- unreadable bytes are met in no command
+unread_event : (care : Care) (s : State) (file at : ℕ) → IsFileEvent care s (refusal.Unreadable file at) → ⊥
+unread_event care s file at is = is
+
+unread_folder : (care : Care) (m : Machine) (c : Command) (file at : ℕ) → folder.IsEvent care m.state c (refusal.Unreadable file at) → ⊥
+unread_folder care m (command.Stream name columns) file at is = is
+unread_folder care m (command.Append name lines) file at is = is
+unread_folder care m (command.Run name tree) file at is = is
+unread_folder care m (command.Fetch name as_run) file at is = is
+unread_folder care m (command.Collect reclaim) file at is = is
+unread_folder care m _ file at is = is
+
+unread : (care : Care) (m : Machine) (c : Command) (file at : ℕ) → IsEvent care m c (refusal.Unreadable file at) → ⊥
+unread care m (command.OpenJob job name tree) file at is = is
+unread care m (command.Step job) file at is = unread_event care m.state file at is.1
+unread care m (command.Close job) file at is = unread_event care m.state file at is
+unread care m (command.DropJob job) file at is = is
+unread care m c file at is = unread_folder care m c file at is
+
+pub never_unreadable : (care : Care) (m new : Machine) (c : Command) (file at : ℕ) → Step care m c (answer.Refused (refusal.Unreadable file at)) new → ⊥
+never_unreadable care m new c file at (inl performs) = performed_spares m c (refusal.Unreadable file at) new performs (λ is. absurd (cc))
+never_unreadable care m new c file at (inr event) =
+    let same : answer.Refused (refusal.Unreadable file at) ≡ answer.Refused event.0 = event.2 in
+    let one : event.0 ≡ refusal.Unreadable file at = cc in
+    unread care m c file at (subst (IsEvent care m c) one event.1)

@@ -1,0 +1,134 @@
+-- A step of the folder's machine, as one of the machine with jobs.
+use Rattle.std.proofs.Common.{◌≡◌, ◌⊎◌, inl, inr, refl, sym, ap, ◌∙◌, subst, ℕ, zero, suc, Bool, true, false, nat_le, List, [], ◌∷◌, ◌++◌, Option, Some, None, Result, Ok, Err}
+use Rattle.std.proofs.lemmas.List.{append-nil}
+use Rattle.rows_core.specs.declared.schema.Column.{Column}
+use Rattle.catalog_types.specs.declared.change.Change.{Change}
+use Rattle.catalog_types.specs.declared.program.Program.{Program}
+use Rattle.catalog_core.specs.Table.{updated, most_ticks}
+use Rattle.estimator.specs.Cuts.{Cuts}
+use Rattle.plan_core.specs.PlainPlan.{PlainPlan}
+use Rattle.planning.specs.Appending.{Append}
+use Rattle.planning.specs.Making.{making}
+use Rattle.planning.specs.Running.{Run, Target, running}
+use Rattle.script_text.specs.declared.answer.Answer.{Answer}
+use Rattle.script_text.specs.declared.answer.Answer.TheVariants as answer
+use Rattle.script_text.specs.declared.answer.LimitKind.TheVariants as limit
+use Rattle.script_text.specs.declared.answer.Refusal.{Refusal}
+use Rattle.script_text.specs.declared.answer.Refusal.TheVariants as refusal
+use Rattle.script_text.specs.declared.item.Command.{Command}
+use Rattle.script_text.specs.declared.item.Command.TheVariants as command
+use Rattle.folder.specs.Next.{grown, new_extent}
+use Rattle.folder.specs.Sound.{Care}
+use Rattle.folder.specs.State.{Extent, Stream, State, table}
+use Rattle.folder_session.specs.Machine as folder
+use Rattle.folder_session.specs.Machine.{IsOfJobs, RunsTo, FetchesTo, CollectsTo, IsWorkOn}
+use Rattle.later_states.specs.Later.{HaveMoreRows}
+use Rattle.session.specs.Machine.{Machine, Step, Performs, IsEvent, Remains, outcome, held_by, with_jobs}
+
+-- ---- the streams of the state after it
+
+pub same_rows : (xs : List Stream) → HaveMoreRows xs xs
+same_rows [] = tt
+same_rows (x ∷ xs) = (([], sym (append-nil x.extents)), same_rows xs)
+
+rows_behind : (xs : List Stream) (x : Stream) → HaveMoreRows xs (xs ++ x ∷ [])
+rows_behind [] x = tt
+rows_behind (y ∷ xs) x = (([], sym (append-nil y.extents)), rows_behind xs x)
+
+rows_grown : (e : Extent) (xs : List Stream) (place : ℕ) → HaveMoreRows xs (updated (grown e) xs place)
+rows_grown e [] place = tt
+rows_grown e (x ∷ xs) zero = ((e ∷ [], refl), same_rows xs)
+rows_grown e (x ∷ xs) (suc place) = (([], sym (append-nil x.extents)), rows_grown e xs place)
+
+abbrev More : State → State → Type 0
+More s u = HaveMoreRows s.streams u.streams
+
+kept_more : (s u : State) → u ≡ s → More s u
+kept_more s u same = subst (More s) (sym same) (same_rows s.streams)
+
+module _ (s : State) where
+  made_more : (name : List ℕ) (columns : List Column) (planned : Result Change Refusal) (given : folder.Outcome) → given ≡ folder.made s name columns planned → More s given.state
+  made_more name columns (Ok change) given is = subst (λ (o : folder.Outcome). More s o.state) (sym is) (rows_behind s.streams _)
+  made_more name columns (Err why) given is = subst (λ (o : folder.Outcome). More s o.state) (sym is) (same_rows s.streams)
+
+  appended_more : (planned : Result Append Refusal) (given : folder.Outcome) → given ≡ folder.appended s planned → More s given.state
+  appended_more (Ok a) given is = subst (λ (o : folder.Outcome). More s o.state) (sym is) (rows_grown (new_extent s.next_file a.rows) s.streams a.place)
+  appended_more (Err why) given is = subst (λ (o : folder.Outcome). More s o.state) (sym is) (same_rows s.streams)
+
+  worked_more : (program : Option Program) (plan : PlainPlan) (cuts : Cuts) (given : Answer) (new : State) → IsWorkOn s program plan cuts given new → More s new
+  worked_more program plan cuts (answer.Result rows used kept read) new works = subst (More s) (sym works.by.after) (same_rows s.streams)
+  worked_more program plan cuts (answer.Refused refusal.Overflow) new works = kept_more s new works.1
+  worked_more program plan cuts (answer.Refused (refusal.Limit limit.Machine)) new works = kept_more s new works.1
+  worked_more program plan cuts _ new works = absurd works
+
+  ran_more : (planned : Result Run Refusal) (given : folder.Outcome) → RunsTo s planned given → More s given.state
+  ran_more (Ok run) given works = worked_more (Some run.program) run.plan run.program.cuts given.answer given.state works
+  ran_more (Err why) given is = kept_more s given.state (ap (λ (o : folder.Outcome). o.state) is)
+
+  fetched_more : (planned : Result Target Refusal) (given : folder.Outcome) → FetchesTo s planned given → More s given.state
+  fetched_more (Ok target) given works = worked_more None target.plan target.cuts given.answer given.state works
+  fetched_more (Err why) given is = kept_more s given.state (ap (λ (o : folder.Outcome). o.state) is)
+
+  collected_more : (full : Bool) (held : List ℕ) (reclaim : ℕ) (given : folder.Outcome) → CollectsTo full held s reclaim given → More s given.state
+  collected_more true held reclaim given is = kept_more s given.state (ap (λ (o : folder.Outcome). o.state) is)
+  collected_more false held reclaim given is = subst (λ (o : folder.Outcome). More s o.state) (sym is.3) (same_rows s.streams)
+
+  performed_more : (held : List ℕ) (c : Command) (given : folder.Outcome) → folder.Performs held s c given → More s given.state
+  performed_more held (command.Stream name columns) given is = made_more name columns (making (table s) name columns) given is
+  performed_more held (command.Append name lines) given is = appended_more is.0 given is.2
+  performed_more held (command.Run name tree) given is = ran_more (running (table s) name tree) given is
+  performed_more held (command.Fetch name as_run) given is = fetched_more is.0 given is.2
+  performed_more held (command.Collect reclaim) given is = collected_more (nat_le most_ticks s.tick) held reclaim given is
+  performed_more held command.Entries given is = kept_more s given.state (ap (λ (o : folder.Outcome). o.state) is)
+  performed_more held _ given is = absurd is
+
+pub more_by_step : (care : Care) (held : List ℕ) (s new : State) (c : Command) (given : Answer) → folder.Step care held s c given new → HaveMoreRows s.streams new.streams
+more_by_step care held s new c given (inl done) = performed_more s held c (folder.outcome given new) done
+more_by_step care held s new c given (inr event) = kept_more s new (ap (λ (o : folder.Outcome). o.state) event.2)
+
+-- ---- the step
+
+module _ (care : Care) (m : Machine) (new : State) where
+  abbrev next : Machine
+  next = record { state = new; jobs = m.jobs }
+
+  beside : (c : Command) (given : Answer) → (IsOfJobs c → ⊥) → folder.Performs (held_by m.jobs) m.state c (folder.outcome given new) → Performs m c (outcome given next)
+  beside (command.Stream name columns) given other done = record { of_folder = done; jobs = refl }
+  beside (command.Append name lines) given other done = record { of_folder = done; jobs = refl }
+  beside (command.Run name tree) given other done = record { of_folder = done; jobs = refl }
+  beside (command.Fetch name as_run) given other done = record { of_folder = done; jobs = refl }
+  beside (command.Collect reclaim) given other done = record { of_folder = done; jobs = refl }
+  beside command.Entries given other done = record { of_folder = done; jobs = refl }
+  beside (command.OpenJob job name tree) given other done = absurd (other tt)
+  beside (command.Step job) given other done = absurd (other tt)
+  beside (command.Close job) given other done = absurd (other tt)
+  beside (command.DropJob job) given other done = absurd (other tt)
+
+  event_beside : (c : Command) (why : Refusal) → (IsOfJobs c → ⊥) → folder.IsEvent care m.state c why → IsEvent care m c why
+  event_beside (command.Stream name columns) why other event = event
+  event_beside (command.Append name lines) why other event = event
+  event_beside (command.Run name tree) why other event = event
+  event_beside (command.Fetch name as_run) why other event = event
+  event_beside (command.Collect reclaim) why other event = event
+  event_beside command.Entries why other event = event
+  event_beside (command.OpenJob job name tree) why other event = absurd (other tt)
+  event_beside (command.Step job) why other event = absurd (other tt)
+  event_beside (command.Close job) why other event = absurd (other tt)
+  event_beside (command.DropJob job) why other event = absurd (other tt)
+
+  remains_beside : (c : Command) → (IsOfJobs c → ⊥) → new ≡ m.state → Remains m c next
+  remains_beside (command.Stream name columns) other same = ap (λ (x : State). record { state = x; jobs = m.jobs }) same
+  remains_beside (command.Append name lines) other same = ap (λ (x : State). record { state = x; jobs = m.jobs }) same
+  remains_beside (command.Run name tree) other same = ap (λ (x : State). record { state = x; jobs = m.jobs }) same
+  remains_beside (command.Fetch name as_run) other same = ap (λ (x : State). record { state = x; jobs = m.jobs }) same
+  remains_beside (command.Collect reclaim) other same = ap (λ (x : State). record { state = x; jobs = m.jobs }) same
+  remains_beside command.Entries other same = ap (λ (x : State). record { state = x; jobs = m.jobs }) same
+  remains_beside (command.OpenJob job name tree) other same = absurd (other tt)
+  remains_beside (command.Step job) other same = absurd (other tt)
+  remains_beside (command.Close job) other same = absurd (other tt)
+  remains_beside (command.DropJob job) other same = absurd (other tt)
+
+  pub step_beside : (c : Command) (given : Answer) → (IsOfJobs c → ⊥) → folder.Step care (held_by m.jobs) m.state c given new → Step care m c given next
+  step_beside c given other (inl done) = inl (beside c given other done)
+  step_beside c given other (inr event) =
+      inr (event.0, event_beside c event.0 other event.1, ap (λ (o : folder.Outcome). o.answer) event.2, remains_beside c other (ap (λ (o : folder.Outcome). o.state) event.2))

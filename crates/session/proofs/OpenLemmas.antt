@@ -1,0 +1,104 @@
+-- A job that is opened, and commands on jobs that change nothing.
+use Rattle.std.proofs.Common.{◌≡◌, ◌⊎◌, inl, inr, refl, sym, ap, ◌∙◌, subst, ℕ, ◌≤◌, Bool, List, [], ◌∷◌, ◌++◌, length, Option, Some, None, Result, Ok, Err, arith}
+use Rattle.outside_traits.specs.View.{View}
+use Rattle.estimator.specs.Bytes.{capped}
+use Rattle.rewrite_core.specs.Files.{AreIdsOf, FileName, files_of}
+use Rattle.plan_grammar.specs.PlainNamed.{PlainTree}
+use Rattle.catalog_core.specs.Table.{Table}
+use Rattle.plan_choice.specs.Taken.{IsTaken}
+use Rattle.planning.specs.Opening.{opening}
+use Rattle.planning.specs.Running.{Run}
+use Rattle.script_text.specs.declared.answer.Answer.{Answer}
+use Rattle.script_text.specs.declared.answer.Answer.TheVariants as answer
+use Rattle.script_text.specs.declared.answer.Refusal.{Refusal}
+use Rattle.script_text.specs.declared.answer.Refusal.TheVariants as refusal
+use Rattle.script_text.specs.declared.item.Command.{Command}
+use Rattle.script_text.specs.declared.item.Command.TheVariants as command
+use Rattle.folder.specs.Left.{Since}
+use Rattle.folder.specs.Sound.{Care}
+use Rattle.folder.specs.State.{State, table}
+use Rattle.job_table.specs.declared.table.OpenJob.{OpenJob}
+use Rattle.folder_session.specs.Standing as folder
+use Rattle.folder_session.specs.declared.session.FolderSession.{FolderSession}
+use Rattle.folder_session.proofs.StepLemmas.{since_none}
+use Rattle.work_run.specs.Opened.{IsOpen, HasRead, files_left, opened_rewriting}
+use Rattle.work_run.specs.declared.open.OpenWork.{OpenWork}
+use Rattle.session.specs.Jobs.{OpenJobs, Admitted, IsAdmitted, IsJob, AreJobs}
+use Rattle.session.specs.Machine as machine
+use Rattle.session.specs.Machine.{Job, Machine, OpensTo, is_open, new_job, outcome, refused, with_jobs}
+use Rattle.session.specs.Standing.{Stands, Performs, jobs_of}
+use Rattle.session.specs.Work.{IsOpened}
+use Rattle.session.specs.declared.session.Session.{Session}
+use Rattle.session.proofs.Places.{both_more}
+
+-- a session over the same folder, with these jobs
+pub stands_with : (care : Care) (v : View) (session session' : Session) (m : Machine) (jobs : List Job) → Stands care v session m → session'.base ≡ session.base → AreJobs m.state jobs (jobs_of session') → Stands care v session' (with_jobs m jobs)
+stands_with care v session session' m jobs stands base are = record {
+  base = subst (λ (x : FolderSession). folder.Stands care v x m.state) (sym base) stands.base;
+  jobs = are;
+}
+
+pub none_since : (care : Care) (v : View) (session : Session) (m : Machine) → Stands care v session m → Since care m.state m.state v v
+none_since care v session m stands = since_none care v session.base m.state stands.base
+
+-- a command that leaves all as it was
+pub stays : (care : Care) (v : View) (session session' : Session) (m : Machine) (c : Command) (given : Answer) → Stands care v session m → session'.base ≡ session.base → jobs_of session' ≡ jobs_of session
+    → machine.Step care m c given m → Performs care v v session' m c given
+stays care v session session' m c given stands base same step = record {
+  new = m;
+  step = step;
+  stands = stands_with care v session session' m m.jobs stands base (subst (λ (opens : OpenJobs). AreJobs m.state m.jobs opens) (sym same) stands.jobs);
+  since = none_since care v session m stands;
+}
+
+-- ---- opened
+
+-- the job that stands for work as it is opened
+pub is_new_job : (s : State) (t : Table) → t ≡ table s → (name : List ℕ) (run : Run) (work : OpenWork) (old new : OpenJobs) (given : Answer) → (opened : IsOpened t run work) → (a : Admitted name work old new given)
+    → IsJob s (new_job name run (opened_rewriting work) work.used.items) a.added
+is_new_job s t same name run work old new given opened a =
+    let job_is = a.job_is in
+    record {
+      name = a.name_is;
+      program = ap (λ (w : OpenWork). w.program) job_is ∙ opened.program;
+      rewriting = ap opened_rewriting job_is;
+      used = ap (λ (w : OpenWork). w.used.items) job_is;
+      holds = a.holds;
+      is_open = subst (λ (w : OpenWork). IsOpen (table s) run.plan w) (sym job_is) (subst (λ (x : Table). IsOpen x run.plan work) same opened.is_open);
+      within = omega arith;
+      left = ap files_left job_is ∙ opened.left;
+      read = subst (λ (w : OpenWork). HasRead s w) (sym job_is) (opened.read s same);
+    }
+
+module _ (care : Care) (v : View) (session session' : Session) (m : Machine) (stands : Stands care v session m) (base : session'.base ≡ session.base)
+    (t : Table) (same : t ≡ table m.state) (job name : List ℕ) (tree : PlainTree) (exists : Bool) (count : ℕ) (there : exists ≡ is_open m.jobs job) (many : count ≡ length m.jobs) where
+  -- as the machine sees it
+  opening_so : (planned : Result Run Refusal) → opening t exists count job name tree ≡ planned → opening (table m.state) (is_open m.jobs job) (length m.jobs) job name tree ≡ planned
+  opening_so planned is =
+      subst (λ (n : ℕ). opening (table m.state) (is_open m.jobs job) n job name tree ≡ planned) many
+      (subst (λ (b : Bool). opening (table m.state) b count job name tree ≡ planned) there
+      (subst (λ (x : Table). opening x exists count job name tree ≡ planned) same is))
+
+  pub opens_refused : (why : Refusal) → (opening t exists count job name tree ≡ Err why) ⊎ (why ≡ refusal.Memory) → machine.Step care m (command.OpenJob job name tree) (answer.Refused why) m
+  opens_refused why (inl is) = inl (subst (λ (planned : Result Run Refusal). OpensTo m job planned (refused m why)) (sym (opening_so (Err why) is)) refl)
+  opens_refused why (inr none) = inr (refusal.Memory, tt, ap answer.Refused none, refl)
+
+  pub opens : (run : Run) (work : OpenWork) (given : Answer) → opening t exists count job name tree ≡ Ok run → IsOpened t run work → IsAdmitted job work (jobs_of session) (jobs_of session') given
+      → Performs care v v session' m (command.OpenJob job name tree) given
+  opens run work given is opened (inl a) =
+      let added = new_job job run (opened_rewriting work) work.used.items in
+      record {
+        new = with_jobs m (m.jobs ++ added ∷ []);
+        step = inl (subst (λ (planned : Result Run Refusal). OpensTo m job planned (outcome given (with_jobs m (m.jobs ++ added ∷ [])))) (sym (opening_so (Ok run) is)) (record {
+          normal = opened.normal;
+          rewriting = opened_rewriting work;
+          taken = subst (λ (x : Table). IsTaken x run.plan opened.normal run.program.cuts (opened_rewriting work)) same opened.taken;
+          used = work.used.items;
+          are_used = opened.used;
+          is = λ i. outcome ((a.told ∙ ap (λ (files : List FileName). answer.Ready (capped (length files))) opened.left) i) (with_jobs m (m.jobs ++ added ∷ []));
+        }));
+        stands = stands_with care v session session' m (m.jobs ++ added ∷ []) stands base
+            (subst (AreJobs m.state (m.jobs ++ added ∷ [])) (sym a.behind) (both_more (IsJob m.state) m.jobs (jobs_of session) added a.added stands.jobs (is_new_job m.state t same job run work (jobs_of session) (jobs_of session') given opened a)));
+        since = none_since care v session m stands;
+      }
+  opens run work given is opened (inr none) = stays care v session session' m (command.OpenJob job name tree) given stands base none.1 (inr (refusal.Memory, tt, none.0, refl))

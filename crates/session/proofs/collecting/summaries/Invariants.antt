@@ -1,7 +1,0 @@
--- What is told of the entries so far.
-use Rattle.std.proofs.Common.{◌≡◌, map, take}
-use Rattle.session.specs.Machine.{summary_of}
-use Rattle.session.proofs.collecting.summaries.Given as goal
-
-abbrev pub invariant-loop-entry : goal.invariant-loop-entry
-invariant-loop-entry l = l.summaries.items ≡ map summary_of (take l.entry-index l.entries)

@@ -1,0 +1,43 @@
+use Rattle.std.proofs.Common.{◌∙◌, sym, subst, refl}
+use Rattle.catalog_core.specs.IsTable.{IsTable}
+use Rattle.script_text.specs.declared.answer.Answer.TheVariants as answer
+use Rattle.script_text.specs.declared.answer.Refusal.TheVariants as refusal
+use Rattle.folder.specs.Folders.{table_in}
+use Rattle.session.specs.Standing.{folder_of, jobs_of}
+use Rattle.session.proofs.OpenLemmas.{stays}
+use Rattle.session.proofs.PerformLemmas.{breaks_beside, found_beside, performs_beside, taken_beside, want_beside}
+use Rattle.session.proofs.StayLemmas.{AreAllHeld, all_held, still_held_over}
+use Rattle.session.proofs.session.Session.perform.Goals as goal
+
+-- ---- want of memory
+
+pub returns-in-Err-clause-ok : goal.returns-in-Err-clause-ok
+returns-in-Err-clause-ok g c = λ told care m stands. stays care (g.D.Store.view c.args.store.now) c.args.self c.args.self m c.args.command (answer.Refused refusal.Memory) stands refl refl (want_beside care m c.args.command c.requires.of_folder)
+
+-- ---- performed
+
+pub returns-in-Ok-step-clause-holds : goal.returns-in-Ok-step-clause-holds
+returns-in-Ok-step-clause-holds g c =
+    let opens = jobs_of c.args.self in
+    let held_is = c.deref.ensures.value ∙ c.in-Ok.ensures in
+    still_held_over c.open_work_stays.ensures.open c.deref.result.now (table_in (folder_of c.args.self)) (table_in c.in-Ok-step.base.folder) (subst IsTable c.catalog.ensures c.know_table.ensures)
+    (subst IsTable c.catalog-in-Ok-step.ensures c.know_table-in-Ok-step.ensures) c.in-Ok-step.ensures.later opens (subst (λ ids. AreAllHeld ids opens) (sym held_is) (all_held opens)) c.requires.holds
+
+pub returns-in-Ok-step-clause-ok : goal.returns-in-Ok-step-clause-ok
+returns-in-Ok-step-clause-ok g c = λ told care m stands.
+    performs_beside c.open_work_stays.ensures.open c.open_work_stays.ensures.read care (g.D.Store.view c.args.store.now) (g.D.Store.view c.step.new.store) c.args.self
+    (record { base = c.in-Ok-step.base; jobs = c.args.self.jobs; alloc = c.args.self.alloc }) m c.deref.result.now stands (c.deref.ensures.value ∙ c.in-Ok.ensures) c.args.command c.requires.of_folder c.in-Ok-step.answer refl
+    (subst IsTable c.catalog.ensures c.know_table.ensures) (subst IsTable c.catalog-in-Ok-step.ensures c.know_table-in-Ok-step.ensures) c.in-Ok-step.ensures.later (c.in-Ok-step.ensures.ok told care m.state stands.base)
+
+pub returns-in-Ok-step-clause-found : goal.returns-in-Ok-step-clause-found
+returns-in-Ok-step-clause-found g c = λ told. found_beside (table_in (folder_of c.args.self)) (jobs_of c.args.self) c.args.command (g.D.Store.view c.args.store.now).files c.in-Ok-step.answer c.requires.of_folder (c.in-Ok-step.ensures.found told)
+
+pub returns-in-Ok-step-clause-taken : goal.returns-in-Ok-step-clause-taken
+returns-in-Ok-step-clause-taken g c = λ told care m stands.
+    taken_beside (table_in (folder_of c.args.self)) (jobs_of c.args.self) c.args.command c.in-Ok-step.answer (g.D.Store.counts c.args.store.now) (g.D.Store.counts c.step.new.store) c.requires.of_folder
+    (c.in-Ok-step.ensures.taken told care m.state stands.base)
+
+pub returns-in-Err-step-clause-err : goal.returns-in-Err-step-clause-err
+returns-in-Err-step-clause-err g c = λ told care m stands.
+    breaks_beside c.open_work_stays.ensures.open c.open_work_stays.ensures.read care (g.D.Store.view c.args.store.now) (g.D.Store.view c.step.new.store) c.args.self c.args.self m c.deref.result.now stands
+    (c.deref.ensures.value ∙ c.in-Ok.ensures) c.args.command c.requires.of_folder (c.in-Err-step.ensures.err told care m.state stands.base)
