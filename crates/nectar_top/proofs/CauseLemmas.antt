@@ -37,6 +37,10 @@ source_first s s' k k' d d' counts none = record { source = counts; sink = none.
 pub Rose-since : (begun before now : ℕ) → begun ≤ before → Rose before now → Rose begun now
 Rose-since begun before now counts rose = omega arith
 
+-- and goes on having risen
+pub Rose-later : (before now later : ℕ) → Rose before now → now ≤ later → Rose before later
+Rose-later before now later rose counts = omega (arith, rose, counts)
+
 -- a count that rose since a later moment rose since an earlier one
 pub caused_since : (e : Exit) (a b c : Faults) → NoneFell a b → NoWriteFailed a b → HasCause e b c → HasCause e a c
 caused_since exit.Done a b c p held cause = cause ∙ held

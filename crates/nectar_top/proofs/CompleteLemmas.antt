@@ -8,7 +8,6 @@ use Rattle.outside_traits.specs.View.{View}
 use Rattle.script_text.specs.Script.{all_items}
 use Rattle.script_text.specs.declared.answer.Answer.{Answer}
 use Rattle.script_text.specs.declared.answer.Answer.TheVariants as answer
-use Rattle.script_text.specs.declared.answer.Refusal.{Refusal}
 use Rattle.script_text.specs.declared.answer.Refusal.TheVariants as refusal
 use Rattle.script_text.specs.declared.item.Item.{Item}
 use Rattle.script_text.specs.declared.item.Item.TheVariants as item
@@ -17,9 +16,7 @@ use Rattle.folder.specs.State.{State}
 use Rattle.folder.specs.Left.{IsLeft}
 use Rattle.folder.specs.Replay.{StopsReading}
 use Rattle.folder.proofs.Loading.{reads_or_stops}
-use Rattle.session.specs.Machine as session
-use Rattle.session.specs.Causes.{SparesStore}
-use Rattle.session.proofs.RefusalLemmas.{step_spares}
+use Rattle.session.specs.Machine.{Machine, without_jobs}
 use Rattle.nectar_top.specs.Crash.{intact}
 use Rattle.nectar_top.specs.Loading.{HasLoadingCause}
 use Rattle.nectar_top.specs.Machine.{Step, Run}
@@ -31,25 +28,24 @@ use Rattle.nectar_top.specs.declared.exit.Exit.{Exit}
 use Rattle.nectar_top.specs.declared.exit.Exit.TheVariants as exit
 use Rattle.nectar_top.proofs.CauseLemmas.{Rose-since}
 use Rattle.nectar_top.proofs.FaultLemmas.{all_items_are_sparing, not_a_fault}
+use Rattle.session.proofs.SparingLemmas.{refused_spares, step_spares}
 
 -- ---- answers
 
-same_refusal : (why w : Refusal) (a : Answer) (new old : State) → a ≡ answer.Refused why → session.outcome a new ≡ session.refused old w → w ≡ why
-same_refusal why w a new old is out =
-    let same : answer.Refused why ≡ answer.Refused w = subst (λ (x : Answer). x ≡ answer.Refused w) is (ap (λ (o : session.Outcome). o.answer) out) in
-    cc
-
-step_sparing : (old new : State) (i : Item) (a : Answer) → Step Whole old i a new → IsSparingItem i → fault_in a ≡ 0 → IsSparing a
-step_sparing old new (item.Command command) (answer.Refused why) step sparing none = step_spares old new command why step (λ is. not_a_fault (answer.Refused why) none (ap answer.Refused is))
-step_sparing old new (item.Refused w) (answer.Refused why) (inl is) sparing none = subst SparesStore (same_refusal why w (answer.Refused why) new old refl is) sparing
-step_sparing old new (item.Refused w) (answer.Refused why) (inr is) sparing none = subst SparesStore (same_refusal why refusal.Memory (answer.Refused why) new old refl is) tt
+step_sparing : (old new : Machine) (i : Item) (a : Answer) → Step Whole old i a new → IsSparingItem i → fault_in a ≡ 0 → IsSparing a
+step_sparing old new (item.Command command) (answer.Refused why) (inl step) sparing none = step_spares old new command why step (λ is. not_a_fault (answer.Refused why) none (ap answer.Refused is))
+step_sparing old new (item.Command command) (answer.Refused why) (inr is) sparing none = refused_spares old why refusal.Memory new is tt
+step_sparing old new (item.Refused w) (answer.Refused why) (inl is) sparing none = refused_spares old why w new is sparing
+step_sparing old new (item.Refused w) (answer.Refused why) (inr is) sparing none = refused_spares old why refusal.Memory new is tt
 step_sparing old new i answer.Ok step sparing none = tt
 step_sparing old new i (answer.Held n) step sparing none = tt
+step_sparing old new i (answer.Ready n) step sparing none = tt
+step_sparing old new i (answer.Left n) step sparing none = tt
 step_sparing old new i (answer.Result rows used kept read) step sparing none = tt
 step_sparing old new i (answer.Evicted ids bytes) step sparing none = tt
 step_sparing old new i (answer.Entries summaries) step sparing none = tt
 
-run_sparing : (old new : State) (commands : List Item) (answers : List Answer) → Run Whole old commands answers new → AllByRecursion IsSparingItem commands → faults_in answers ≡ 0 → AllByRecursion IsSparing answers
+run_sparing : (old new : Machine) (commands : List Item) (answers : List Answer) → Run Whole old commands answers new → AllByRecursion IsSparingItem commands → faults_in answers ≡ 0 → AllByRecursion IsSparing answers
 run_sparing old new [] [] run sparing none = tt
 run_sparing old new [] (a ∷ answers) run sparing none = absurd run
 run_sparing old new (c ∷ commands) [] run sparing none = absurd run
@@ -76,7 +72,7 @@ IsCompleteOr s u v e begun now = ((e ≡ exit.Done) × IsComplete s u v begun no
 complete_done : (s : State) (u v : View) (begun now : Outside) → IsDone (intact s) u v begun now → (Rose begun.counts.reads now.counts.reads → ⊥) → IsComplete s u v begun now
 complete_done s u v begun now done none = record {
   done = done;
-  sparing = run_sparing s done.answered.state (all_items done.input) done.answered.answers done.answered.run (all_items_are_sparing done.input)
+  sparing = run_sparing (without_jobs s) done.answered.machine (all_items done.input) done.answered.answers done.answered.run (all_items_are_sparing done.input)
       (no_faults (faults_in done.answered.answers) begun.counts.reads now.counts.reads done.answered.faults none);
 }
 

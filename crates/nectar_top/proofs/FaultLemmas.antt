@@ -12,7 +12,7 @@ use Rattle.script_text.specs.declared.answer.Refusal.TheVariants as refusal
 use Rattle.script_text.specs.declared.item.Item.{Item}
 use Rattle.script_text.specs.declared.item.Item.TheVariants as item
 use Rattle.script_text.proofs.WholeLemmas.{items_refused, all_items_refused}
-use Rattle.session.specs.Causes.{SparesStore}
+use Rattle.folder_session.specs.Causes.{SparesStore}
 use Rattle.session.specs.declared.session.Session.{Session}
 use Rattle.nectar_top.specs.Refusals.{IsSparingItem, fault_in, faults_in, RoseBy}
 

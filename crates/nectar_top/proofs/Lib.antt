@@ -1,9 +1,12 @@
 pub mod CauseLemmas
 pub mod CompleteLemmas
 pub mod CrashLemmas
+pub mod EvictionLemmas
 pub mod FaultLemmas
+pub mod FreeLemmas
 pub mod LoadingLemmas
 pub mod ProgressLemmas
+pub mod RunLemmas
 pub mod SendingLemmas
 pub mod TakingLemmas
 pub mod TurnLemmas

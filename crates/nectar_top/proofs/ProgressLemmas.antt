@@ -1,5 +1,5 @@
 -- A run of the program, as it takes more of the script.
-use Rattle.std.proofs.Common.{◌≡◌, ℕ, IfOk, OnErr, List, [], ◌∷◌, ◌++◌, Option, refl, sym, ap, ◌∙◌, subst, append_assoc, append-nil, inl, inr, arith}
+use Rattle.std.proofs.Common.{◌≡◌, ◌⊎◌, ◌≤◌, ℕ, IfOk, OnErr, List, [], ◌∷◌, ◌++◌, Option, refl, sym, ap, ◌∙◌, subst, append_assoc, append-nil, inl, inr, arith}
 use Rattle.std.specs.Prelude.{Result, Ok, Err}
 use Rattle.std.specs.Io.KnownBytes.{Appends}
 use Rattle.std.proofs.KnownBytes.{Appends-nil, Appends-trans}
@@ -19,75 +19,93 @@ use Rattle.script_text.specs.declared.item.Item.TheVariants as item
 use Rattle.script_text.specs.declared.lines.Lines.{Lines}
 use Rattle.script_text.proofs.ReaderLemmas.{items-unbroken}
 use Rattle.folder.specs.Sound.{Care}
-use Rattle.folder.specs.State.{State}
+use Rattle.folder.specs.Folders.{table_in}
 use Rattle.folder.specs.Left.{Since}
-use Rattle.session.specs.Machine as session
-use Rattle.session.proofs.StepLemmas.{want_event}
+use Rattle.folder.specs.Removing.{IsFree}
+use Rattle.folder.specs.State.{table}
+use Rattle.folder_session.specs.Standing.{ChangesAtMost, LeavesNoFile}
+use Rattle.session.specs.Machine.{Machine, without_jobs}
 use Rattle.session.specs.Standing as standing
 use Rattle.session.specs.declared.session.Session.{Session}
 use Rattle.nectar_top.specs.Crash.{Found, Reaches}
-use Rattle.nectar_top.specs.Machine.{Step, Run, texts_of}
+use Rattle.nectar_top.specs.Eviction.{Evicts, EvictsIn, AreGone}
+use Rattle.nectar_top.specs.Machine.{Refuses, Step, Run, texts_of}
 use Rattle.nectar_top.specs.Outside.{Outside, shown}
 use Rattle.nectar_top.specs.Refusals.{IsSparingItem, fault_in, faults_in, RoseBy}
-use Rattle.nectar_top.specs.Progress.{Progress, Sends, SendsInPart, Breaks, BreaksOff, Performs}
+use Rattle.nectar_top.specs.Progress.{Progress, LeavesFree, Sends, SendsInPart, Breaks, BreaksOff, Performs}
 use Rattle.nectar_top.specs.Run.{Answered, AnsweredInPart, BrokenOff}
 use Rattle.nectar_top.proofs.CrashLemmas.{reaches_loaded, reaches_on, since_none}
+use Rattle.nectar_top.proofs.EvictionLemmas.{changes_leave, evicts_free, evicts_given, gone_on, gone_still, gone_told, gone_weaker, is_table, step_free}
 use Rattle.nectar_top.proofs.FaultLemmas.{rose_by_none, rose_by_since, faults-push, sparing_given, sparing_front, sparing_last}
-
--- one step more
-pub Run-push : (care : Care) (old mid new : State) (commands : List Item) (answers : List Answer) (command : Item) (given : Answer) → Run care old commands answers mid → Step care mid command given new → Run care old (commands ++ command ∷ []) (answers ++ given ∷ []) new
-Run-push care old mid new [] [] command given run step = (new, subst (λ s. Step care s command given new) run step, refl)
-Run-push care old mid new [] (a ∷ more) command given run step = absurd run
-Run-push care old mid new (c ∷ cs) [] command given run step = absurd run
-Run-push care old mid new (c ∷ cs) (a ∷ more) command given run step = (run.0, run.1, Run-push care run.0 mid new cs more command given run.2 step)
+use Rattle.nectar_top.proofs.RunLemmas.{Run-push, evicts_push}
 
 -- a step on what the reader gave is one on what the bytes spell
-pub Step-spelled : (care : Care) (old new : State) (spelled given : Item) (a : Answer) → Given spelled given → Step care old given a new → Step care old spelled a new
+pub Step-spelled : (care : Care) (old new : Machine) (spelled given : Item) (a : Answer) → Given spelled given → Step care old given a new → Step care old spelled a new
 Step-spelled care old new spelled given a is step = elim is [
   | inl same ↦ subst (λ i. Step care old i a new) same step
   | inr none ↦ at spelled (refused (subst (λ i. Step care old i a new) none step))
 ]
   where
-    refused : Step care old (item.Refused Memory) a new → session.outcome a new ≡ session.refused old Memory
+    refused : Step care old (item.Refused Memory) a new → Refuses Memory old a new
     refused s = elim s [ inl h ↦ h | inr h ↦ h ]
 
-    at : (i : Item) → session.outcome a new ≡ session.refused old Memory → Step care old i a new
-    at (item.Command command) h = inr (Memory, want_event care old command, h)
+    at : (i : Item) → Refuses Memory old a new → Step care old i a new
+    at (item.Command command) h = inr h
     at (item.Refused why) h = inr h
 
 texts_of-push : (answers : List Answer) (a : Answer) → texts_of answers ++ answer_text a ≡ texts_of (answers ++ a ∷ [])
 texts_of-push answers a = ap (λ t. texts_of answers ++ t) (sym (append-nil (answer_text a))) ∙ sym (flat_map-append answer_text answers (a ∷ []))
 
 -- a step of the session is one of the machine
-pub performs_item : (care : Care) (u v : View) (old : State) (i : Item) (command : Command) (result : Result (Session × Answer) Failed) → i ≡ item.Command command
-    → IfOk result (λ next. standing.Performs care u v next.0 old command next.1) → IfOk result (λ next. Performs care u v old i next.0 next.1)
-performs_item care u v old i command (Ok next) is p = record { new = p.new; step = subst (λ j. Step care old j next.1 p.new) (sym is) p.step; stands = p.stands; since = p.since }
-performs_item care u v old i command (Err failed) is p = tt
+pub performs_item : (care : Care) (u v : View) (session : Session) (old : Machine) (i : Item) (command : Command) (before now : Counts) (result : Result (Session × Answer) Failed) → i ≡ item.Command command → standing.Stands care u session old
+    → ChangesAtMost (standing.folder_of session) command u v → before.removes ≤ now.removes → IfOk result (λ next. LeavesNoFile (table_in (standing.folder_of session)) command next.1 v before now)
+    → IfOk result (λ next. standing.Performs care u v next.0 old command next.1) → IfOk result (λ next. Performs care u v old i next.0 next.1 before now)
+performs_item care u v session old i command before now (Ok next) is stands changes removes gone p = record {
+  new = p.new;
+  step = subst (λ j. Step care old j next.1 p.new) (sym is) (inl p.step);
+  stands = p.stands;
+  since = p.since;
+  leaves = changes_leave care u v session old command stands changes;
+  removes = removes;
+  gone = subst (λ j. AreGone (Evicts old.state j next.1) v before now) (sym is) (gone_told care u v session old command next.1 before now stands gone);
+}
+performs_item care u v session old i command before now (Err failed) is stands changes removes gone p = tt
 
 -- one that was refused as it was read changes nothing
-pub refused_item : (care : Care) (v : View) (old : State) (i : Item) (why : Refusal) (session : Session) → i ≡ item.Refused why → standing.Stands care v session old
-    → Performs care v v old i session (answer.Refused why)
-refused_item care v old i why session is stands = record {
+pub refused_item : (care : Care) (v : View) (old : Machine) (i : Item) (why : Refusal) (session : Session) (now : Counts) → i ≡ item.Refused why → standing.Stands care v session old
+    → Performs care v v old i session (answer.Refused why) now now
+refused_item care v old i why session now is stands = record {
   new = old;
   step = subst (λ j. Step care old j (answer.Refused why) old) (sym is) (inl refl);
   stands = stands;
-  since = since_none care v old stands.left;
+  since = since_none care v old.state stands.base.left;
+  leaves = λ file free. refl;
+  removes = omega arith;
+  gone = inr (λ file evicts. absurd (subst (λ j. Evicts old.state j (answer.Refused why) file) is evicts));
 }
 
-pub breaks_item : (care : Care) (u v : View) (old : State) (i : Item) (command : Command) (result : Result (Session × Answer) Failed) → i ≡ item.Command command
-    → OnErr result (standing.Breaks care u v old command) → OnErr result (Breaks care u v old i)
-breaks_item care u v old i command (Ok next) is p = tt
-breaks_item care u v old i command (Err failed) is p = record { answer = p.answer; new = p.new; step = subst (λ j. Step care old j p.answer p.new) (sym is) p.step; left = p.left; since = p.since }
+pub breaks_item : (care : Care) (u v : View) (session : Session) (old : Machine) (i : Item) (command : Command) (before now : Counts) (result : Result (Session × Answer) Failed) → i ≡ item.Command command → standing.Stands care u session old
+    → ChangesAtMost (standing.folder_of session) command u v → before.removes ≤ now.removes → OnErr result (standing.Breaks care u v old command) → OnErr result (Breaks care u v old i before now)
+breaks_item care u v session old i command before now (Ok next) is stands changes removes p = tt
+breaks_item care u v session old i command before now (Err failed) is stands changes removes p = record {
+  answer = p.answer;
+  new = p.new;
+  step = subst (λ j. Step care old j p.answer p.new) (sym is) (inl p.step);
+  left = p.left;
+  since = p.since;
+  leaves = changes_leave care u v session old command stands changes;
+  removes = removes;
+}
 
 -- nothing was taken
-pub Progress-new : (found : Found) (u v : View) (reader : Lines) (session : Session) (left written : Option (List ℕ)) (old new : Counts) → Stands reader [] → standing.Stands found.care v session found.first → Since found.care found.first found.other u v → new.reads ≡ old.reads
+pub Progress-new : (found : Found) (u v : View) (reader : Lines) (session : Session) (left written : Option (List ℕ)) (old new : Counts) → Stands reader [] → standing.Stands found.care v session (without_jobs found.first) → Since found.care found.first found.other u v → new.reads ≡ old.reads → old.removes ≤ new.removes
     → Progress found u v reader session [] (shown left written old) (shown left written new)
-Progress-new found u v reader session left written old new reads stands since same = record {
+Progress-new found u v reader session left written old new reads stands since same removes = record {
   done = [];
   part = [];
   commands = [];
   answers = [];
-  state = found.first;
+  machine = without_jobs found.first;
   whole = refl;
   goes_on = λ more. refl;
   ends = λ more. refl;
@@ -97,6 +115,9 @@ Progress-new found u v reader session left written old new reads stands since sa
   reads = reads;
   wrote = Appends-nil written;
   faults = rose_by_none old.reads new.reads same;
+  free = λ file evicts. absurd evicts;
+  removes = removes;
+  gone = inr (λ file evicts. absurd evicts);
 }
 
 module _ (found : Found) (u v : View) (reader : Lines) (session : Session) (taken : List ℕ) (begun now : Outside) (at : Progress found u v reader session taken begun now) where
@@ -107,7 +128,7 @@ module _ (found : Found) (u v : View) (reader : Lines) (session : Session) (take
     part = at.part ++ piece;
     commands = at.commands;
     answers = at.answers;
-    state = at.state;
+    machine = at.machine;
     whole = ap (λ t. t ++ piece) at.whole ∙ append_assoc at.done at.part piece;
     goes_on = at.goes_on;
     ends = at.ends;
@@ -117,11 +138,51 @@ module _ (found : Found) (u v : View) (reader : Lines) (session : Session) (take
     reads = reads at.part at.reads;
     wrote = at.wrote;
     faults = at.faults;
+    free = at.free;
+    removes = at.removes;
+    gone = at.gone;
   }
 
   -- the bytes taken and what comes behind the command that ends in them
   joined : (piece more : List ℕ) → (taken ++ piece) ++ more ≡ at.done ++ ((at.part ++ piece) ++ more)
   joined piece more = ap (λ t. (t ++ piece) ++ more) at.whole ∙ ap (λ t. t ++ more) (append_assoc at.done at.part piece) ∙ append_assoc at.done (at.part ++ piece) more
+
+  -- one command more, which the reader gave so
+  module _ (spelled given : Item) (is_given : Given spelled given) where
+    run_next : (new : Machine) (answer : Answer) → Step found.care at.machine given answer new → Run found.care (without_jobs found.first) (at.commands ++ spelled ∷ []) (at.answers ++ answer ∷ []) new
+    run_next new answer step = Run-push found.care (without_jobs found.first) at.machine new at.commands at.answers spelled answer at.run (Step-spelled found.care at.machine new spelled given answer is_given step)
+
+    since_next : (w : View) (new : Machine) (answer : Answer) → Step found.care at.machine given answer new → Since found.care at.machine.state new.state v w → Reaches found (at.commands ++ spelled ∷ []) (at.answers ++ answer ∷ []) u w
+    since_next w new answer step since = reaches_on found u v w at.commands at.answers spelled answer at.machine new at.run (run_next new answer step) at.since since
+
+    -- what was answered so far, and this answer
+    faults_next : (now' : Outside) (answer : Answer) → IsSparingItem spelled → (IsSparingItem given → RoseBy (fault_in answer) now.counts.reads now'.counts.reads) → RoseBy (faults_in (at.answers ++ answer ∷ [])) begun.counts.reads now'.counts.reads
+    faults_next now' answer sparing rose = faults-push at.answers answer begun.counts.reads now.counts.reads now'.counts.reads at.faults (rose (sparing_given spelled given is_given sparing))
+
+    -- what went so far, and with this command
+    abbrev Went : (new : Machine) (answer : Answer) → Step found.care at.machine given answer new → ℕ → Type 0
+    Went new answer step = EvictsIn found.care (without_jobs found.first) (at.commands ++ spelled ∷ []) (at.answers ++ answer ∷ []) new (run_next new answer step)
+
+    went_before : (new : Machine) (answer : Answer) (step : Step found.care at.machine given answer new) (file : ℕ) → Went new answer step file
+        → EvictsIn found.care (without_jobs found.first) at.commands at.answers at.machine at.run file ⊎ Evicts at.machine.state given answer file
+    unfolding run_next
+    went_before new answer step file went = elim (evicts_push found.care (without_jobs found.first) at.machine new at.commands at.answers spelled answer at.run (Step-spelled found.care at.machine new spelled given answer is_given step) file went) [
+      | inl before ↦ inl before
+      | inr last ↦ inr (evicts_given found.care at.machine new spelled given answer file is_given step last)
+    ]
+
+    free_next : (new : Machine) (answer : Answer) (step : Step found.care at.machine given answer new) (file : ℕ) → Went new answer step file → IsFree (table new.state) file
+    free_next new answer step file went = elim (went_before new answer step file went) [
+      | inl before ↦ step_free found.care at.machine new given answer step file (at.free file before)
+      | inr last ↦ evicts_free found.care at.machine new given answer (is_table found.care v session at.machine at.stands) step file last
+    ]
+
+    gone_next : (w : View) (now' : Outside) (new : Machine) (answer : Answer) (step : Step found.care at.machine given answer new) → LeavesFree at.machine.state v w → now.counts.removes ≤ now'.counts.removes
+        → AreGone (Evicts at.machine.state given answer) w now.counts now'.counts → AreGone (Went new answer step) w begun.counts now'.counts
+    gone_next w now' new answer step leaves removes gone =
+        let so_far : ℕ → Type 0 = EvictsIn found.care (without_jobs found.first) at.commands at.answers at.machine at.run in
+        gone_weaker (Went new answer step) (λ file. so_far file ⊎ Evicts at.machine.state given answer file) w begun.counts now'.counts (went_before new answer step)
+        (gone_on so_far (Evicts at.machine.state given answer) at.machine.state v w begun.counts now.counts now'.counts at.free leaves at.removes removes at.gone gone)
 
   module _ (piece : List ℕ) (given : Item) (ended : Completes (at.part ++ piece) given) where
     items-ended : (more : List ℕ) → items ((taken ++ piece) ++ more) ≡ (at.commands ++ ended.spelled ∷ []) ++ items more
@@ -132,77 +193,72 @@ module _ (found : Found) (u v : View) (reader : Lines) (session : Session) (take
     all_items-ended more =
         ap all_items (joined piece more) ∙ at.ends ((at.part ++ piece) ++ more) ∙ ap (λ i. at.commands ++ i) (ended.ends more) ∙ sym (append_assoc at.commands (ended.spelled ∷ []) (all_items more))
 
-    run-ended : (new : State) (answer : Answer) → Step found.care at.state given answer new → Run found.care found.first (at.commands ++ ended.spelled ∷ []) (at.answers ++ answer ∷ []) new
-    run-ended new answer step = Run-push found.care found.first at.state new at.commands at.answers ended.spelled answer at.run (Step-spelled found.care at.state new ended.spelled given answer ended.is_given step)
-
-    since_ended : (w : View) (new : State) (answer : Answer) → Step found.care at.state given answer new → Since found.care at.state new v w → Reaches found (at.commands ++ ended.spelled ∷ []) (at.answers ++ answer ∷ []) u w
-    since_ended w new answer step since = reaches_on found u v w at.commands at.answers ended.spelled answer at.state new at.run (run-ended new answer step) at.since since
-
-    -- what was answered so far, and this answer
-    faults-ended : (now' : Outside) (answer : Answer) → (IsSparingItem given → RoseBy (fault_in answer) now.counts.reads now'.counts.reads) → RoseBy (faults_in (at.answers ++ answer ∷ [])) begun.counts.reads now'.counts.reads
-    faults-ended now' answer rose = faults-push at.answers answer begun.counts.reads now.counts.reads now'.counts.reads at.faults (rose (sparing_given ended.spelled given ended.is_given (sparing_front (at.part ++ piece) ended.spelled (ended.goes_on []))))
-
     -- a command ended, and was answered
-    pub Progress-command : (w : View) (reader' : Lines) (session' : Session) (now' : Outside) → Stands reader' [] → Sends found.care v w at.state given session' now now' → Progress found u w reader' session' (taken ++ piece) begun now'
+    pub Progress-command : (w : View) (reader' : Lines) (session' : Session) (now' : Outside) → Stands reader' [] → Sends found.care v w at.machine given session' now now' → Progress found u w reader' session' (taken ++ piece) begun now'
     Progress-command w reader' session' now' reads sent = record {
       done = taken ++ piece;
       part = [];
       commands = at.commands ++ ended.spelled ∷ [];
       answers = at.answers ++ sent.answer ∷ [];
-      state = sent.performs.new;
+      machine = sent.performs.new;
       whole = sym (append-nil (taken ++ piece));
       goes_on = items-ended;
       ends = all_items-ended;
-      run = run-ended sent.performs.new sent.answer sent.performs.step;
+      run = run_next ended.spelled given ended.is_given sent.performs.new sent.answer sent.performs.step;
       stands = sent.performs.stands;
-      since = since_ended w sent.performs.new sent.answer sent.performs.step sent.performs.since;
+      since = since_next ended.spelled given ended.is_given w sent.performs.new sent.answer sent.performs.step sent.performs.since;
       reads = reads;
       wrote = subst (Appends begun.written now'.written) (texts_of-push at.answers sent.answer) (Appends-trans begun.written now.written now'.written _ _ at.wrote sent.wrote);
-      faults = faults-ended now' sent.answer sent.faults;
+      faults = faults_next ended.spelled given ended.is_given now' sent.answer (sparing_front (at.part ++ piece) ended.spelled (ended.goes_on [])) sent.faults;
+      gone = gone_next ended.spelled given ended.is_given w now' sent.performs.new sent.answer sent.performs.step sent.performs.leaves sent.performs.removes sent.performs.gone;
+      free = free_next ended.spelled given ended.is_given sent.performs.new sent.answer sent.performs.step;
+      removes = omega (arith, at.removes, sent.performs.removes);
     }
 
     -- a command ended, and its answer could not be written whole
-    pub AnsweredInPart-command : (w : View) (now' : Outside) (more : List ℕ) → SendsInPart found.care v w at.state given now now' → AnsweredInPart found u w (items ((taken ++ piece) ++ more)) begun now'
+    pub AnsweredInPart-command : (w : View) (now' : Outside) (more : List ℕ) → SendsInPart found.care v w at.machine given now now' → AnsweredInPart found u w (items ((taken ++ piece) ++ more)) begun now'
     AnsweredInPart-command w now' more sent = record {
       performed = at.commands ++ ended.spelled ∷ [];
       others = items more;
       first = items-ended more;
       answers = at.answers;
       last = sent.answer;
-      state = sent.performs.new;
-      run = run-ended sent.performs.new sent.answer sent.performs.step;
+      machine = sent.performs.new;
+      run = run_next ended.spelled given ended.is_given sent.performs.new sent.answer sent.performs.step;
       part = sent.sent.part;
       rest = sent.sent.rest;
       last_text = sent.sent.whole;
       lacks = sent.sent.lacks;
       wrote = Appends-trans begun.written now.written now'.written _ _ at.wrote sent.sent.wrote;
-      faults = faults-ended now' sent.answer sent.faults;
-      left = sent.performs.stands.left;
-      since = since_ended w sent.performs.new sent.answer sent.performs.step sent.performs.since;
+      faults = faults_next ended.spelled given ended.is_given now' sent.answer (sparing_front (at.part ++ piece) ended.spelled (ended.goes_on [])) sent.faults;
+      gone = gone_next ended.spelled given ended.is_given w now' sent.performs.new sent.answer sent.performs.step sent.performs.leaves sent.performs.removes sent.performs.gone;
+      left = sent.performs.stands.base.left;
+      since = since_next ended.spelled given ended.is_given w sent.performs.new sent.answer sent.performs.step sent.performs.since;
     }
 
     -- a command ended, and the store failed in it
-    pub BrokenOff-command : (w : View) (now' : Outside) (more : List ℕ) → BreaksOff found.care v w at.state given now now' → BrokenOff found u w (items ((taken ++ piece) ++ more)) begun now'
+    pub BrokenOff-command : (w : View) (now' : Outside) (more : List ℕ) → BreaksOff found.care v w at.machine given now now' → BrokenOff found u w (items ((taken ++ piece) ++ more)) begun now'
     BrokenOff-command w now' more broke = record {
       performed = at.commands;
       broken = ended.spelled;
       others = items more;
       first = items-ended more ∙ append_assoc at.commands (ended.spelled ∷ []) (items more);
       answers = at.answers;
-      state = at.state;
+      machine = at.machine;
       run = at.run;
       wrote = subst (λ o. Appends begun.written o (texts_of at.answers)) (sym broke.wrote) at.wrote;
       faults = rose_by_since (faults_in at.answers) begun.counts.reads now.counts.reads now'.counts.reads at.faults broke.counts;
+      gone = gone_still (EvictsIn found.care (without_jobs found.first) at.commands at.answers at.machine at.run) at.machine.state v w begun.counts now.counts now'.counts at.free broke.breaks.leaves broke.breaks.removes at.gone;
       answer = broke.breaks.answer;
       new = broke.breaks.new;
-      step = Step-spelled found.care at.state broke.breaks.new ended.spelled given broke.breaks.answer ended.is_given broke.breaks.step;
+      step = Step-spelled found.care at.machine broke.breaks.new ended.spelled given broke.breaks.answer ended.is_given broke.breaks.step;
       left = broke.breaks.left;
-      since = since_ended w broke.breaks.new broke.breaks.answer broke.breaks.step broke.breaks.since;
+      since = since_next ended.spelled given ended.is_given w broke.breaks.new broke.breaks.answer broke.breaks.step broke.breaks.since;
     }
 
   -- these are the commands that are ended
   all_answered : {commands : List Item} → at.commands ≡ commands → Answered found u v commands begun now
-  all_answered same = subst (λ c. Answered found u v c begun now) same (record { answers = at.answers; state = at.state; run = at.run; wrote = at.wrote; faults = at.faults; left = at.stands.left; since = at.since })
+  all_answered same = subst (λ c. Answered found u v c begun now) same (record { answers = at.answers; machine = at.machine; run = at.run; wrote = at.wrote; faults = at.faults; gone = at.gone; left = at.stands.base.left; since = at.since })
 
   -- the commands that are ended are all that the bytes taken spell so far
   pub Answered-taken : Answered found u v (items taken) begun now
@@ -224,49 +280,40 @@ module _ (found : Found) (u v : View) (reader : Lines) (session : Session) (take
     all_items-last : all_items taken ≡ at.commands ++ (last at.part at.reads).0 ∷ []
     all_items-last = all_items-taken ∙ ap (λ i. at.commands ++ i) (last at.part at.reads).2
 
-    run-last : (new : State) (answer : Answer) → Step found.care at.state given answer new → Run found.care found.first (at.commands ++ (last at.part at.reads).0 ∷ []) (at.answers ++ answer ∷ []) new
-    run-last new answer step = let one = last at.part at.reads in Run-push found.care found.first at.state new at.commands at.answers one.0 answer at.run (Step-spelled found.care at.state new one.0 given answer one.1 step)
-
-    since-last : (w : View) (new : State) (answer : Answer) → Step found.care at.state given answer new → Since found.care at.state new v w → Reaches found (at.commands ++ (last at.part at.reads).0 ∷ []) (at.answers ++ answer ∷ []) u w
-    since-last w new answer step since = reaches_on found u v w at.commands at.answers (last at.part at.reads).0 answer at.state new at.run (run-last new answer step) at.since since
-
-    faults-last : (now' : Outside) (answer : Answer) → (IsSparingItem given → RoseBy (fault_in answer) now.counts.reads now'.counts.reads) → RoseBy (faults_in (at.answers ++ answer ∷ [])) begun.counts.reads now'.counts.reads
-    faults-last now' answer rose =
-        let one = last at.part at.reads in
-        faults-push at.answers answer begun.counts.reads now.counts.reads now'.counts.reads at.faults (rose (sparing_given one.0 given one.1 (sparing_last at.part one.0 one.2)))
-
     -- the script ends with a command, which was answered
-    pub Answered-last : (w : View) (session' : Session) (now' : Outside) → Sends found.care v w at.state given session' now now' → Answered found u w (all_items taken) begun now'
+    pub Answered-last : (w : View) (session' : Session) (now' : Outside) → Sends found.care v w at.machine given session' now now' → Answered found u w (all_items taken) begun now'
     Answered-last w session' now' sent = subst (λ c. Answered found u w c begun now') (sym all_items-last) (record {
       answers = at.answers ++ sent.answer ∷ [];
-      state = sent.performs.new;
-      run = run-last sent.performs.new sent.answer sent.performs.step;
+      machine = sent.performs.new;
+      run = run_next (last at.part at.reads).0 given (last at.part at.reads).1 sent.performs.new sent.answer sent.performs.step;
       wrote = subst (Appends begun.written now'.written) (texts_of-push at.answers sent.answer) (Appends-trans begun.written now.written now'.written _ _ at.wrote sent.wrote);
-      faults = faults-last now' sent.answer sent.faults;
-      left = sent.performs.stands.left;
-      since = since-last w sent.performs.new sent.answer sent.performs.step sent.performs.since;
+      faults = faults_next (last at.part at.reads).0 given (last at.part at.reads).1 now' sent.answer (sparing_last at.part (last at.part at.reads).0 (last at.part at.reads).2) sent.faults;
+      gone = gone_next (last at.part at.reads).0 given (last at.part at.reads).1 w now' sent.performs.new sent.answer sent.performs.step sent.performs.leaves sent.performs.removes sent.performs.gone;
+      left = sent.performs.stands.base.left;
+      since = since_next (last at.part at.reads).0 given (last at.part at.reads).1 w sent.performs.new sent.answer sent.performs.step sent.performs.since;
     })
 
-    pub AnsweredInPart-last : (w : View) (now' : Outside) → SendsInPart found.care v w at.state given now now' → AnsweredInPart found u w (all_items taken) begun now'
+    pub AnsweredInPart-last : (w : View) (now' : Outside) → SendsInPart found.care v w at.machine given now now' → AnsweredInPart found u w (all_items taken) begun now'
     AnsweredInPart-last w now' sent = record {
       performed = at.commands ++ (last at.part at.reads).0 ∷ [];
       others = [];
       first = all_items-last ∙ sym (append-nil (at.commands ++ (last at.part at.reads).0 ∷ []));
       answers = at.answers;
       last = sent.answer;
-      state = sent.performs.new;
-      run = run-last sent.performs.new sent.answer sent.performs.step;
+      machine = sent.performs.new;
+      run = run_next (last at.part at.reads).0 given (last at.part at.reads).1 sent.performs.new sent.answer sent.performs.step;
       part = sent.sent.part;
       rest = sent.sent.rest;
       last_text = sent.sent.whole;
       lacks = sent.sent.lacks;
       wrote = Appends-trans begun.written now.written now'.written _ _ at.wrote sent.sent.wrote;
-      faults = faults-last now' sent.answer sent.faults;
-      left = sent.performs.stands.left;
-      since = since-last w sent.performs.new sent.answer sent.performs.step sent.performs.since;
+      faults = faults_next (last at.part at.reads).0 given (last at.part at.reads).1 now' sent.answer (sparing_last at.part (last at.part at.reads).0 (last at.part at.reads).2) sent.faults;
+      gone = gone_next (last at.part at.reads).0 given (last at.part at.reads).1 w now' sent.performs.new sent.answer sent.performs.step sent.performs.leaves sent.performs.removes sent.performs.gone;
+      left = sent.performs.stands.base.left;
+      since = since_next (last at.part at.reads).0 given (last at.part at.reads).1 w sent.performs.new sent.answer sent.performs.step sent.performs.since;
     }
 
-    pub BrokenOff-last : (w : View) (now' : Outside) → BreaksOff found.care v w at.state given now now' → BrokenOff found u w (all_items taken) begun now'
+    pub BrokenOff-last : (w : View) (now' : Outside) → BreaksOff found.care v w at.machine given now now' → BrokenOff found u w (all_items taken) begun now'
     BrokenOff-last w now' broke =
         let one = last at.part at.reads in
         record {
@@ -275,13 +322,14 @@ module _ (found : Found) (u v : View) (reader : Lines) (session : Session) (take
           others = [];
           first = all_items-last;
           answers = at.answers;
-          state = at.state;
+          machine = at.machine;
           run = at.run;
           wrote = subst (λ o. Appends begun.written o (texts_of at.answers)) (sym broke.wrote) at.wrote;
           faults = rose_by_since (faults_in at.answers) begun.counts.reads now.counts.reads now'.counts.reads at.faults broke.counts;
+          gone = gone_still (EvictsIn found.care (without_jobs found.first) at.commands at.answers at.machine at.run) at.machine.state v w begun.counts now.counts now'.counts at.free broke.breaks.leaves broke.breaks.removes at.gone;
           answer = broke.breaks.answer;
           new = broke.breaks.new;
-          step = Step-spelled found.care at.state broke.breaks.new one.0 given broke.breaks.answer one.1 broke.breaks.step;
+          step = Step-spelled found.care at.machine broke.breaks.new one.0 given broke.breaks.answer one.1 broke.breaks.step;
           left = broke.breaks.left;
-          since = since-last w broke.breaks.new broke.breaks.answer broke.breaks.step broke.breaks.since;
+          since = since_next (last at.part at.reads).0 given (last at.part at.reads).1 w broke.breaks.new broke.breaks.answer broke.breaks.step broke.breaks.since;
         }

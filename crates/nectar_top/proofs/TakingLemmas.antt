@@ -4,6 +4,7 @@ use Rattle.std.proofs.lemmas.List.{take_all, drop_all, drop-drop}
 use Rattle.outside_traits.specs.View.{View, Counts}
 use Rattle.script_text.specs.declared.lines.Lines.{Lines}
 use Rattle.script_text.proofs.TakeLemmas.{taken_next, rest_is}
+use Rattle.session.specs.Standing.{HoldsJobs}
 use Rattle.session.specs.declared.session.Session.{Session}
 use Rattle.nectar_top.specs.Crash.{Found}
 use Rattle.nectar_top.specs.Outside.{Outside, with_answer, faults, NoneFell}
@@ -20,13 +21,15 @@ Serves found u r0 s0 w0 v0 c0 piece r1 s1 w1 v1 c1 more rest =
 -- so many bytes of the piece were taken, over a store of this type
 pub record TakenSoFar (D : Type 0) (view : D → View) (tells : Bool) (r0 r1 : Lines) (s0 s1 : Session) (w0 w1 : Option (List ℕ)) (v0 v1 : View) (f0 f1 : ℕ) (c0 c1 : Counts) (piece : List ℕ) (at : ℕ) : Type 0 where
   pub bound : at ≤ length piece
+  pub holds : HoldsJobs s1
   pub serving : IsTrue tells → (found : Found) (origin : D) → Serves found (view origin) r0 s0 w0 v0 c0 piece r1 s1 w1 v1 c1 (take at piece) (drop at piece)
   pub counts : (source : ℕ) → NoneFell (faults source f0 c0) (faults source f1 c1)
   pub writes : c1.writes ≡ c0.writes
 
-pub TakenSoFar-none : (D : Type 0) (view : D → View) (tells : Bool) (reader : Lines) (session : Session) (written : Option (List ℕ)) (v : View) (f : ℕ) (c : Counts) (piece : List ℕ) → TakenSoFar D view tells reader reader session session written written v v f f c c piece 0
-TakenSoFar-none D view tells reader session written v f c piece = record {
+pub TakenSoFar-none : (D : Type 0) (view : D → View) (tells : Bool) (reader : Lines) (session : Session) (written : Option (List ℕ)) (v : View) (f : ℕ) (c : Counts) (piece : List ℕ) → HoldsJobs session → TakenSoFar D view tells reader reader session session written written v v f f c c piece 0
+TakenSoFar-none D view tells reader session written v f c piece holds = record {
   bound = omega arith;
+  holds = holds;
   serving = λ told found origin served begun before at. subst (λ t. Serving found (view origin) v reader session t piece begun (with_answer before written c)) (sym (append-nil served)) at;
   counts = λ source. none_fell (faults source f c);
   writes = refl;
@@ -46,10 +49,11 @@ module _ (D : Type 0) (view : D → View) (tells : Bool) (r0 r1 : Lines) (s0 s1 
   rest_next : (count : ℕ) → drop count part ≡ drop (at + count) piece
   rest_next count = ap (drop count) (rest_is piece at) ∙ drop-drop count at piece
 
-  pub TakenSoFar-more : (r2 : Lines) (s2 : Session) (w2 : Option (List ℕ)) (v2 : View) (f2 : ℕ) (c2 : Counts) (count : ℕ) → count ≤ length part
+  pub TakenSoFar-more : (r2 : Lines) (s2 : Session) (w2 : Option (List ℕ)) (v2 : View) (f2 : ℕ) (c2 : Counts) (count : ℕ) → HoldsJobs s2 → count ≤ length part
       → (IsTrue tells → (found : Found) (origin : D) → Serves found (view origin) r1 s1 w1 v1 c1 part r2 s2 w2 v2 c2 (take count part) (drop count part))
       → ((source : ℕ) → NoneFell (faults source f1 c1) (faults source f2 c2)) → c2.writes ≡ c1.writes → TakenSoFar D view tells r0 r2 s0 s2 w0 w2 v0 v2 f0 f2 c0 c2 piece (at + count)
-  TakenSoFar-more r2 s2 w2 v2 f2 c2 count fits serves counts writes = record {
+  TakenSoFar-more r2 s2 w2 v2 f2 c2 count holds fits serves counts writes = record {
+    holds = holds;
     bound = omega (arith, fits, so_far.bound, length-take (length piece - at) (drop at piece), length-drop at piece);
     serving = λ told found origin served begun before serving.
         subst (λ rest. Serving found (view origin) v2 r2 s2 (served ++ take (at + count) piece) rest begun (with_answer before w2 c2)) (rest_next count)

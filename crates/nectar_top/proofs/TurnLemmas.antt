@@ -8,6 +8,7 @@ use Rattle.script_text.specs.Reader.{Stands}
 use Rattle.script_text.specs.Script.{items, all_items, Given, Completes}
 use Rattle.script_text.specs.declared.item.Item.{Item}
 use Rattle.script_text.specs.declared.lines.Lines.{Lines}
+use Rattle.session.specs.Standing.{HoldsJobs}
 use Rattle.session.specs.declared.session.Session.{Session}
 use Rattle.nectar_top.specs.Crash.{Found}
 use Rattle.nectar_top.specs.Outside.{Outside, shown, with_answer, Faults, NoneFell, NoWriteFailed}
@@ -38,7 +39,7 @@ Serving-new found u v reader session left written old new progress = record { co
 
 -- what is answered, and how far the run has come, does not speak of the source
 Answered-beside : (found : Found) (u v : View) (commands : List Item) (begun : Outside) (left left' written : Option (List ℕ)) (counts : Counts) → Answered found u v commands begun (shown left written counts) → Answered found u v commands begun (shown left' written counts)
-Answered-beside found u v commands begun left left' written counts a = record { answers = a.answers; state = a.state; run = a.run; wrote = a.wrote; faults = a.faults; left = a.left; since = a.since }
+Answered-beside found u v commands begun left left' written counts a = record { answers = a.answers; machine = a.machine; run = a.run; wrote = a.wrote; faults = a.faults; gone = a.gone; left = a.left; since = a.since }
 
 Progress-beside : (found : Found) (u v : View) (reader : Lines) (session : Session) (taken : List ℕ) (begun : Outside) (left left' written : Option (List ℕ)) (counts : Counts) → Progress found u v reader session taken begun (shown left written counts)
     → Progress found u v reader session taken begun (shown left' written counts)
@@ -47,7 +48,7 @@ Progress-beside found u v reader session taken begun left left' written counts p
   part = p.part;
   commands = p.commands;
   answers = p.answers;
-  state = p.state;
+  machine = p.machine;
   whole = p.whole;
   goes_on = p.goes_on;
   ends = p.ends;
@@ -57,6 +58,9 @@ Progress-beside found u v reader session taken begun left left' written counts p
   reads = p.reads;
   wrote = p.wrote;
   faults = p.faults;
+  free = p.free;
+  removes = p.removes;
+  gone = p.gone;
 }
 
 -- a read of the source, where all that came is served
@@ -99,7 +103,7 @@ module _ (found : Found) (u v : View) (reader : Lines) (session : Session) (serv
 
   module _ (w : View) (count : ℕ) (given : Item) (ended : Completes (at.progress.part ++ take count rest) given) where
     -- a command ended, and was answered
-    pub Serving-command : (reader' : Lines) (session' : Session) (written' : Option (List ℕ)) (counts' : Counts) → Stands reader' [] → Sends found.care v w at.progress.state given session' now (with_answer now written' counts')
+    pub Serving-command : (reader' : Lines) (session' : Session) (written' : Option (List ℕ)) (counts' : Counts) → Stands reader' [] → Sends found.care v w at.progress.machine given session' now (with_answer now written' counts')
         → Serving found u w reader' session' (served ++ take count rest) (drop count rest) begun (with_answer now written' counts')
     Serving-command reader' session' written' counts' reads sent = record {
       consumed = parted count;
@@ -111,7 +115,7 @@ module _ (found : Found) (u v : View) (reader : Lines) (session : Session) (serv
     whole = append_assoc served (take count rest) (drop count rest) ∙ ap (λ t. served ++ t) (take-append-drop count rest)
 
     -- a command ended, and the run with it
-    pub Ends-command : (exit : Exit) (written' : Option (List ℕ)) (counts' : Counts) → length (served ++ rest) ≤ longest_script → Fails exit found.care v w at.progress.state given now (with_answer now written' counts') → Ends found u w exit begun (with_answer now written' counts')
+    pub Ends-command : (exit : Exit) (written' : Option (List ℕ)) (counts' : Counts) → length (served ++ rest) ≤ longest_script → Fails exit found.care v w at.progress.machine given now (with_answer now written' counts') → Ends found u w exit begun (with_answer now written' counts')
     Ends-command exit.SinkFault written' counts' within sent = record {
       taken = served ++ rest;
       took = at.consumed;
@@ -135,7 +139,7 @@ module _ (found : Found) (u v : View) (reader : Lines) (session : Session) (serv
   Ends-none none = record { input = served; took = taken_all; at_end = at_end; within = within; answered = Answered-end found u v reader session served begun now at.progress none }
 
   module _ (w : View) (given : Item) (last : (before : List ℕ) → Stands reader before → (spelled : Item) × Given spelled given × (all_items before ≡ spelled ∷ [])) where
-    pub Ends-last : (session' : Session) (written' : Option (List ℕ)) (counts' : Counts) → Sends found.care v w at.progress.state given session' now (with_answer now written' counts') → Ends found u w exit.Done begun (with_answer now written' counts')
+    pub Ends-last : (session' : Session) (written' : Option (List ℕ)) (counts' : Counts) → Sends found.care v w at.progress.machine given session' now (with_answer now written' counts') → Ends found u w exit.Done begun (with_answer now written' counts')
     Ends-last session' written' counts' sent = record {
       input = served;
       took = taken_all;
@@ -144,7 +148,7 @@ module _ (found : Found) (u v : View) (reader : Lines) (session : Session) (serv
       answered = Answered-last found u v reader session served begun now at.progress given last w session' (with_answer now written' counts') sent;
     }
 
-    pub Ends-last-failed : (exit : Exit) (written' : Option (List ℕ)) (counts' : Counts) → Fails exit found.care v w at.progress.state given now (with_answer now written' counts') → Ends found u w exit begun (with_answer now written' counts')
+    pub Ends-last-failed : (exit : Exit) (written' : Option (List ℕ)) (counts' : Counts) → Fails exit found.care v w at.progress.machine given now (with_answer now written' counts') → Ends found u w exit begun (with_answer now written' counts')
     Ends-last-failed exit.SinkFault written' counts' sent = record {
       taken = served;
       took = taken_all;
@@ -163,6 +167,7 @@ module _ (found : Found) (u v : View) (reader : Lines) (session : Session) (serv
 pub record ReadSoFar (D : Type 0) (view : D → View) (tells : Bool) (r0 r1 : Lines) (s0 s1 : Session) (v0 v1 : View) (start now : Outside) (f0 f1 : Faults) (count turn : ℕ) : Type 0 where
   pub within : count ≤ longest_script
   pub turns : turn ≤ count
+  pub holds : HoldsJobs s1
   pub serving : IsTrue tells → (found : Found) (origin : D) (begun : Outside) → Serving found (view origin) v0 r0 s0 [] [] begun start → (served : List ℕ) × (length served ≡ count) × Serving found (view origin) v1 r1 s1 served [] begun now
   pub counts : NoneFell f0 f1
   pub writes : NoWriteFailed f0 f1

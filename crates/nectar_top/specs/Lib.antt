@@ -1,4 +1,5 @@
 pub mod Crash
+pub mod Eviction
 pub mod Loading
 pub mod Machine
 pub mod Outside

@@ -5,7 +5,7 @@ use Rattle.script_text.specs.declared.answer.Answer.TheVariants as answer
 use Rattle.script_text.specs.declared.answer.Refusal.TheVariants as refusal
 use Rattle.script_text.specs.declared.item.Item.{Item}
 use Rattle.script_text.specs.declared.item.Item.TheVariants as item
-use Rattle.session.specs.Causes.{SparesStore}
+use Rattle.folder_session.specs.Causes.{SparesStore}
 
 -- an answer that isn't laid to the store
 abbrev pub IsSparing : Answer → Type 0

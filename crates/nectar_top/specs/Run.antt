@@ -12,7 +12,9 @@ use Rattle.script_text.specs.declared.answer.Answer.{Answer}
 use Rattle.script_text.specs.declared.item.Item.{Item}
 use Rattle.folder.specs.State.{State}
 use Rattle.folder.specs.Left.{IsLeft, Since}
+use Rattle.session.specs.Machine.{Machine, without_jobs}
 use Rattle.nectar_top.specs.Crash.{Found, Reaches, intact}
+use Rattle.nectar_top.specs.Eviction.{EvictsIn, AreGone}
 use Rattle.nectar_top.specs.Machine.{Step, Run, texts_of}
 use Rattle.nectar_top.specs.Outside.{Outside}
 use Rattle.nectar_top.specs.Refusals.{IsSparing, faults_in, RoseBy}
@@ -21,16 +23,18 @@ use Rattle.nectar_top.specs.Refusals.{IsSparing, faults_in, RoseBy}
 abbrev pub longest_script : ℕ
 longest_script = 1073741824
 
--- These commands, none left out, in another order or twice, were performed from the first state on, and the text of their
--- answers was written, and nothing else. A failed read is told at most as often as the store's count of them rose, and where
--- none is told none has failed. The store is left with the state after them.
+-- These commands, none left out, in another order or twice, were performed from the first state on, with no job open, and the text
+-- of their answers was written, and nothing else. A failed read is told at most as often as the store's count of them rose, and where
+-- none is told none has failed. No file is there of what collections evicted, unless a removal failed. The store is left with the
+-- state after them.
 pub record Answered (found : Found) (u v : View) (commands : List Item) (begun now : Outside) : Type 0 where
   pub answers : List Answer
-  pub state : State
-  pub run : Run found.care found.first commands answers state
+  pub machine : Machine
+  pub run : Run found.care (without_jobs found.first) commands answers machine
   pub wrote : Appends begun.written now.written (texts_of answers)
   pub faults : RoseBy (faults_in answers) begun.counts.reads now.counts.reads
-  pub left : IsLeft found.care v state state
+  pub gone : AreGone (EvictsIn found.care (without_jobs found.first) commands answers machine run) v begun.counts now.counts
+  pub left : IsLeft found.care v machine.state machine.state
   pub since : Reaches found commands answers u v
 
 -- the whole input was taken, and all its commands are answered
@@ -69,15 +73,16 @@ pub record AnsweredInPart (found : Found) (u v : View) (commands : List Item) (b
   pub first : commands ≡ performed ++ others
   pub answers : List Answer
   pub last : Answer
-  pub state : State
-  pub run : Run found.care found.first performed (answers ++ last ∷ []) state
+  pub machine : Machine
+  pub run : Run found.care (without_jobs found.first) performed (answers ++ last ∷ []) machine
   pub part : List ℕ
   pub rest : List ℕ
   pub last_text : answer_text last ≡ part ++ rest
   pub lacks : 0 < length rest
   pub wrote : Appends begun.written now.written (texts_of answers ++ part)
   pub faults : RoseBy (faults_in (answers ++ last ∷ [])) begun.counts.reads now.counts.reads
-  pub left : IsLeft found.care v state state
+  pub gone : AreGone (EvictsIn found.care (without_jobs found.first) performed (answers ++ last ∷ []) machine run) v begun.counts now.counts
+  pub left : IsLeft found.care v machine.state machine.state
   pub since : Reaches found performed (answers ++ last ∷ []) u v
 
 -- The first of these commands were performed from the first state on, and their answers written whole. In the next one the
@@ -88,14 +93,15 @@ pub record BrokenOff (found : Found) (u v : View) (commands : List Item) (begun 
   pub others : List Item
   pub first : commands ≡ performed ++ broken ∷ others
   pub answers : List Answer
-  pub state : State
-  pub run : Run found.care found.first performed answers state
+  pub machine : Machine
+  pub run : Run found.care (without_jobs found.first) performed answers machine
   pub wrote : Appends begun.written now.written (texts_of answers)
   pub faults : RoseBy (faults_in answers) begun.counts.reads now.counts.reads
+  pub gone : AreGone (EvictsIn found.care (without_jobs found.first) performed answers machine run) v begun.counts now.counts
   pub answer : Answer
-  pub new : State
-  pub step : Step found.care state broken answer new
-  pub left : IsLeft found.care v state new ⊎ IsLeft found.care v new state
+  pub new : Machine
+  pub step : Step found.care machine broken answer new
+  pub left : IsLeft found.care v machine.state new.state ⊎ IsLeft found.care v new.state machine.state
   pub since : Reaches found (performed ++ broken ∷ []) (answers ++ answer ∷ []) u v
 
 -- an answer could not be written whole

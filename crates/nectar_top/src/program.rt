@@ -10,7 +10,8 @@ ghost use Rattle.folder.specs.Left.{IsLeft, Since};
 ghost use Rattle.folder.specs.Replay.{StopsReading};
 ghost use Rattle.folder.specs.Sound.{Whole};
 ghost use Rattle.folder.specs.State.{State};
-ghost use Rattle.session.specs.Standing.{Stands};
+ghost use Rattle.session.specs.Machine.{without_jobs};
+ghost use Rattle.session.specs.Standing.{Stands, HoldsJobs};
 ghost use Rattle.journal_store.specs.Readings.{IsUnfinished};
 ghost use Rattle.nectar_top.specs.Crash.{Found};
 ghost use Rattle.nectar_top.specs.Loading.{HasLoadingCause, WereNotTaken, exit_of};
@@ -40,7 +41,8 @@ const PIECE_LEN: usize = 65_536;
 /// The words are one, the folder: not empty, and not beginning with `-`. The folder is attached and loaded
 /// first. What a crash leaves is said of a folder that was left by such a run: each crash, at any moment,
 /// leaves the state after a prefix of the commands, and at each exit the folder is left so that every command
-/// whose answer began to be written is kept.
+/// whose answer began to be written is kept. Jobs end with the run: no crash and no exit leaves one. The files
+/// of kept results that its collections evicted are gone at each exit, unless a removal failed.
 pub fn nectar<S: Source, K: Sink, D: Store>(
     alloc: Global,
     words: &[&str],
@@ -145,6 +147,7 @@ fn begin<D: Store>(alloc: Global, folder: &str, store: &mut D) -> Result<(Server
         → Serving found (D.view store.old) (D.view store.new) begun.0.reader begun.0.session [] []
         (shown left written (D.counts store.old)) (shown left written (D.counts store.new))) }
     ensures piece { IfOk result (λ begun. 0 < length begun.1.items) }
+    ensures holds { IfOk result (λ begun. HoldsJobs begun.0.session) }
     ensures left { IsTrue D.tells → (found : Found)
         → IsLeft found.care (D.view store.old) found.first found.other
         → IfErr result (λ exit. IsUnloaded found (D.view store.old) (D.view store.new)) }
@@ -184,7 +187,9 @@ fn room_of_a_run(alloc: Global) -> Result<(Room, Vec<u8>), Memory>
 fn load_folder<D: Store>(alloc: Global, folder: &str, store: &mut D) -> Result<Session, Exit>
     ensures stands { IsTrue D.tells → (found : Found)
         → IsLeft found.care (D.view store.old) found.first found.other
-        → IfOk result (λ session. Stands found.care (D.view store.new) session found.first) }
+        → IfOk result
+        (λ session. Stands found.care (D.view store.new) session (without_jobs found.first)) }
+    ensures holds { IfOk result HoldsJobs }
     ensures since { IsTrue D.tells → (found : Found)
         → IsLeft found.care (D.view store.old) found.first found.other
         → Since found.care found.first found.other (D.view store.old) (D.view store.new) }
@@ -233,6 +238,7 @@ fn serve<S: Source, K: Sink, D: Store>(
     store: &mut D,
 ) -> Exit
     requires room { 0 < length piece.old }
+    requires holds { HoldsJobs server.session }
     ensures ends { IsTrue D.tells → (found : Found) (origin : D) (begun : Outside)
         → Serving found (D.view origin) (D.view store.old) server.reader server.session [] [] begun
         (shown (S.left source.old) (K.written sink.old) (D.counts store.old))
@@ -269,7 +275,9 @@ fn serve_piece<S: Source, K: Sink, D: Store>(
     sink: &mut K,
     store: &mut D,
 ) -> Result<(Server, usize), Exit>
-    requires { 0 < length piece.old }
+    requires room { 0 < length piece.old }
+    requires holds { HoldsJobs server.session }
+    ensures holds { IfOk result (λ next. HoldsJobs next.0.session) }
     ensures bound { IfOk result (λ next. next.1 ≤ length piece.old) }
     ensures end { IfOk result (λ next. next.1 ≡ 0 → IsAtEnd (S.left source.new)) }
     ensures ok { IsTrue D.tells → IfOk result (λ next. (found : Found) (origin : D) (served : List ℕ)
@@ -309,6 +317,7 @@ fn serve_limit<S: Source, K: Sink, D: Store>(
     sink: &mut K,
     store: &mut D,
 ) -> Exit
+    requires holds { HoldsJobs server.session }
     ensures ends { IsTrue D.tells → (found : Found) (origin : D) (served : List ℕ) (begun : Outside)
         → Serving found (D.view origin) (D.view store.old) server.reader server.session served [] begun
         (shown (S.left source.old) (K.written sink.old) (D.counts store.old))

@@ -7,7 +7,6 @@ ghost use Rattle.outside_traits.specs.Calls.{Rises};
 ghost use Rattle.script_text.specs.Answer.{IsNarrow};
 ghost use Rattle.script_text.specs.Script.{IsWholeItem};
 ghost use Rattle.folder.specs.Sound.{Care};
-ghost use Rattle.folder.specs.State.{State};
 ghost use Rattle.nectar_top.specs.Crash.{Found};
 ghost use Rattle.nectar_top.specs.Outside.{Outside, with_answer, faults, NoneFell};
 ghost use Rattle.nectar_top.specs.Progress.{Performs, Breaks, Sends, Fails};
@@ -15,7 +14,8 @@ ghost use Rattle.nectar_top.specs.Refusals.{IsSparingItem, fault_in, RoseBy};
 ghost use Rattle.nectar_top.specs.Run.{longest_script};
 ghost use Rattle.nectar_top.specs.Turns.{Serving, Ends, HasCause};
 ghost use Rattle.script_text.specs.Reader as reader;
-ghost use Rattle.session.specs.Standing.{Stands};
+ghost use Rattle.session.specs.Machine.{Machine};
+ghost use Rattle.session.specs.Standing.{Stands, HoldsJobs};
 
 use crate::exit::Exit;
 use crate::sending::{LINE_LEN, send};
@@ -56,6 +56,8 @@ impl Server {
         sink: &mut K,
         store: &mut D,
     ) -> Result<Server, Exit>
+        requires holds { HoldsJobs self.session }
+        ensures holds { IfOk result (λ server. HoldsJobs server.session) }
         ensures ok { IsTrue D.tells → IfOk result (λ server. (found : Found) (origin : D)
             (served : List ℕ) (begun before : Outside)
             → Serving found (D.view origin) (D.view store.old) self.reader self.session served piece.now begun
@@ -92,6 +94,7 @@ impl Server {
 
     /// The script ends here: answers the command that it leaves unfinished.
     pub fn end<K: Sink, D: Store>(self, sink: &mut K, store: &mut D) -> Exit
+        requires holds { HoldsJobs self.session }
         ensures ends { IsTrue D.tells → (found : Found) (origin : D) (served : List ℕ)
             (begun before : Outside)
             → Serving found (D.view origin) (D.view store.old) self.reader self.session served [] begun
@@ -124,7 +127,9 @@ impl Server {
         sink: &mut K,
         store: &mut D,
     ) -> Result<(Server, usize), Exit>
-        requires { 0 < length piece.now }
+        requires some { 0 < length piece.now }
+        requires holds { HoldsJobs self.session }
+        ensures holds { IfOk result (λ next. HoldsJobs next.0.session) }
         ensures bound { IfOk result (λ next. (0 < next.1) × (next.1 ≤ length piece.now)) }
         ensures ok { IsTrue D.tells → IfOk result (λ next. (found : Found) (origin : D)
             (served : List ℕ) (begun before : Outside)
@@ -207,13 +212,15 @@ fn answer<K: Sink, D: Store>(
 ) -> Result<Session, Exit>
     requires room { 65536 ≤ vec_capacity room.old }
     requires whole { IsWholeItem item }
+    requires holds { HoldsJobs session }
+    ensures holds { IfOk result HoldsJobs }
     ensures room { vec_capacity room.old ≤ vec_capacity room.new }
-    ensures ok { IsTrue D.tells → IfOk result (λ next. (care : Care) (old : State) (before : Outside)
+    ensures ok { IsTrue D.tells → IfOk result (λ next. (care : Care) (old : Machine) (before : Outside)
         → Stands care (D.view store.old) session old
         → Sends care (D.view store.old) (D.view store.new) old item next
         (with_answer before (K.written sink.old) (D.counts store.old))
         (with_answer before (K.written sink.new) (D.counts store.new))) }
-    ensures err { IsTrue D.tells → IfErr result (λ exit. (care : Care) (old : State) (before : Outside)
+    ensures err { IsTrue D.tells → IfErr result (λ exit. (care : Care) (old : Machine) (before : Outside)
         → Stands care (D.view store.old) session old
         → Fails exit care (D.view store.old) (D.view store.new) old item
         (with_answer before (K.written sink.old) (D.counts store.old))
@@ -240,11 +247,15 @@ fn perform<D: Store>(
     item: Item,
     store: &mut D,
 ) -> Result<(Session, Answer), Failed>
-    requires { IsWholeItem item }
-    ensures ok { IsTrue D.tells → (care : Care) (old : State) → Stands care (D.view store.old) session old
-        → IfOk result (λ next. Performs care (D.view store.old) (D.view store.new) old item next.0 next.1) }
-    ensures err { IsTrue D.tells → (care : Care) (old : State) → Stands care (D.view store.old) session old
-        → OnErr result (Breaks care (D.view store.old) (D.view store.new) old item) }
+    requires whole { IsWholeItem item }
+    requires holds { HoldsJobs session }
+    ensures holds { IfOk result (λ next. HoldsJobs next.0) }
+    ensures ok { IsTrue D.tells → (care : Care) (old : Machine) → Stands care (D.view store.old) session old
+        → IfOk result (λ next. Performs care (D.view store.old) (D.view store.new) old item next.0 next.1
+        (D.counts store.old) (D.counts store.new)) }
+    ensures err { IsTrue D.tells → (care : Care) (old : Machine) → Stands care (D.view store.old) session old
+        → OnErr result (Breaks care (D.view store.old) (D.view store.new) old item
+        (D.counts store.old) (D.counts store.new)) }
     ensures narrow { IfOk result (λ next. IsNarrow next.1) }
     ensures cause { OnErr result (Rose (D.counts store.old).writes (D.counts store.new).writes) }
     ensures no_fault { OnOk result ((D.counts store.new).writes ≡ (D.counts store.old).writes) }

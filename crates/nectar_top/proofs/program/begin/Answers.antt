@@ -1,6 +1,7 @@
 use Rattle.std.proofs.Common.{[], sym, subst}
 use Rattle.script_text.specs.Reader as reader
-use Rattle.session.specs.Standing.{Stands}
+use Rattle.session.specs.Machine.{without_jobs}
+use Rattle.session.specs.Standing.{Stands, HoldsJobs}
 use Rattle.nectar_top.proofs.LoadingLemmas.{goes_on, again, ends_again}
 use Rattle.nectar_top.proofs.ProgressLemmas.{Progress-new}
 use Rattle.nectar_top.proofs.TurnLemmas.{Serving-new}
@@ -10,7 +11,10 @@ use Rattle.nectar_top.proofs.program.begin.Goals as goal
 pub returns-in-Ok-load_folder-clause-server : goal.returns-in-Ok-load_folder-clause-server
 returns-in-Ok-load_folder-clause-server g c = λ told found left source sink.
     Serving-new found _ _ _ _ source sink _ _ (Progress-new found _ _ _ _ source sink _ _ (subst (λ r. reader.Stands r []) (sym c.new.ensures.reader) c.in-Ok.ensures.room)
-    (subst (λ s. Stands found.care (g.D.Store.view c.load_folder.new.store) s found.first) (sym c.new.ensures.session) (c.in-Ok-load_folder.ensures.stands told found left)) (c.load_folder.ensures.since told found left) c.in-Ok-load_folder.ensures.no_fault.0)
+    (subst (λ s. Stands found.care (g.D.Store.view c.load_folder.new.store) s (without_jobs found.first)) (sym c.new.ensures.session) (c.in-Ok-load_folder.ensures.stands told found left)) (c.load_folder.ensures.since told found left) c.in-Ok-load_folder.ensures.no_fault.0 c.load_folder.ensures.counts.removes)
+
+pub returns-in-Ok-load_folder-clause-holds : goal.returns-in-Ok-load_folder-clause-holds
+returns-in-Ok-load_folder-clause-holds g c = subst HoldsJobs (sym c.new.ensures.session) c.in-Ok-load_folder.ensures.holds
 
 pub returns-in-Ok-load_folder-clause-stopped : goal.returns-in-Ok-load_folder-clause-stopped
 returns-in-Ok-load_folder-clause-stopped g c = λ told file at stops. absurd (goes_on c.in-Ok-load_folder.session file at (c.in-Ok-load_folder.ensures.stopped told file at stops))

@@ -23,6 +23,7 @@ pub loop-preserved : goal.loop-preserved
 loop-preserved g c = record {
   within = omega (arith, c.loop.invariant.within, c.in-Ok.ensures.bound, length-take c.min-room.result c.loop.piece);
   turns = omega (arith, c.loop.invariant.turns, c.in-Ok.count-test.1);
+  holds = c.in-Ok.ensures.holds;
   serving = λ told found origin begun new.
       let at = c.loop.invariant.serving told found origin begun new in
       let next = c.in-Ok.ensures.ok told found origin at.0 begun at.2 in

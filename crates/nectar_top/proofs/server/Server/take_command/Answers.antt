@@ -14,9 +14,9 @@ returns-in-None-clause-ok g c = λ told found origin served begun before at.
 pub returns-in-Ok-clause-ok : goal.returns-in-Ok-clause-ok
 returns-in-Ok-clause-ok g c = λ told found origin served begun before at.
     let ended = at_some _ _ c.in-Some.item c.take-count.ensures.item c.in-Some.is at.progress.part at.progress.reads in
-    Serving-command found _ _ _ _ served _ begun _ at _ c.take-count.result.0 c.in-Some.item ended.1 c.take-count.new.self _ _ _ ended.0 (c.in-Ok.ensures.ok told found.care at.progress.state before at.progress.stands)
+    Serving-command found _ _ _ _ served _ begun _ at _ c.take-count.result.0 c.in-Some.item ended.1 c.take-count.new.self _ _ _ ended.0 (c.in-Ok.ensures.ok told found.care at.progress.machine before at.progress.stands)
 
 pub returns-in-Err-clause-err : goal.returns-in-Err-clause-err
 returns-in-Err-clause-err g c = λ told found origin served begun before at within.
     let ended = at_some _ _ c.in-Some.item c.take-count.ensures.item c.in-Some.is at.progress.part at.progress.reads in
-    Ends-command found _ _ _ _ served _ begun _ at _ c.take-count.result.0 c.in-Some.item ended.1 _ _ _ within (c.in-Err.ensures.err told found.care at.progress.state before at.progress.stands)
+    Ends-command found _ _ _ _ served _ begun _ at _ c.take-count.result.0 c.in-Some.item ended.1 _ _ _ within (c.in-Err.ensures.err told found.care at.progress.machine before at.progress.stands)
