@@ -12,6 +12,8 @@ pub fn answer(alloc: Global, arguments: &str) -> Result<String> {
     let answer = match word {
         "done" => Answer::Ok,
         "held" => Answer::Held(argument.parse::<u64>()?),
+        "ready" => Answer::Ready(argument.parse::<u64>()?),
+        "left" => Answer::Left(argument.parse::<u64>()?),
         _ => Answer::Refused(refusal(alloc, word, argument)?),
     };
     if line_count(&answer, false) != 1 {
@@ -123,6 +125,7 @@ fn limit(word: &str) -> Result<LimitKind> {
         "allextents" => LimitKind::AllExtents,
         "plantext" => LimitKind::PlanText,
         "programs" => LimitKind::Programs,
+        "jobs" => LimitKind::Jobs,
         "files" => LimitKind::Files,
         "commands" => LimitKind::Commands,
         "machine" => LimitKind::Machine,

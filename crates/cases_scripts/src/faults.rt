@@ -3,7 +3,8 @@
 use crate::runs::run_on;
 use crate::{script, shown};
 use anyhow::{Context, Result};
-use mem_outside::MemSink;
+use mem_outside::{MemSink, MemSource, MemStore};
+use nectar_top::nectar;
 use std::alloc::Global;
 
 /// The exits where the first read fails, the second, and so on, up to the read at the script's end and two
@@ -47,6 +48,18 @@ pub fn writes(alloc: Global, arguments: &str) -> Result<String> {
         )?;
     }
     shown::lines(alloc, &exits)
+}
+
+/// The exit and the answers where the store's call of this number fails, from 0, and no other.
+pub fn looks(alloc: Global, arguments: &str) -> Result<String> {
+    let (call, text) = arguments.split_once(' ').context("no script")?;
+    let script = script::bytes(alloc, text)?;
+    let mut source = MemSource::new(script, usize::MAX, Vec::new(alloc));
+    let mut sink = MemSink::new(alloc, Vec::new(alloc));
+    let mut store = MemStore::new(alloc, vec![in alloc; call.parse::<u64>()?]?);
+    let exit = nectar(alloc, &["folder"], &mut source, &mut sink, &mut store);
+    let answers = shown::lines(alloc, sink.written())?;
+    Ok(format!(in alloc; "{exit:?}: {answers}")?)
 }
 
 // The answers of a run in which no call fails.

@@ -45,6 +45,7 @@ fn answer(alloc: Global, case: &str) -> Result<String> {
         "words" => runs::words(alloc, arguments),
         "reads" => faults::reads(alloc, arguments),
         "writes" => faults::writes(alloc, arguments),
+        "looks" => faults::looks(alloc, arguments),
         "anew" => stops::anew(alloc, arguments),
         "stops" => stops::stops(alloc, arguments),
         _ => None.context("no such subject"),

@@ -68,16 +68,23 @@ fn push_refusal(refusal: Refusal, to: &mut Vec<u8>) -> Result<()> {
     Ok(())
 }
 
-// A stream with its columns, an append with its row lines behind `>`, a run with its plan, or a command that
-// asks for what is kept, as it is written.
+// A stream with its columns, an append with its row lines behind `>`, a run or a job with its plan, or another
+// command as it is written.
 fn push_command(alloc: Global, command: &Command, to: &mut Vec<u8>) -> Result<()> {
     match command {
         Command::Stream { name, columns } => push_stream(name, columns.items(), to),
         Command::Append { name, lines } => push_append(name, lines.items(), to),
-        Command::Run { name, plan } => push_run(alloc, name, plan, to),
+        Command::Run { name, plan } => push_run(alloc, b"run ", name, plan, to),
         Command::Fetch { name, as_run } => push_fetch(name, *as_run, to),
         Command::Collect { bytes } => push_collect(alloc, *bytes, to),
         Command::Entries => push_entries(to),
+        Command::OpenJob { job, name, plan } => {
+            push_words(b"open ", job, b" ", to)?;
+            push_run(alloc, b"", name, plan, to)
+        }
+        Command::Step { job } => push_words(b"step ", job, b"\n", to),
+        Command::Close { job } => push_words(b"close ", job, b"\n", to),
+        Command::DropJob { job } => push_words(b"drop ", job, b"\n", to),
     }
 }
 
@@ -105,11 +112,15 @@ fn push_append(name: &Name, lines: &[Text], to: &mut Vec<u8>) -> Result<()> {
     Ok(())
 }
 
-fn push_run(alloc: Global, name: &Name, plan: &NamedPlan, to: &mut Vec<u8>) -> Result<()> {
+fn push_run(
+    alloc: Global,
+    word: &[u8],
+    name: &Name,
+    plan: &NamedPlan,
+    to: &mut Vec<u8>,
+) -> Result<()> {
     let text = print_plan(alloc, plan)?;
-    to.extend_from_slice(b"run ")?;
-    to.extend_from_slice(name.bytes())?;
-    to.extend_from_slice(b" = ")?;
+    push_words(word, name, b" = ", to)?;
     to.extend_from_slice(text.as_slice())?;
     to.push(b'\n')?;
     Ok(())
@@ -133,5 +144,13 @@ fn push_collect(alloc: Global, bytes: u64, to: &mut Vec<u8>) -> Result<()> {
 
 fn push_entries(to: &mut Vec<u8>) -> Result<()> {
     to.extend_from_slice(b"entries\n")?;
+    Ok(())
+}
+
+// A name between two words.
+fn push_words(word: &[u8], name: &Name, behind: &[u8], to: &mut Vec<u8>) -> Result<()> {
+    to.extend_from_slice(word)?;
+    to.extend_from_slice(name.bytes())?;
+    to.extend_from_slice(behind)?;
     Ok(())
 }
