@@ -1,0 +1,4 @@
+pub mod DrawLemmas
+pub mod LaterLemmas
+pub mod LengthLemmas
+pub mod LoopLemmas
