@@ -4,9 +4,10 @@ use Rattle.std.specs.Prelude.{◌⊎◌, ⊤}
 use Rattle.std.specs.List.{before_first, after_first}
 use Rattle.plan_parser.specs.Answer.{TextReading, AsPlan, AsTooLarge, AsNone, text_reading}
 use Rattle.rows_core.specs.declared.schema.Column.{Column}
-use Rattle.script_text.specs.CollectLine.{number_of, collect_with, collect_of, entries_of}
+use Rattle.script_text.specs.CollectLine.{number_of, collect_with, collect_of}
 use Rattle.script_text.specs.Dispatch.{behind_or, stream_command, command_of}
 use Rattle.script_text.specs.FetchLine.{as_run_of, fetch_with, fetch_of}
+use Rattle.script_text.specs.ListLine.{entries_of, catalog_of}
 use Rattle.script_text.specs.JobLine.{open_with, open_of, step_of, close_of, drop_of}
 use Rattle.script_text.specs.RunLine.{SpelledRun, run_with, run_of_text, run_named, run_of_parts, named_run, run_command, run_of}
 use Rattle.script_text.specs.Script.{IsForBytes}
@@ -17,7 +18,7 @@ use Rattle.script_text.specs.declared.answer.LimitKind.{LimitKind}
 use Rattle.script_text.specs.declared.answer.Refusal.{Refusal}
 use Rattle.script_text.specs.declared.answer.Refusal.TheVariants.{Limit, Syntax, Unknown, Exists, IllTyped, Row, Fault, Damaged, Unreadable, Overflow, Memory}
 use Rattle.script_text.specs.declared.item.Command.{Command}
-use Rattle.script_text.specs.declared.item.Command.TheVariants.{Stream, Append, Run, Fetch, Collect, Entries, OpenJob, Step, Close, DropJob}
+use Rattle.script_text.specs.declared.item.Command.TheVariants.{Stream, Append, Run, Fetch, Collect, Entries, Catalog, OpenJob, Step, Close, DropJob}
 use Rattle.script_text.proofs.Spellings.{StandsBehind, behind_word-whole}
 
 -- the commands by their first words
@@ -28,6 +29,7 @@ pub data Kind : Type 0 where
   OfFetch : Kind
   OfCollect : Kind
   OfEntries : Kind
+  OfCatalog : Kind
   OfOpen : Kind
   OfStep : Kind
   OfClose : Kind
@@ -40,6 +42,7 @@ kind_of (Run name plan) = OfRun
 kind_of (Fetch name as_run) = OfFetch
 kind_of (Collect bytes) = OfCollect
 kind_of Entries = OfEntries
+kind_of Catalog = OfCatalog
 kind_of (OpenJob job name plan) = OfOpen
 kind_of (Step job) = OfStep
 kind_of (Close job) = OfClose
@@ -52,6 +55,7 @@ word_of OfRun = codes "run"
 word_of OfFetch = codes "fetch"
 word_of OfCollect = codes "collect"
 word_of OfEntries = codes "entries"
+word_of OfCatalog = codes "catalog"
 word_of OfOpen = codes "open"
 word_of OfStep = codes "step"
 word_of OfClose = codes "close"
@@ -65,6 +69,7 @@ command_by OfRun rest = run_of rest
 command_by OfFetch rest = fetch_of rest
 command_by OfCollect rest = collect_of rest
 command_by OfEntries rest = entries_of rest
+command_by OfCatalog rest = catalog_of rest
 command_by OfOpen rest = open_of rest
 command_by OfStep rest = step_of rest
 command_by OfClose rest = close_of rest
@@ -76,7 +81,7 @@ by_kinds [] text = Err Syntax
 by_kinds (kind ∷ kinds) text = behind_or (behind_word (word_of kind) text) (command_by kind) (by_kinds kinds text)
 
 abbrev pub line_kinds : List Kind
-line_kinds = OfStream ∷ OfRun ∷ OfFetch ∷ OfCollect ∷ OfEntries ∷ OfOpen ∷ OfStep ∷ OfClose ∷ OfDrop ∷ []
+line_kinds = OfStream ∷ OfRun ∷ OfFetch ∷ OfCollect ∷ OfEntries ∷ OfCatalog ∷ OfOpen ∷ OfStep ∷ OfClose ∷ OfDrop ∷ []
 
 abbrev pub IsSyntax : Refusal → Type 0
 IsSyntax Syntax = ⊤
@@ -103,6 +108,7 @@ Why OfRun = IsForBytes
 Why OfFetch = IsSyntax
 Why OfCollect = IsSyntax
 Why OfEntries = IsSyntax
+Why OfCatalog = IsSyntax
 Why OfOpen = IsForBytes
 Why OfStep = IsSyntax
 Why OfClose = IsSyntax
@@ -173,9 +179,9 @@ collect_with-only : (bytes : Option ℕ) → Only OfCollect IsSyntax (collect_wi
 collect_with-only (Some bytes) = refl
 collect_with-only None = tt
 
-entries_if-only : (blank : Bool) → Only OfEntries IsSyntax (cond blank (Ok Entries) (Err Syntax))
-entries_if-only true = refl
-entries_if-only false = tt
+alone-only : (kind : Kind) (command : Command) → kind_of command ≡ kind → (blank : Bool) → Only kind IsSyntax (cond blank (Ok command) (Err Syntax))
+alone-only kind command is true = is
+alone-only kind command is false = tt
 
 pub command_by-only : (kind : Kind) (rest : List ℕ) → Only kind (Why kind) (command_by kind rest)
 command_by-only OfStream rest = stream_command-only (parts_at 40 rest)
@@ -183,7 +189,8 @@ command_by-only OfAppend rest = tt
 command_by-only OfRun rest = run-only (named_run rest) (run_of_parts-refuses (parts_at 61 rest))
 command_by-only OfFetch rest = fetch_with-only (name_if (before_first is_space (trimmed rest))) (as_run_of (after_first is_space (trimmed rest)))
 command_by-only OfCollect rest = collect_with-only (option_and_then number_of (only_word rest))
-command_by-only OfEntries rest = entries_if-only (is_blank rest)
+command_by-only OfEntries rest = alone-only OfEntries Entries refl (is_blank rest)
+command_by-only OfCatalog rest = alone-only OfCatalog Catalog refl (is_blank rest)
 command_by-only OfOpen rest =
     let behind : List ℕ = after_first is_space (trimmed rest) in
     open-only (name_if (before_first is_space (trimmed rest))) (named_run behind) (run_of_parts-refuses (parts_at 61 behind))
@@ -223,6 +230,7 @@ limit_of_kind text limit OfRun why reads = inl reads
 limit_of_kind text limit OfFetch why reads = absurd why
 limit_of_kind text limit OfCollect why reads = absurd why
 limit_of_kind text limit OfEntries why reads = absurd why
+limit_of_kind text limit OfCatalog why reads = absurd why
 limit_of_kind text limit OfOpen why reads = inr reads
 limit_of_kind text limit OfStep why reads = absurd why
 limit_of_kind text limit OfClose why reads = absurd why

@@ -1,9 +1,10 @@
 -- The definitions, held against worked examples.
-use Rattle.std.proofs.Common.{◌≡◌, true, false, [], ◌∷◌, codes, refl}
+use Rattle.std.proofs.Common.{◌≡◌, pos, true, false, [], ◌∷◌, codes, refl}
 use Rattle.std.specs.Fmt.{digits}
 use Rattle.rows_core.specs.Name.{is_name, is_reserved}
 use Rattle.rows_core.specs.Kind.{kind_with_word}
 use Rattle.rows_core.specs.declared.kind.Kind.TheVariants.{Int, Text}
+use Rattle.rows_core.specs.declared.value.Value.TheVariants as value
 use Rattle.script_text.specs.Answer.{answer_text}
 use Rattle.script_text.specs.Script.{items_by, items, all_items}
 use Rattle.script_text.specs.StreamLine.{parts_at, columns_of}
@@ -13,7 +14,7 @@ use Rattle.script_text.specs.declared.answer.Answer.TheVariants.{Held, Ready, Le
 use Rattle.script_text.specs.declared.answer.Answer.TheVariants as answer
 use Rattle.script_text.specs.declared.answer.LimitKind.TheVariants as limit
 use Rattle.script_text.specs.declared.answer.Refusal.TheVariants.{Limit, Syntax, Unknown, Row}
-use Rattle.script_text.specs.declared.item.Command.TheVariants.{Stream, Append, Fetch, Collect, Entries, Step, Close, DropJob}
+use Rattle.script_text.specs.declared.item.Command.TheVariants.{Stream, Append, Fetch, Collect, Entries, Catalog, Step, Close, DropJob}
 use Rattle.script_text.specs.declared.item.Item.TheVariants as item
 
 -- a stream, with and without spaces
@@ -80,6 +81,10 @@ entries_are_asked_for : items (codes " entries \nentries x\n") ≡ item.Command 
 unfolding items_by
 entries_are_asked_for = refl
 
+catalog_is_asked_for : items (codes "catalog  \ncatalogs\ncatalog 1\n") ≡ item.Command Catalog ∷ item.Refused Syntax ∷ item.Refused Syntax ∷ []
+unfolding items_by
+catalog_is_asked_for = refl
+
 -- jobs
 jobs_are_stepped : items (codes "step j\n  close  j \ndrop j_2\n") ≡ item.Command (Step (codes "j")) ∷ item.Command (Close (codes "j")) ∷ item.Command (DropJob (codes "j_2")) ∷ []
 unfolding items_by only_word is_name is_reserved
@@ -89,39 +94,46 @@ other_steps_are_refused : items (codes "step\nstep j k\nclose end\ndrop 1\nsteps
 unfolding items_by only_word is_name is_reserved
 other_steps_are_refused = refl
 
-held_text : answer_text (Held 12) ≡ codes "ok 12\n"
+held_text : answer_text false (Held 12) ≡ codes "ok 12\n"
 unfolding digits
 held_text = refl
 
-ready_text : answer_text (Ready 3) ≡ codes "ok 3\n"
+ready_text : answer_text false (Ready 3) ≡ codes "ok 3\n"
 unfolding digits
 ready_text = refl
 
-left_text : answer_text (Left 0) ≡ codes "left 0\n"
+left_text : answer_text false (Left 0) ≡ codes "left 0\n"
 unfolding digits
 left_text = refl
 
-jobs_limit_is_printed : answer_text (Refused (Limit limit.Jobs)) ≡ codes "refused limit jobs 64\n"
+jobs_limit_is_printed : answer_text false (Refused (Limit limit.Jobs)) ≡ codes "refused limit jobs 64\n"
 jobs_limit_is_printed = refl
 
-row_text : answer_text (Refused (Row 2)) ≡ codes "refused row 2\n"
+row_text : answer_text false (Refused (Row 2)) ≡ codes "refused row 2\n"
 unfolding digits
 row_text = refl
 
-unknown_text : answer_text (Refused (Unknown (codes "nope"))) ≡ codes "refused unknown nope\n"
+unknown_text : answer_text false (Refused (Unknown (codes "nope"))) ≡ codes "refused unknown nope\n"
 unknown_text = refl
 
-limit_is_printed : answer_text (Refused (Limit limit.Text)) ≡ codes "refused limit text 1000\n"
+limit_is_printed : answer_text false (Refused (Limit limit.Text)) ≡ codes "refused limit text 1000\n"
 limit_is_printed = refl
 
-evicted_text : answer_text (Evicted (7 ∷ 3 ∷ []) 120) ≡ codes "evicted 7 3\nreclaimed 120\n"
+evicted_text : answer_text false (Evicted (7 ∷ 3 ∷ []) 120) ≡ codes "evicted 7 3\nreclaimed 120\n"
 unfolding digits
 evicted_text = refl
 
-none_evicted : answer_text (Evicted [] 0) ≡ codes "evicted none\nreclaimed 0\n"
+none_evicted : answer_text false (Evicted [] 0) ≡ codes "evicted none\nreclaimed 0\n"
 unfolding digits
 none_evicted = refl
 
-entries_text : answer_text (answer.Entries (record { id = 4; size = 88; machine = 12; uses = 2; last = 9; made = 5 } ∷ [])) ≡ codes "entries 1\n4 size 88 machine 12 uses 2 last 9 made 5\n"
+entries_text : answer_text false (answer.Entries (record { id = 4; size = 88; machine = 12; uses = 2; last = 9; made = 5 } ∷ [])) ≡ codes "entries 1\n4 size 88 machine 12 uses 2 last 9 made 5\n"
 unfolding digits
 entries_text = refl
+
+catalog_text : answer_text true (answer.Catalog (codes "{}")) ≡ codes "{}\n"
+catalog_text = refl
+
+quiet_text : answer_text true (answer.Result ((value.Int (pos 7) ∷ []) ∷ []) (1 ∷ []) [] 73) ≡ codes "rows 1\nused 1\nkept none\nread 73\n"
+unfolding digits
+quiet_text = refl

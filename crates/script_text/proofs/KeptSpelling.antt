@@ -8,13 +8,15 @@ use Rattle.std.proofs.lemmas.Fmt.{decimal_is_IsNumeral, decimal_nonempty}
 use Rattle.std.proofs.lemmas.Slice.Eq.{bytes_eq-Decides}
 use Rattle.std.proofs.lemmas.Str.Parse.{digit_from_value}
 use Rattle.rows_core.specs.Name.{IsName, is_name}
-use Rattle.script_text.specs.CollectLine.{number_of, collect_with, collect_of, entries_of}
+use Rattle.script_text.specs.CollectLine.{number_of, collect_with, collect_of}
 use Rattle.script_text.specs.Dispatch.{behind_or, command_of, line_command}
 use Rattle.script_text.specs.FetchLine.{as_run_if, as_run_of, fetch_with, fetch_of_words}
-use Rattle.script_text.specs.Spelling.{AreSpaces, Padded, SpellsFetch, SpellsFetchAsRun, SpellsCollect, SpellsEntries}
+use Rattle.script_text.specs.ListLine.{alone, entries_of, catalog_of}
+use Rattle.script_text.specs.Spelling.{AreSpaces, Padded, SpellsFetch, SpellsFetchAsRun, SpellsCollect, SpellsEntries, SpellsCatalog}
 use Rattle.script_text.specs.Words.{is_space, is_blank, trimmed, ends_word, only_word, name_if}
 use Rattle.script_text.specs.declared.answer.Refusal.TheVariants.{Syntax}
-use Rattle.script_text.specs.declared.item.Command.TheVariants.{Fetch, Collect, Entries}
+use Rattle.script_text.specs.declared.item.Command.{Command}
+use Rattle.script_text.specs.declared.item.Command.TheVariants.{Fetch, Collect, Entries, Catalog}
 use Rattle.script_text.proofs.CommandKinds.{reads_command}
 use Rattle.script_text.proofs.NumberLemmas.{number_of-decimal, IsNumberOf-read}
 use Rattle.script_text.proofs.Spellings.{begun, same_byte, is_blank-spaces, AreSpaces-blank, trimmed-spaces, trimmed-whole, trimmed-word, Lacks, before_first-space, after_first-space, before_first-spaces, after_first-spaces, first_word-whole, only_word-padded, Padded-only_word, only_word-spaces}
@@ -79,6 +81,12 @@ entries-spelled line spells =
     ap command_of (begun spells.front (codes "entries" ++ spells.back) spells.before line spells.whole)
     ∙ ap (λ b. behind_or (cond b (Some spells.back) None) entries_of (Err Syntax)) (ends_word-spaces spells.back spells.behind)
     ∙ ap (λ b. cond b (Ok Entries) (Err Syntax)) (is_blank-spaces spells.back spells.behind)
+
+pub catalog-spelled : (line : List ℕ) → SpellsCatalog line → line_command line ≡ Ok Catalog
+catalog-spelled line spells =
+    ap command_of (begun spells.front (codes "catalog" ++ spells.back) spells.before line spells.whole)
+    ∙ ap (λ b. behind_or (cond b (Some spells.back) None) catalog_of (Err Syntax)) (ends_word-spaces spells.back spells.behind)
+    ∙ ap (λ b. cond b (Ok Catalog) (Err Syntax)) (is_blank-spaces spells.back spells.behind)
 
 -- the words behind `fetch`
 record ReadsWords (name : List ℕ) (as_run : Bool) (text : List ℕ) : Type 0 where
@@ -251,12 +259,18 @@ SpellsCollect-read bytes line e =
       whole = cut.whole ∙ ap (λ t. cut.front ++ t) (read.behind.whole ∙ ap (λ t. codes "collect" ++ t) spaced.whole);
     }
 
-pub SpellsEntries-read : (line : List ℕ) → line_command line ≡ Ok Entries → SpellsEntries line
-SpellsEntries-read line e =
-    let read = reads_command line Entries e in
+-- a word with nothing but spaces behind it
+alone_blank : (command : Command) (b : Bool) → cond b (Ok command) (Err Syntax) ≡ Ok command → b ≡ true
+alone_blank command true e = refl
+alone_blank command false e = absurd (cc)
+
+alone-read : (command : Command) (word line rest : List ℕ) → alone command rest ≡ Ok command → trimmed line ≡ word ++ rest → Padded word line
+alone-read command word line rest is whole =
     let cut = trimmed-whole line in
-    record { front = cut.front; back = read.rest; before = cut.before; behind = AreSpaces-blank read.rest (blank (is_blank read.rest) read.is); whole = cut.whole ∙ ap (λ t. cut.front ++ t) read.behind.whole }
-  where
-    blank : (b : Bool) → cond b (Ok Entries) (Err Syntax) ≡ Ok Entries → b ≡ true
-    blank true e = refl
-    blank false e = absurd (cc)
+    record { front = cut.front; back = rest; before = cut.before; behind = AreSpaces-blank rest (alone_blank command (is_blank rest) is); whole = cut.whole ∙ ap (λ t. cut.front ++ t) whole }
+
+pub SpellsEntries-read : (line : List ℕ) → line_command line ≡ Ok Entries → SpellsEntries line
+SpellsEntries-read line e = let read = reads_command line Entries e in alone-read Entries (codes "entries") line read.rest read.is read.behind.whole
+
+pub SpellsCatalog-read : (line : List ℕ) → line_command line ≡ Ok Catalog → SpellsCatalog line
+SpellsCatalog-read line e = let read = reads_command line Catalog e in alone-read Catalog (codes "catalog") line read.rest read.is read.behind.whole

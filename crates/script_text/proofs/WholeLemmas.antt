@@ -18,9 +18,9 @@ use Rattle.script_text.specs.Script.{Block, block_limit, line_limit, spelled_ite
 use Rattle.script_text.specs.declared.answer.LimitKind.{LimitKind}
 use Rattle.script_text.specs.declared.answer.Refusal.TheVariants.{Syntax}
 use Rattle.script_text.specs.declared.item.Command.{Command}
-use Rattle.script_text.specs.declared.item.Command.TheVariants.{Stream, Append, Run, Fetch, Collect, Entries, OpenJob, Step, Close, DropJob}
+use Rattle.script_text.specs.declared.item.Command.TheVariants.{Stream, Append, Run, Fetch, Collect, Entries, Catalog, OpenJob, Step, Close, DropJob}
 use Rattle.script_text.specs.declared.item.Item.{Item}
-use Rattle.script_text.proofs.CommandKinds.{Kind, OfStream, OfAppend, OfRun, OfFetch, OfCollect, OfEntries, OfOpen, OfStep, OfClose, OfDrop, kind_of, word_of, command_by, by_kinds, line_kinds, IsSyntax, IsForBytes-syntax, Only, command_by-only}
+use Rattle.script_text.proofs.CommandKinds.{Kind, OfStream, OfAppend, OfRun, OfFetch, OfCollect, OfEntries, OfCatalog, OfOpen, OfStep, OfClose, OfDrop, kind_of, word_of, command_by, by_kinds, line_kinds, IsSyntax, IsForBytes-syntax, Only, command_by-only}
 
 -- columns, where there are any, are one or more
 abbrev HasColumns : Option (List Column) → Type 0
@@ -140,6 +140,7 @@ IsWhole-plain (Run name plan) plain = absurd plain
 IsWhole-plain (Fetch name as_run) plain = tt
 IsWhole-plain (Collect bytes) plain = tt
 IsWhole-plain Entries plain = tt
+IsWhole-plain Catalog plain = tt
 IsWhole-plain (OpenJob job name plan) plain = absurd plain
 IsWhole-plain (Step job) plain = tt
 IsWhole-plain (Close job) plain = tt
@@ -156,6 +157,7 @@ IsSpelled-kind OfRun rest = IsSpelled-run (named_run rest) (IsRunWithin-parts (p
 IsSpelled-kind OfFetch rest = IsSpelled-plain OfFetch tt (command_by OfFetch rest) (command_by-only OfFetch rest)
 IsSpelled-kind OfCollect rest = IsSpelled-plain OfCollect tt (command_by OfCollect rest) (command_by-only OfCollect rest)
 IsSpelled-kind OfEntries rest = IsSpelled-plain OfEntries tt (command_by OfEntries rest) (command_by-only OfEntries rest)
+IsSpelled-kind OfCatalog rest = IsSpelled-plain OfCatalog tt (command_by OfCatalog rest) (command_by-only OfCatalog rest)
 IsSpelled-kind OfOpen rest =
     let behind : List ℕ = after_first is_space (trimmed rest) in
     IsSpelled-open (name_if (before_first is_space (trimmed rest))) (named_run behind) (IsRunWithin-parts (parts_at 61 behind))

@@ -1,5 +1,5 @@
 -- The text of an answer.
-use Rattle.std.specs.Prelude.{ℕ, ◌≤◌, length, All, Bool, false, if◌then◌else◌, List, [], ◌∷◌, ◌++◌, codes, decimal, flat_map, map, ⊤}
+use Rattle.std.specs.Prelude.{ℕ, ◌≤◌, length, All, Bool, if◌then◌else◌, List, [], ◌∷◌, ◌++◌, codes, decimal, flat_map, map, ⊤}
 use Rattle.rows_core.specs.declared.value.Value.{Value}
 use Rattle.hex.specs.Hex.{encode_lower}
 use Rattle.rows_core.specs.declared.file_ref.Digest.{Digest}
@@ -10,7 +10,7 @@ use Rattle.script_text.specs.declared.answer.Refusal.{Refusal}
 use Rattle.script_text.specs.declared.answer.Refusal.TheVariants.{Limit, Syntax, Unknown, Exists, IllTyped, Row, Fault, Damaged, Unreadable, Overflow, Memory}
 use Rattle.script_text.specs.declared.answer.EntrySummary.{EntrySummary}
 use Rattle.script_text.specs.declared.answer.Answer.{Answer}
-use Rattle.script_text.specs.declared.answer.Answer.TheVariants.{Ok, Held, Ready, Left, Result, Evicted, Entries, Refused}
+use Rattle.script_text.specs.declared.answer.Answer.TheVariants.{Ok, Held, Ready, Left, Result, Evicted, Entries, Catalog, Refused}
 
 -- what is counted, and the most that there may be
 abbrev pub limit_text : LimitKind → List ℕ
@@ -89,6 +89,7 @@ answer_lines quiet (Left files) = (codes "left " ++ decimal files) ∷ []
 answer_lines quiet (Result rows used kept read) = (codes "rows " ++ decimal (length rows)) ∷ (row_lines quiet rows ++ last_lines used kept read)
 answer_lines quiet (Evicted ids bytes) = evicted_lines ids bytes
 answer_lines quiet (Entries entries) = entry_lines entries
+answer_lines quiet (Catalog line) = line ∷ []
 answer_lines quiet (Refused refusal) = refusal_line refusal ∷ []
 
 -- a line with its LF
@@ -108,6 +109,11 @@ IsNarrow (Result rows used kept read) = All (λ row. length row ≤ 32) rows × 
 IsNarrow (Evicted ids bytes) = length ids ≤ 4096
 IsNarrow _ = ⊤
 
--- the text of an answer
-abbrev pub answer_text : Answer → List ℕ
-answer_text answer = flat_map printed_line (answer_lines false answer)
+-- each answer but the catalogue, which is one line, however much it tells
+abbrev pub HasShortLines : Answer → Type 0
+HasShortLines (Catalog line) = ⊥
+HasShortLines _ = ⊤
+
+-- the text of an answer; a quiet one leaves the row lines out
+abbrev pub answer_text : Bool → Answer → List ℕ
+answer_text quiet answer = flat_map printed_line (answer_lines quiet answer)

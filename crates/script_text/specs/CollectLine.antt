@@ -1,10 +1,10 @@
--- The lines `collect NUM` and `entries`. Any number of spaces stands before, between and behind their words.
+-- The line `collect NUM`. Any number of spaces stands before, between and behind its words.
 use Rattle.std.specs.Prelude.{ℕ, ◌^◌, ◌&&◌, nat_lt, if◌then◌else◌, List, Option, Some, None, Ok, Err, option_and_then, decimal, bytes_eq}
 use Rattle.std.specs.Str.Parse.{digits_value}
-use Rattle.script_text.specs.Words.{is_blank, only_word}
+use Rattle.script_text.specs.Words.{only_word}
 use Rattle.script_text.specs.Spelled.{Spelled}
 use Rattle.script_text.specs.declared.answer.Refusal.TheVariants.{Syntax}
-use Rattle.script_text.specs.declared.item.Command.TheVariants.{Collect, Entries}
+use Rattle.script_text.specs.declared.item.Command.TheVariants.{Collect}
 
 -- the number, where it fits 64 bits and the word is its decimal
 abbrev pub number_if : List ℕ → ℕ → Option ℕ
@@ -21,7 +21,3 @@ collect_with None = Err Syntax
 -- what a line spells that has `NUM` behind its first word
 abbrev pub collect_of : List ℕ → Spelled
 collect_of text = collect_with (option_and_then number_of (only_word text))
-
--- what a line spells that has nothing behind its first word
-abbrev pub entries_of : List ℕ → Spelled
-entries_of text = if is_blank text then Ok Entries else Err Syntax

@@ -4,7 +4,8 @@ use Rattle.script_text.specs.Words.{trimmed, behind_word}
 use Rattle.script_text.specs.StreamLine.{stream_of}
 use Rattle.script_text.specs.RunLine.{run_of}
 use Rattle.script_text.specs.FetchLine.{fetch_of}
-use Rattle.script_text.specs.CollectLine.{collect_of, entries_of}
+use Rattle.script_text.specs.CollectLine.{collect_of}
+use Rattle.script_text.specs.ListLine.{entries_of, catalog_of}
 use Rattle.script_text.specs.JobLine.{open_of, step_of, close_of, drop_of}
 use Rattle.script_text.specs.Spelled.{Spelled, or_syntax}
 use Rattle.script_text.specs.declared.answer.Refusal.TheVariants.{Syntax}
@@ -26,12 +27,13 @@ job_command text =
     (behind_or (behind_word (codes "close") text) close_of
     (behind_or (behind_word (codes "drop") text) drop_of (Err Syntax))))
 
--- what a line spells that asks for what is kept, rows, room or the list, or that is of a job
+-- what a line spells that asks for what is kept, rows, room or a list, or that is of a job
 abbrev pub kept_command : List ℕ → Spelled
 kept_command text =
     behind_or (behind_word (codes "fetch") text) fetch_of
     (behind_or (behind_word (codes "collect") text) collect_of
-    (behind_or (behind_word (codes "entries") text) entries_of (job_command text)))
+    (behind_or (behind_word (codes "entries") text) entries_of
+    (behind_or (behind_word (codes "catalog") text) catalog_of (job_command text))))
 
 -- what a line spells that has no spaces at its front
 abbrev pub command_of : List ℕ → Spelled

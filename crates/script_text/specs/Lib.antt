@@ -5,6 +5,7 @@ pub mod Dispatch
 pub mod FetchLine
 pub mod JobLine
 pub mod Line
+pub mod ListLine
 pub mod Reader
 pub mod RunLine
 pub mod Script

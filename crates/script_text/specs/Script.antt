@@ -10,7 +10,7 @@ use Rattle.script_text.specs.declared.answer.LimitKind.TheVariants as limit
 use Rattle.script_text.specs.declared.answer.Refusal.{Refusal}
 use Rattle.script_text.specs.declared.answer.Refusal.TheVariants.{Limit, Syntax, Memory}
 use Rattle.script_text.specs.declared.item.Command.{Command}
-use Rattle.script_text.specs.declared.item.Command.TheVariants.{Stream, Append, Run, Fetch, Collect, Entries, OpenJob, Step, Close, DropJob}
+use Rattle.script_text.specs.declared.item.Command.TheVariants.{Stream, Append, Run, Fetch, Collect, Entries, Catalog, OpenJob, Step, Close, DropJob}
 use Rattle.script_text.specs.declared.item.Item.{Item}
 use Rattle.script_text.specs.declared.item.Item.TheVariants as item
 
@@ -143,6 +143,7 @@ IsWhole (Run name plan) = IsWithinLimits plan
 IsWhole (Fetch name as_run) = ⊤
 IsWhole (Collect bytes) = ⊤
 IsWhole Entries = ⊤
+IsWhole Catalog = ⊤
 IsWhole (OpenJob job name plan) = IsWithinLimits plan
 IsWhole (Step job) = ⊤
 IsWhole (Close job) = ⊤

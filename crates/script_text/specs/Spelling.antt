@@ -151,3 +151,7 @@ pub record SpellsCollect (bytes : ℕ) (line : List ℕ) : Type 0 where
 -- `entries`
 abbrev pub SpellsEntries : List ℕ → Type 0
 SpellsEntries line = Padded (codes "entries") line
+
+-- `catalog`
+abbrev pub SpellsCatalog : List ℕ → Type 0
+SpellsCatalog line = Padded (codes "catalog") line

@@ -1,7 +1,8 @@
 //! What a command is answered, and the text of it.
 ghost use Rattle.std.specs.Prelude.{◌≡◌, ◌∷◌, ◌+◌, ◌<◌, ◌≤◌, ◌++◌, length, vec_len, vec_capacity, OnOk};
-ghost use Rattle.std.specs.Prelude.{OnErr, IsOk, slice_index_or, [], decimal};
+ghost use Rattle.std.specs.Prelude.{OnErr, IsOk, IfSome, None, Bool, slice_index_or, [], decimal};
 ghost use Rattle.script_text.specs.Answer.{answer_lines, refusal_line, limit_text, printed_line};
+ghost use Rattle.script_text.specs.Answer.{HasShortLines};
 ghost use Rattle.script_text.specs.AnswerLine.{line_text};
 
 use crate::entry_line::print_entry;
@@ -9,7 +10,7 @@ use crate::file_lines::{print_damage, print_place};
 use crate::line_of_answer::{AnswerLine, line_of};
 use crate::long_lines::{print_ids, print_row_line};
 use itoa::Buffer;
-use rows_core::{Digest, Memory, Name, Row, Seq};
+use rows_core::{Digest, Memory, Name, Row, Seq, Text};
 
 /// What a command has more of than it may. Each has its word and its number in the answer's line.
 #[derive(Clone, Copy, Debug, PartialEq, Eq)]
@@ -140,6 +141,8 @@ pub enum Answer {
     },
     /// `entries N`, and then for each kept result `ID size B machine M uses N last T made T`.
     Entries(Seq<EntrySummary>),
+    /// One line of JSON that tells the catalogue.
+    Catalog(Text),
     Refused(Refusal),
 }
 
@@ -148,11 +151,23 @@ pub fn line_count(answer: &Answer, quiet: bool) -> u64
     ensures { result ≡ length (answer_lines quiet answer.now) }
 {
     match answer {
-        Answer::Ok | Answer::Held(_) | Answer::Ready(_) | Answer::Left(_) | Answer::Refused(_) => 1,
+        Answer::Ok | Answer::Held(_) | Answer::Ready(_) | Answer::Left(_) => 1,
+        Answer::Catalog(_) | Answer::Refused(_) => 1,
         Answer::Result { .. } if quiet => 4,
         Answer::Result { rows, .. } => rows.items().len() as u64 + 4,
         Answer::Evicted { .. } => 2,
         Answer::Entries(entries) => entries.items().len() as u64 + 1,
+    }
+}
+
+/// The one line of an answer that may have more than 65,536 bytes, without its LF: the catalogue.
+pub fn long_line(answer: &Answer) -> Option<&[u8]>
+    ensures some { IfSome result (λ line. (quiet : Bool) → answer_lines quiet answer.now ≡ line.now ∷ []) }
+    ensures none { result ≡ None → HasShortLines answer.now }
+{
+    match answer {
+        Answer::Catalog(line) => Some(line.items()),
+        _ => None,
     }
 }
 
@@ -194,6 +209,7 @@ fn print_answer_line(line: &AnswerLine, to: &mut Vec<u8>) -> Result<(), Memory>
         AnswerLine::Reclaimed(bytes) => append_number_line(to, b"reclaimed ", *bytes),
         AnswerLine::Entries(entries) => append_number_line(to, b"entries ", *entries),
         AnswerLine::Entry(entry) => print_entry(entry, to),
+        AnswerLine::Catalog(line) => append_line(to, line, b""),
         AnswerLine::Refused(refusal) => print_refusal(refusal, to),
     }
 }

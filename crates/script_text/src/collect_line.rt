@@ -1,11 +1,11 @@
-//! The lines `collect NUM` and `entries`.
+//! The line `collect NUM`.
 ghost use Rattle.std.specs.Prelude.{◌≡◌, ◌↔◌, IsTrue, IfOk, decimal};
-ghost use Rattle.script_text.specs.CollectLine.{number_of, collect_of, entries_of};
+ghost use Rattle.script_text.specs.CollectLine.{number_of, collect_of};
 ghost use Rattle.script_text.specs.Script.{IsWhole};
 
 use crate::answer::Refusal;
 use crate::item::Command;
-use crate::words::{is_blank, only_word};
+use crate::words::only_word;
 use itoa::Buffer;
 
 /// The command of which this stands behind its first word: `Syntax` exactly where it is no `NUM`.
@@ -41,16 +41,4 @@ fn is_decimal_of(number: u64, word: &[u8]) -> bool
 {
     let mut buffer = Buffer::new();
     buffer.format(number).as_bytes() == word
-}
-
-/// The command of which this stands behind its first word: `Syntax` exactly where it isn't blank.
-pub fn entries_of(text: &[u8]) -> Result<Command, Refusal>
-    ensures read { result ≡ entries_of text.now }
-    ensures whole { IfOk result IsWhole }
-{
-    if is_blank(text) {
-        Ok(Command::Entries)
-    } else {
-        Err(Refusal::Syntax)
-    }
 }

@@ -5,15 +5,16 @@ ghost use Rattle.script_text.specs.Script.{IsWhole};
 ghost use Rattle.script_text.specs.Spelled.{IsReadOf};
 
 use crate::answer::Refusal;
-use crate::collect_line::{collect_of, entries_of};
+use crate::collect_line::collect_of;
 use crate::fetch_line::fetch_of;
 use crate::item::Command;
 use crate::job_line::{job_of, open_of};
+use crate::list_line::{catalog_of, entries_of};
 use crate::run_line::run_of;
 use crate::stream_line::stream_of;
 use crate::words::{
-    behind_close, behind_collect, behind_drop, behind_entries, behind_fetch, behind_open,
-    behind_run, behind_step, behind_stream,
+    behind_catalog, behind_close, behind_collect, behind_drop, behind_entries, behind_fetch,
+    behind_open, behind_run, behind_step, behind_stream,
 };
 use rows_core::Memory;
 use std::alloc::Global;
@@ -33,7 +34,7 @@ pub fn line_command(alloc: Global, text: &[u8]) -> Result<Command, Refusal>
     }
 }
 
-// The command of a line that asks for what is kept, rows, room or the list, or that is of a job.
+// The command of a line that asks for what is kept, rows, room or a list, or that is of a job.
 fn kept_command(alloc: Global, text: &[u8]) -> Result<Command, Refusal>
     ensures read { IsReadOf (kept_command text.now) result }
     ensures whole { IfOk result IsWhole }
@@ -44,8 +45,11 @@ fn kept_command(alloc: Global, text: &[u8]) -> Result<Command, Refusal>
     if let Some(rest) = behind_collect(text) {
         return collect_of(rest);
     }
-    match behind_entries(text) {
-        Some(rest) => entries_of(rest),
+    if let Some(rest) = behind_entries(text) {
+        return entries_of(rest);
+    }
+    match behind_catalog(text) {
+        Some(rest) => catalog_of(rest),
         None => job_command(alloc, text),
     }
 }

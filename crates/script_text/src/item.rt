@@ -39,6 +39,8 @@ pub enum Command {
     },
     /// Tells the kept results.
     Entries,
+    /// Tells all that the folder's records say: streams, programs and kept results.
+    Catalog,
     /// Opens a job, which is to run a plan in steps; from its close on the plan goes by the name. It passes no
     /// limit of plans as written.
     OpenJob {

@@ -1,7 +1,7 @@
 //! How long the lines of answers are.
 ghost use Rattle.std.specs.Prelude.{◌≡◌, ◌+◌, ◌*◌, ◌<◌, ◌≤◌, [], length, decimal, slice_index_or};
-ghost use Rattle.script_text.specs.Answer.{IsNarrow, IsShort, answer_lines, entry_line, ids_text};
-ghost use Rattle.script_text.specs.Answer.{refusal_line};
+ghost use Rattle.script_text.specs.Answer.{HasShortLines, IsNarrow, IsShort, answer_lines, entry_line};
+ghost use Rattle.script_text.specs.Answer.{ids_text, refusal_line};
 ghost use Rattle.script_text.specs.AnswerLine.{IsNarrowLine, line_text};
 ghost use Rattle.script_text.specs.declared.answer.Refusal.TheVariants.{Damaged, Unreadable};
 ghost use Rattle.hex.specs.Hex.{encode_lower};
@@ -12,11 +12,12 @@ use crate::line_of_answer::{AnswerLine, line_of};
 use row_text::row_is_short;
 use rows_core::{Digest, Name};
 
-/// The line of this number, from 0, of a narrow answer has at most 65,536 bytes with its LF. It reads what
-/// the line tells, and does nothing else.
+/// The line of this number, from 0, of a narrow answer that is no catalogue has at most 65,536 bytes with its
+/// LF. It reads what the line tells, and does nothing else.
 pub fn line_is_short(answer: &Answer, quiet: bool, line: u64)
     requires line { line < length (answer_lines quiet answer.now) }
     requires narrow { IsNarrow answer.now }
+    requires short { HasShortLines answer.now }
     ensures { IsShort (slice_index_or (answer_lines quiet answer.now) line []) }
 {
     answer_line_is_short(&line_of(answer, quiet, line));
@@ -40,6 +41,7 @@ fn answer_line_is_short(line: &AnswerLine)
             ids_are_short(ids);
         }
         AnswerLine::Entry(entry) => entry_is_short(entry),
+        AnswerLine::Catalog(_) => {}
         AnswerLine::Refused(refusal) => refusal_is_short(refusal),
     }
 }

@@ -3,7 +3,7 @@ ghost use Rattle.std.specs.Prelude.{◌≡◌, ◌+◌, ◌<◌, ◌≤◌, ◌+
 ghost use Rattle.std.specs.Prelude.{slice_index_or};
 ghost use Rattle.row_text.specs.RowSpelling.{row_spelling};
 ghost use Rattle.script_text.specs.Answer.{answer_lines, row_lines, last_lines, evicted_lines, entry_lines};
-ghost use Rattle.script_text.specs.Answer.{IsNarrow};
+ghost use Rattle.script_text.specs.Answer.{IsNarrow, HasShortLines};
 ghost use Rattle.script_text.specs.AnswerLine.{line_text, IsNarrowLine};
 
 use crate::answer::{Answer, EntrySummary, Refusal};
@@ -37,6 +37,8 @@ pub enum AnswerLine<'a> {
     Entries(u64),
     /// A kept result.
     Entry(&'a EntrySummary),
+    /// The catalogue.
+    Catalog(&'a [u8]),
     Refused(&'a Refusal),
 }
 
@@ -44,7 +46,7 @@ pub enum AnswerLine<'a> {
 pub fn line_of(answer: &Answer, quiet: bool, line: u64) -> AnswerLine
     requires { line < length (answer_lines quiet answer.now) }
     ensures text { line_text result ≡ slice_index_or (answer_lines quiet answer.now) line [] }
-    ensures narrow { IsNarrow answer.now → IsNarrowLine result }
+    ensures narrow { IsNarrow answer.now → HasShortLines answer.now → IsNarrowLine result }
 {
     match answer {
         Answer::Ok => AnswerLine::Ok,
@@ -64,6 +66,7 @@ pub fn line_of(answer: &Answer, quiet: bool, line: u64) -> AnswerLine
         }
         Answer::Evicted { ids, bytes } => line_of_evicted(ids.items(), *bytes, line),
         Answer::Entries(entries) => line_of_entries(entries.items(), line),
+        Answer::Catalog(line) => AnswerLine::Catalog(line.items()),
     }
 }
 

@@ -8,10 +8,11 @@ ghost use Rattle.plan_grammar.specs.declared.limit.PlanLimit.{PlanLimit};
 ghost use Rattle.script_text.specs.RunLine.{limit_of};
 ghost use Rattle.script_text.specs.Spelling.{SpellsStream, SpellsAppend, SpellsRun, SpellsTooLarge};
 ghost use Rattle.script_text.specs.Spelling.{SpellsOpen, SpellsStep, SpellsClose, SpellsDrop};
-ghost use Rattle.script_text.specs.Spelling.{SpellsFetch, SpellsFetchAsRun, SpellsCollect, SpellsEntries};
+ghost use Rattle.script_text.specs.Spelling.{SpellsFetch, SpellsFetchAsRun, SpellsCollect};
+ghost use Rattle.script_text.specs.Spelling.{SpellsEntries, SpellsCatalog};
 ghost use Rattle.script_text.specs.declared.answer.Refusal.TheVariants.{Limit};
 ghost use Rattle.script_text.specs.declared.item.Command.TheVariants.{Stream, Run, Fetch, Collect, Entries};
-ghost use Rattle.script_text.specs.declared.item.Command.TheVariants.{OpenJob, Step, Close, DropJob};
+ghost use Rattle.script_text.specs.declared.item.Command.TheVariants.{Catalog, OpenJob, Step, Close, DropJob};
 
 use plan_parser::plan_laws::texts_are_read;
 
@@ -79,4 +80,9 @@ pub fn collect_spelling()
 /// The list of kept results is asked for exactly by the lines that are `entries` and spaces.
 pub fn entries_spelling()
     ensures { (line : List ℕ) → ((line_command line ≡ Ok Entries) ↔ SpellsEntries line) }
+{}
+
+/// The catalogue is asked for exactly by the lines that are `catalog` and spaces.
+pub fn catalog_spelling()
+    ensures { (line : List ℕ) → ((line_command line ≡ Ok Catalog) ↔ SpellsCatalog line) }
 {}

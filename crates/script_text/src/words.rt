@@ -73,6 +73,13 @@ pub fn behind_entries(text: &[u8]) -> Option<&[u8]>
     behind_word(b"entries", text)
 }
 
+/// What stands behind `catalog`, where it is the first word of a line without spaces at its front.
+pub fn behind_catalog(text: &[u8]) -> Option<&[u8]>
+    ensures { option_copied result ≡ behind_word (codes "catalog") text.now }
+{
+    behind_word(b"catalog", text)
+}
+
 /// What stands behind `open`, where it is the first word of a line without spaces at its front.
 pub fn behind_open(text: &[u8]) -> Option<&[u8]>
     ensures { option_copied result ≡ behind_word (codes "open") text.now }
