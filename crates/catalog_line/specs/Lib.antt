@@ -1,0 +1,3 @@
+pub mod CatalogData
+pub mod CatalogText
+pub mod Readable
