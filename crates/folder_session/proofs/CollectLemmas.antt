@@ -27,6 +27,7 @@ use Rattle.script_text.specs.declared.answer.Answer.{Answer}
 use Rattle.script_text.specs.declared.answer.Answer.TheVariants as answer
 use Rattle.script_text.specs.declared.answer.Refusal.TheVariants as refusal
 use Rattle.script_text.specs.declared.answer.LimitKind.TheVariants as limit
+use Rattle.script_text.specs.declared.item.Command.{Command}
 use Rattle.script_text.specs.declared.item.Command.TheVariants as command
 use Rattle.planning.specs.Recorded.{IsRecordOf}
 use Rattle.outside_traits.specs.Runs.{ChangesOnly}
@@ -45,40 +46,48 @@ use Rattle.folder.specs.State.{State, table}
 use Rattle.folder_session.specs.declared.session.FolderSession.{FolderSession}
 use Rattle.folder_session.specs.Causes.{SparesStore, TellsOfNoFile}
 use Rattle.folder_session.specs.Machine as machine
-use Rattle.folder_session.specs.Machine.{outcome, refused, IsEvent, CollectsTo, summary_of}
+use Rattle.folder_session.specs.Machine.{outcome, refused, IsEvent, CollectsTo}
 use Rattle.folder_session.specs.Standing.{Stands, Performs, LeavesWhereRefused, MayChange, ChangesAtMost, AreGone, LeavesNoFile, folder_of}
 use Rattle.folder_session.specs.WorkRefusals.{collection_refusal}
-use Rattle.folder_session.proofs.StepLemmas.{since_none}
+use Rattle.folder_session.proofs.StepLemmas.{since_none, want_event}
 
 -- ---- what is told
 
-module _ (care : Care) (v : View) (session session' : FolderSession) (s : State) (stands : Stands care v session s) where
-  pub tells_entries : (held : List ℕ) (given : Answer) → session' ≡ session → (given ≡ answer.Entries (map summary_of (table_in (folder_of session)).entries)) ⊎ (given ≡ answer.Refused refusal.Memory)
-      → Performs care v v held session' s command.Entries given
-  tells_entries held given same (inl is) = record {
+-- what the table tells, or there was no memory for it
+abbrev pub Tells : (Table → Answer) → Table → Answer → Type 0
+Tells told t given = (given ≡ told t) ⊎ (given ≡ answer.Refused refusal.Memory)
+
+module _ (care : Care) (v : View) (session session' : FolderSession) (s : State) (stands : Stands care v session s) (same : session' ≡ session) (held : List ℕ) (c : Command) (told : Table → Answer)
+    (performs : machine.Performs held s c (outcome (told (table s)) s)) where
+  pub tells_list : (given : Answer) → Tells told (table_in (folder_of session)) given → Performs care v v held session' s c given
+  tells_list given (inl is) = record {
     new = s;
-    step = inl ((λ i. outcome (is i) s) ∙ ap (λ (t : Table). outcome (answer.Entries (map summary_of t.entries)) s) stands.means.table_is);
+    step = inl (subst (λ (a : Answer). machine.Performs held s c (outcome a s)) (sym (is ∙ ap told stands.means.table_is)) performs);
     stands = subst (λ (x : FolderSession). Stands care v x s) (sym same) stands;
     since = since_none care v session s stands;
   }
-  tells_entries held given same (inr none) = record {
+  tells_list given (inr none) = record {
     new = s;
-    step = inr (refusal.Memory, tt, (λ i. outcome (none i) s));
+    step = inr (refusal.Memory, want_event care s c, (λ i. outcome (none i) s));
     stands = subst (λ (x : FolderSession). Stands care v x s) (sym same) stands;
     since = since_none care v session s stands;
   }
 
-pub entries_tell : (entries : List PlainEntry) (given : Answer) → (given ≡ answer.Entries (map summary_of entries)) ⊎ (given ≡ answer.Refused refusal.Memory) → TellsOfNoFile given
-entries_tell entries given (inl is) = subst TellsOfNoFile (sym is) tt
-entries_tell entries given (inr none) = subst TellsOfNoFile (sym none) tt
+module _ (told : Table → Answer) (t : Table) (given : Answer) (tells : Tells told t given) where
+  told_or : (P : Answer → Type 0) → P (told t) → P (answer.Refused refusal.Memory) → P given
+  told_or P is none = elim tells [
+    | inl same ↦ subst P (sym same) is
+    | inr want ↦ subst P (sym want) none
+  ]
 
-pub entries_narrow : (entries : List PlainEntry) (given : Answer) → (given ≡ answer.Entries (map summary_of entries)) ⊎ (given ≡ answer.Refused refusal.Memory) → IsNarrow given
-entries_narrow entries given (inl is) = subst IsNarrow (sym is) tt
-entries_narrow entries given (inr none) = subst IsNarrow (sym none) tt
+  pub list_tells : TellsOfNoFile (told t) → TellsOfNoFile given
+  list_tells is = told_or TellsOfNoFile is tt
 
-pub entries_leave : (entries : List PlainEntry) (given : Answer) (v : View) → (given ≡ answer.Entries (map summary_of entries)) ⊎ (given ≡ answer.Refused refusal.Memory) → LeavesWhereRefused given v v
-entries_leave entries given v (inl is) = subst (λ (a : Answer). LeavesWhereRefused a v v) (sym is) tt
-entries_leave entries given v (inr none) = subst (λ (a : Answer). LeavesWhereRefused a v v) (sym none) (narrows_none v)
+  pub list_narrow : IsNarrow (told t) → IsNarrow given
+  list_narrow is = told_or IsNarrow is tt
+
+  pub list_leaves : (v : View) → LeavesWhereRefused (told t) v v → LeavesWhereRefused given v v
+  list_leaves v is = told_or (λ a. LeavesWhereRefused a v v) is (narrows_none v)
 
 -- ---- what a collection answers
 

@@ -65,6 +65,7 @@ agree_self answer.Ok state = (refl, refl)
 agree_self (answer.Held n) state = (refl, refl)
 agree_self (answer.Evicted ids bytes) state = (refl, refl)
 agree_self (answer.Entries summaries) state = (refl, refl)
+agree_self (answer.Catalog line) state = (refl, refl)
 agree_self (answer.Ready n) state = (refl, refl)
 agree_self (answer.Left n) state = (refl, refl)
 
@@ -170,6 +171,7 @@ same_outcome one texts once held s (command.Fetch name as_run) a b single p q =
     (subst (λ (planned : Result Target Refusal). FetchesTo s planned b) (one_fetching texts (table s) name as_run p.0 q.0 p.1 q.1) q.2)
 same_outcome one texts once held s (command.Collect reclaim) a b ranked p q = one_collected once (nat_le most_ticks s.tick) held s reclaim a b ranked p q
 same_outcome one texts once held s command.Entries a b none p q = outcomes_agree a b (p ∙ sym q)
+same_outcome one texts once held s command.Catalog a b none p q = outcomes_agree a b (p ∙ sym q)
 same_outcome one texts once held s _ a b none p q = absurd p
 
 -- ---- where the cause of a refusal holds
@@ -252,6 +254,7 @@ module _ (s new : State) (why : Refusal) where
   refused_cause held (command.Fetch name as_run) done = (done.0, done.1, fetch_cause done.0 done.2)
   refused_cause held (command.Collect reclaim) done = collection_cause (nat_le most_ticks s.tick) held reclaim refl done
   refused_cause held command.Entries done = let answers : Refused why ≡ answer.Entries _ = ap (λ o. o.answer) done in absurd (cc)
+  refused_cause held command.Catalog done = let answers : Refused why ≡ answer.Catalog _ = ap (λ o. o.answer) done in absurd (cc)
   refused_cause held _ done = absurd done
 
 pub cause_of : (held : List ℕ) (s new : State) (given_to : Command) (why : Refusal) → Performs held s given_to (outcome (Refused why) new) → IsRefusedFor s given_to why
@@ -287,6 +290,7 @@ module _ (s new : State) (why : Refusal) where
   performed_keeps held (command.Fetch name as_run) done = fetch_keeps done.0 done.2
   performed_keeps held (command.Collect reclaim) done = collection_keeps (nat_le most_ticks s.tick) held reclaim done
   performed_keeps held command.Entries done = ap (λ o. o.state) done
+  performed_keeps held command.Catalog done = ap (λ o. o.state) done
   performed_keeps held _ done = absurd done
 
 pub state_kept : (care : Care) (held : List ℕ) (s new : State) (given_to : Command) (why : Refusal) → Step care held s given_to (Refused why) new → new ≡ s

@@ -161,6 +161,7 @@ module _ (t : Table) (files : ℕ → List ℕ) where
   stream_cause name columns (answer.Result rows used kept read) tells = tt
   stream_cause name columns (answer.Evicted ids bytes) tells = tt
   stream_cause name columns (answer.Entries summaries) tells = tt
+  stream_cause name columns (answer.Catalog line) tells = tt
   stream_cause name columns (answer.Ready n) tells = tt
   stream_cause name columns (answer.Left n) tells = tt
 
@@ -171,6 +172,7 @@ module _ (t : Table) (files : ℕ → List ℕ) where
   append_cause name lines (answer.Result rows used kept read) tells = tt
   append_cause name lines (answer.Evicted ids bytes) tells = tt
   append_cause name lines (answer.Entries summaries) tells = tt
+  append_cause name lines (answer.Catalog line) tells = tt
   append_cause name lines (answer.Ready n) tells = tt
   append_cause name lines (answer.Left n) tells = tt
 
@@ -181,6 +183,7 @@ module _ (t : Table) (files : ℕ → List ℕ) where
   collect_cause reclaim (answer.Result rows used kept read) tells = tt
   collect_cause reclaim (answer.Evicted ids bytes) tells = tt
   collect_cause reclaim (answer.Entries summaries) tells = tt
+  collect_cause reclaim (answer.Catalog line) tells = tt
   collect_cause reclaim (answer.Ready n) tells = tt
   collect_cause reclaim (answer.Left n) tells = tt
 
@@ -191,8 +194,20 @@ module _ (t : Table) (files : ℕ → List ℕ) where
   entries_cause (answer.Result rows used kept read) tells = tt
   entries_cause (answer.Evicted ids bytes) tells = tt
   entries_cause (answer.Entries summaries) tells = tt
+  entries_cause (answer.Catalog line) tells = tt
   entries_cause (answer.Ready n) tells = tt
   entries_cause (answer.Left n) tells = tt
+
+  catalog_cause : (given : Answer) → TellsOfNoFile given → HasByteCause t command.Catalog files given
+  catalog_cause (answer.Refused why) tells = tells
+  catalog_cause answer.Ok tells = tt
+  catalog_cause (answer.Held n) tells = tt
+  catalog_cause (answer.Result rows used kept read) tells = tt
+  catalog_cause (answer.Evicted ids bytes) tells = tt
+  catalog_cause (answer.Entries summaries) tells = tt
+  catalog_cause (answer.Catalog line) tells = tt
+  catalog_cause (answer.Ready n) tells = tt
+  catalog_cause (answer.Left n) tells = tt
 
   pub collect_causes : (c : Command) (reclaim : ℕ) (result : Result (FolderSession × Answer) Failed) → c ≡ command.Collect reclaim → IfOk result (λ next. TellsOfNoFile next.1) → IfOk result (λ next. HasByteCause t c files next.1)
   collect_causes c reclaim (Ok next) is tells = subst (λ x. HasByteCause t x files next.1) (sym is) (collect_cause reclaim next.1 tells)
@@ -200,6 +215,9 @@ module _ (t : Table) (files : ℕ → List ℕ) where
 
   pub entries_causes : (c : Command) (given : Answer) → c ≡ command.Entries → TellsOfNoFile given → HasByteCause t c files given
   entries_causes c given is tells = subst (λ x. HasByteCause t x files given) (sym is) (entries_cause given tells)
+
+  pub catalog_causes : (c : Command) (given : Answer) → c ≡ command.Catalog → TellsOfNoFile given → HasByteCause t c files given
+  catalog_causes c given is tells = subst (λ x. HasByteCause t x files given) (sym is) (catalog_cause given tells)
 
   pub stream_causes : (c : Command) (name : List ℕ) (columns : List Column) (result : Result (FolderSession × Answer) Failed) → c ≡ command.Stream name columns → IfOk result (λ next. TellsOfNoFile next.1) → IfOk result (λ next. HasByteCause t c files next.1)
   stream_causes c name columns (Ok next) is tells = subst (λ x. HasByteCause t x files next.1) (sym is) (stream_cause name columns next.1 tells)
@@ -333,6 +351,9 @@ performed_spares held s (command.Fetch name as_run) why new is = fetched_spares 
 performed_spares held s (command.Collect reclaim) why new is = collected_spares (nat_le most_ticks s.tick) held s reclaim why new is
 performed_spares held s command.Entries why new is =
     let same : answer.Refused why ≡ answer.Entries _ = ap (λ (o : Outcome). o.answer) is in
+    absurd (cc)
+performed_spares held s command.Catalog why new is =
+    let same : answer.Refused why ≡ answer.Catalog _ = ap (λ (o : Outcome). o.answer) is in
     absurd (cc)
 performed_spares held s _ why new is = absurd is
 

@@ -127,6 +127,7 @@ want_event care s (command.Run name tree) = tt
 want_event care s (command.Fetch name as_run) = tt
 want_event care s (command.Collect reclaim) = tt
 want_event care s command.Entries = tt
+want_event care s command.Catalog = tt
 want_event care s (command.OpenJob job name tree) = tt
 want_event care s (command.Step job) = tt
 want_event care s (command.Close job) = tt

@@ -8,7 +8,8 @@ use Rattle.catalog_types.specs.declared.change.Change.{Change}
 use Rattle.catalog_types.specs.declared.program.Program.{Program}
 use Rattle.script_text.specs.declared.answer.Answer.{Answer}
 use Rattle.script_text.specs.declared.answer.Answer.TheVariants as answer
-use Rattle.catalog_core.specs.Table.{most_ticks}
+use Rattle.catalog_core.specs.Table.{Table, most_ticks}
+use Rattle.catalog_line.specs.CatalogText.{catalog_text}
 use Rattle.collection_plan.specs.Collecting.{IsCollection}
 use Rattle.script_text.specs.declared.answer.EntrySummary.{EntrySummary}
 use Rattle.script_text.specs.declared.answer.LimitKind.TheVariants as limit
@@ -81,6 +82,16 @@ CollectsTo false held s reclaim given = (ids : List ℕ) × (bytes : ℕ) × IsC
 abbrev pub summary_of : PlainEntry → EntrySummary
 summary_of e = record { id = e.id; size = e.file.len; machine = e.machine; uses = e.uses; last = e.last; made = e.made }
 
+-- ---- what is told
+
+-- the kept results
+abbrev pub told_entries : Table → Answer
+told_entries t = answer.Entries (map summary_of t.entries)
+
+-- streams, programs and kept results, as a line of JSON
+abbrev pub told_catalog : Table → Answer
+told_catalog t = answer.Catalog (catalog_text t)
+
 -- ---- the machine
 
 -- jobs are no part of this machine
@@ -98,7 +109,8 @@ Performs held s (command.Append name lines) given = (plan : Result Append Refusa
 Performs held s (command.Run name tree) given = RunsTo s (running (table s) name tree) given
 Performs held s (command.Fetch name as_run) given = (planned : Result Target Refusal) × IsFetching (table s) name as_run planned × FetchesTo s planned given
 Performs held s (command.Collect reclaim) given = CollectsTo (nat_le most_ticks s.tick) held s reclaim given
-Performs held s command.Entries given = given ≡ outcome (answer.Entries (map summary_of s.entries)) s
+Performs held s command.Entries given = given ≡ outcome (told_entries (table s)) s
+Performs held s command.Catalog given = given ≡ outcome (told_catalog (table s)) s
 Performs held s _ given = ⊥
 
 -- want of memory, which may be answered in place of any answer

@@ -105,6 +105,7 @@ MayChange folder (command.Stream name columns) file = IsLogInUse folder file
 MayChange folder (command.Append name lines) file = IsAppended folder file
 MayChange folder (command.Collect reclaim) file = IsLogInUse folder file ⊎ IsOfResult folder file
 MayChange folder command.Entries file = ⊥
+MayChange folder command.Catalog file = ⊥
 MayChange folder (command.OpenJob job name tree) file = ⊥
 MayChange folder (command.Step job) file = ⊥
 MayChange folder (command.DropJob job) file = ⊥

@@ -1,4 +1,4 @@
-//! Kept results that are told, and those that go.
+//! Kept results that go.
 ghost use Rattle.std.specs.Prelude.{List, ◌≡◌, ◌⊎◌, ℕ, [], IsTrue, IfOk, OnOk, OnErr, map};
 ghost use Rattle.outside_traits.specs.Counts.{Rose};
 ghost use Rattle.outside_traits.specs.View.{View, Counts};
@@ -13,19 +13,16 @@ ghost use Rattle.later_states.specs.Later.{IsLater, SparesHeld};
 ghost use Rattle.script_text.specs.Answer.{IsNarrow};
 ghost use Rattle.script_text.specs.declared.item.Command.TheVariants as command;
 ghost use Rattle.folder_session.specs.Causes.{TellsOfNoFile};
-ghost use Rattle.folder_session.specs.Machine.{summary_of};
 ghost use Rattle.folder_session.specs.WorkRefusals.{collection_refusal};
 
 use crate::refusals::collection_refusal;
 use crate::session::FolderSession;
-use catalog_types::Entry;
 use collection_plan::{CollectionPlan, plan_collection, same_collection_in_any_order};
 use folder::{files_that_went, left_stores, next_states};
 use outside_traits::{Failed, Store};
 use planning::Recording;
-use rows_core::{Memory, Seq};
-use script_text::{Answer, EntrySummary, Refusal};
-use std::alloc::Global;
+use rows_core::Seq;
+use script_text::{Answer, Refusal};
 
 impl FolderSession {
     ghost use Rattle.folder_session.specs.Standing.{Stands, Performs, Breaks, Records, KeepsNot, folder_of};
@@ -128,42 +125,5 @@ impl FolderSession {
             }
             Err(Failed) => Err(Failed),
         }
-    }
-
-    /// Tells the kept results by their ids.
-    pub(crate) fn tell_entries(self) -> (FolderSession, Answer)
-        ensures session { result.0 ≡ self }
-        ensures told { (result.1 ≡ Answer.Entries (map summary_of (table_in (folder_of self)).entries))
-            ⊎ (result.1 ≡ Answer.Refused Refusal.Memory) }
-    {
-        let answer = match summaries(self.alloc, self.folder.catalog().entries()) {
-            Ok(summaries) => Answer::Entries(Seq::new(summaries)),
-            Err(Memory) => Answer::Refused(Refusal::Memory),
-        };
-        (self, answer)
-    }
-}
-
-// What is told of each kept result.
-fn summaries(alloc: Global, entries: &[Entry]) -> Result<Vec<EntrySummary>, Memory>
-    ensures { IfOk result (λ summaries. summaries.items ≡ map summary_of entries.now) }
-{
-    let mut summaries = Vec::with_capacity(alloc, entries.len())?;
-    for entry in entries {
-        summaries.push(summary_of(entry))?;
-    }
-    Ok(summaries)
-}
-
-fn summary_of(entry: &Entry) -> EntrySummary
-    ensures { result ≡ summary_of entry.now }
-{
-    EntrySummary {
-        id: entry.id,
-        size: entry.file.len,
-        machine: entry.machine,
-        uses: entry.uses,
-        last: entry.last,
-        made: entry.made,
     }
 }

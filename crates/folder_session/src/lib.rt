@@ -4,6 +4,7 @@
 pub mod choosing;
 mod collecting;
 pub mod laws;
+mod listing;
 pub mod refusals;
 pub mod session;
 mod working;

@@ -164,6 +164,7 @@ impl FolderSession {
             Command::Fetch { name, as_run } => self.fetch(store, name, as_run),
             Command::Collect { bytes } => self.collect(store, bytes, held),
             Command::Entries => Ok(self.tell_entries()),
+            Command::Catalog => Ok(self.tell_catalog()),
             Command::OpenJob { .. }
             | Command::Step { .. }
             | Command::Close { .. }

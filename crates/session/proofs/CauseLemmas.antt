@@ -67,6 +67,7 @@ module _ (m new : Machine) (why : Refusal) where
   cause_of (command.Fetch name as_run) is = beside_cause (command.Fetch name as_run) is
   cause_of (command.Collect reclaim) is = beside_cause (command.Collect reclaim) is
   cause_of command.Entries is = beside_cause command.Entries is
+  cause_of command.Catalog is = beside_cause command.Catalog is
 
   -- ---- what it leaves
 
@@ -138,6 +139,7 @@ event_left m new (command.Run name tree) is = is
 event_left m new (command.Fetch name as_run) is = is
 event_left m new (command.Collect reclaim) is = is
 event_left m new command.Entries is = is
+event_left m new command.Catalog is = is
 
 pub unchanged : (care : Care) (m new : Machine) (c : Command) (why : Refusal) → Step care m c (answer.Refused why) new → StaysBut m c new
 unchanged care m new c why (inr event) = event_left m new c event.3
@@ -151,6 +153,7 @@ unchanged care m new (command.Run name tree) why (inl is) = beside_left m new wh
 unchanged care m new (command.Fetch name as_run) why (inl is) = beside_left m new why (command.Fetch name as_run) is
 unchanged care m new (command.Collect reclaim) why (inl is) = beside_left m new why (command.Collect reclaim) is
 unchanged care m new command.Entries why (inl is) = beside_left m new why command.Entries is
+unchanged care m new command.Catalog why (inl is) = beside_left m new why command.Catalog is
 
 -- ---- where the files are read
 

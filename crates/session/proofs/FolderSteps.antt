@@ -80,6 +80,7 @@ module _ (s : State) where
   performed_more held (command.Fetch name as_run) given is = fetched_more is.0 given is.2
   performed_more held (command.Collect reclaim) given is = collected_more (nat_le most_ticks s.tick) held reclaim given is
   performed_more held command.Entries given is = kept_more s given.state (ap (λ (o : folder.Outcome). o.state) is)
+  performed_more held command.Catalog given is = kept_more s given.state (ap (λ (o : folder.Outcome). o.state) is)
   performed_more held _ given is = absurd is
 
 pub more_by_step : (care : Care) (held : List ℕ) (s new : State) (c : Command) (given : Answer) → folder.Step care held s c given new → HaveMoreRows s.streams new.streams
@@ -99,6 +100,7 @@ module _ (care : Care) (m : Machine) (new : State) where
   beside (command.Fetch name as_run) given other done = record { of_folder = done; jobs = refl }
   beside (command.Collect reclaim) given other done = record { of_folder = done; jobs = refl }
   beside command.Entries given other done = record { of_folder = done; jobs = refl }
+  beside command.Catalog given other done = record { of_folder = done; jobs = refl }
   beside (command.OpenJob job name tree) given other done = absurd (other tt)
   beside (command.Step job) given other done = absurd (other tt)
   beside (command.Close job) given other done = absurd (other tt)
@@ -111,6 +113,7 @@ module _ (care : Care) (m : Machine) (new : State) where
   event_beside (command.Fetch name as_run) why other event = event
   event_beside (command.Collect reclaim) why other event = event
   event_beside command.Entries why other event = event
+  event_beside command.Catalog why other event = event
   event_beside (command.OpenJob job name tree) why other event = absurd (other tt)
   event_beside (command.Step job) why other event = absurd (other tt)
   event_beside (command.Close job) why other event = absurd (other tt)
@@ -123,6 +126,7 @@ module _ (care : Care) (m : Machine) (new : State) where
   remains_beside (command.Fetch name as_run) other same = ap (λ (x : State). record { state = x; jobs = m.jobs }) same
   remains_beside (command.Collect reclaim) other same = ap (λ (x : State). record { state = x; jobs = m.jobs }) same
   remains_beside command.Entries other same = ap (λ (x : State). record { state = x; jobs = m.jobs }) same
+  remains_beside command.Catalog other same = ap (λ (x : State). record { state = x; jobs = m.jobs }) same
   remains_beside (command.OpenJob job name tree) other same = absurd (other tt)
   remains_beside (command.Step job) other same = absurd (other tt)
   remains_beside (command.Close job) other same = absurd (other tt)

@@ -1,12 +1,14 @@
 use Rattle.std.proofs.Common.{sym, subst, ap, refl, IfOk, Ok}
 use Rattle.script_text.specs.declared.item.Command.{Command}
+use Rattle.script_text.specs.declared.item.Command.TheVariants as command
 use Rattle.folder.specs.Folders.{table_in, FolderStands}
 use Rattle.folder_session.specs.declared.session.FolderSession.{FolderSession}
 use Rattle.folder_session.specs.Causes.{HasByteCause}
+use Rattle.folder_session.specs.Machine.{told_catalog, told_entries}
 use Rattle.folder_session.specs.Standing.{Performs, ChangesAtMost, LeavesNoFile, folder_of}
 use Rattle.folder_session.specs.Taken.{TakesFor}
-use Rattle.folder_session.proofs.CollectLemmas.{nothing_left, entries_leave, entries_narrow, entries_tell, tells_entries}
-use Rattle.folder_session.proofs.RefusalLemmas.{stream_causes, append_causes, collect_causes, entries_causes, no_fault_in}
+use Rattle.folder_session.proofs.CollectLemmas.{nothing_left, tells_list, list_leaves, list_narrow, list_tells}
+use Rattle.folder_session.proofs.RefusalLemmas.{stream_causes, append_causes, collect_causes, entries_causes, catalog_causes, no_fault_in}
 use Rattle.folder_session.proofs.TakenLemmas.{told_of_any, none_for}
 use Rattle.folder_session.proofs.LeavingLemmas.{changes_none, looked_before, failed_after}
 use Rattle.folder_session.proofs.LaterLemmas.{same_later}
@@ -144,13 +146,13 @@ returns-in-Collect-clause-looks g c = failed_after _ _ c.collect.ensures.reads
 pub returns-in-Entries-clause-ok : goal.returns-in-Entries-clause-ok
 returns-in-Entries-clause-ok g c = λ told care s stands.
     subst (λ (x : Command). Performs care (g.D.Store.view c.args.store.now) (g.D.Store.view c.args.store.now) c.args.held.now c.tell_entries.result.0 s x c.tell_entries.result.1) (sym c.in-Entries.is)
-    (tells_entries care _ c.args.self c.tell_entries.result.0 s stands c.args.held.now c.tell_entries.result.1 c.tell_entries.ensures.session c.tell_entries.ensures.told)
+    (tells_list care _ c.args.self c.tell_entries.result.0 s stands c.tell_entries.ensures.session c.args.held.now command.Entries told_entries refl c.tell_entries.result.1 c.tell_entries.ensures.told)
 
 pub returns-in-Entries-clause-narrow : goal.returns-in-Entries-clause-narrow
-returns-in-Entries-clause-narrow g c = entries_narrow _ _ c.tell_entries.ensures.told
+returns-in-Entries-clause-narrow g c = list_narrow told_entries (table_in (folder_of c.args.self)) _ c.tell_entries.ensures.told tt
 
 pub returns-in-Entries-clause-refused : goal.returns-in-Entries-clause-refused
-returns-in-Entries-clause-refused g c = entries_leave _ _ _ c.tell_entries.ensures.told
+returns-in-Entries-clause-refused g c = list_leaves told_entries (table_in (folder_of c.args.self)) _ c.tell_entries.ensures.told _ tt
 
 pub returns-in-Entries-clause-alone : goal.returns-in-Entries-clause-alone
 returns-in-Entries-clause-alone g c = changes_none (folder_of c.args.self) c.args.command _
@@ -160,26 +162,66 @@ returns-in-Entries-clause-gone g c = λ told.
     subst (λ (x : Command). LeavesNoFile (table_in (folder_of c.args.self)) x c.tell_entries.result.1 (g.D.Store.view c.args.store.now) (g.D.Store.counts c.args.store.now) (g.D.Store.counts c.args.store.now)) (sym c.in-Entries.is) tt
 
 pub returns-in-Entries-clause-taken : goal.returns-in-Entries-clause-taken
-returns-in-Entries-clause-taken g c = λ told care s stands. told_of_any (g.D.Store.counts c.args.store.now) (g.D.Store.counts c.args.store.now) (Ok c.tell_entries.result) (entries_tell _ _ c.tell_entries.ensures.told)
+returns-in-Entries-clause-taken g c = λ told care s stands. told_of_any (g.D.Store.counts c.args.store.now) (g.D.Store.counts c.args.store.now) (Ok c.tell_entries.result) (list_tells told_entries (table_in (folder_of c.args.self)) _ c.tell_entries.ensures.told tt)
 
 pub returns-in-Entries-clause-most : goal.returns-in-Entries-clause-most
 returns-in-Entries-clause-most g c = λ told. none_for (table_in (folder_of c.args.self)) c.args.command (g.D.Store.counts c.args.store.now) (g.D.Store.counts c.args.store.now) refl
 
 pub returns-in-Entries-clause-found : goal.returns-in-Entries-clause-found
 returns-in-Entries-clause-found g c = λ told.
-    entries_causes (table_in (folder_of c.args.self)) (g.D.Store.view c.args.store.now).files c.args.command c.tell_entries.result.1 c.in-Entries.is (entries_tell _ _ c.tell_entries.ensures.told)
+    entries_causes (table_in (folder_of c.args.self)) (g.D.Store.view c.args.store.now).files c.args.command c.tell_entries.result.1 c.in-Entries.is (list_tells told_entries (table_in (folder_of c.args.self)) _ c.tell_entries.ensures.told tt)
 
 pub returns-in-Entries-clause-fault : goal.returns-in-Entries-clause-fault
-returns-in-Entries-clause-fault g c = no_fault_in _ _ (Ok c.tell_entries.result) (entries_tell _ _ c.tell_entries.ensures.told)
+returns-in-Entries-clause-fault g c = no_fault_in _ _ (Ok c.tell_entries.result) (list_tells told_entries (table_in (folder_of c.args.self)) _ c.tell_entries.ensures.told tt)
 
 pub returns-in-Entries-clause-crash : goal.returns-in-Entries-clause-crash
 returns-in-Entries-clause-crash g c = λ told stands. subst (λ (x : FolderSession). FolderStands (g.D.Store.view c.args.store.now) (folder_of x)) (sym c.tell_entries.ensures.session) stands
+
+-- ---- the catalogue is told
+
+pub returns-in-Catalog-clause-ok : goal.returns-in-Catalog-clause-ok
+returns-in-Catalog-clause-ok g c = λ told care s stands.
+    subst (λ (x : Command). Performs care (g.D.Store.view c.args.store.now) (g.D.Store.view c.args.store.now) c.args.held.now c.tell_catalog.result.0 s x c.tell_catalog.result.1) (sym c.in-Catalog.is)
+    (tells_list care _ c.args.self c.tell_catalog.result.0 s stands c.tell_catalog.ensures.session c.args.held.now command.Catalog told_catalog refl c.tell_catalog.result.1 c.tell_catalog.ensures.told)
+
+pub returns-in-Catalog-clause-narrow : goal.returns-in-Catalog-clause-narrow
+returns-in-Catalog-clause-narrow g c = list_narrow told_catalog (table_in (folder_of c.args.self)) _ c.tell_catalog.ensures.told tt
+
+pub returns-in-Catalog-clause-refused : goal.returns-in-Catalog-clause-refused
+returns-in-Catalog-clause-refused g c = list_leaves told_catalog (table_in (folder_of c.args.self)) _ c.tell_catalog.ensures.told _ tt
+
+pub returns-in-Catalog-clause-alone : goal.returns-in-Catalog-clause-alone
+returns-in-Catalog-clause-alone g c = changes_none (folder_of c.args.self) c.args.command _
+
+pub returns-in-Catalog-clause-gone : goal.returns-in-Catalog-clause-gone
+returns-in-Catalog-clause-gone g c = λ told.
+    subst (λ (x : Command). LeavesNoFile (table_in (folder_of c.args.self)) x c.tell_catalog.result.1 (g.D.Store.view c.args.store.now) (g.D.Store.counts c.args.store.now) (g.D.Store.counts c.args.store.now)) (sym c.in-Catalog.is) tt
+
+pub returns-in-Catalog-clause-taken : goal.returns-in-Catalog-clause-taken
+returns-in-Catalog-clause-taken g c = λ told care s stands. told_of_any (g.D.Store.counts c.args.store.now) (g.D.Store.counts c.args.store.now) (Ok c.tell_catalog.result) (list_tells told_catalog (table_in (folder_of c.args.self)) _ c.tell_catalog.ensures.told tt)
+
+pub returns-in-Catalog-clause-most : goal.returns-in-Catalog-clause-most
+returns-in-Catalog-clause-most g c = λ told. none_for (table_in (folder_of c.args.self)) c.args.command (g.D.Store.counts c.args.store.now) (g.D.Store.counts c.args.store.now) refl
+
+pub returns-in-Catalog-clause-found : goal.returns-in-Catalog-clause-found
+returns-in-Catalog-clause-found g c = λ told.
+    catalog_causes (table_in (folder_of c.args.self)) (g.D.Store.view c.args.store.now).files c.args.command c.tell_catalog.result.1 c.in-Catalog.is (list_tells told_catalog (table_in (folder_of c.args.self)) _ c.tell_catalog.ensures.told tt)
+
+pub returns-in-Catalog-clause-fault : goal.returns-in-Catalog-clause-fault
+returns-in-Catalog-clause-fault g c = no_fault_in _ _ (Ok c.tell_catalog.result) (list_tells told_catalog (table_in (folder_of c.args.self)) _ c.tell_catalog.ensures.told tt)
+
+pub returns-in-Catalog-clause-crash : goal.returns-in-Catalog-clause-crash
+returns-in-Catalog-clause-crash g c = λ told stands. subst (λ (x : FolderSession). FolderStands (g.D.Store.view c.args.store.now) (folder_of x)) (sym c.tell_catalog.ensures.session) stands
 
 -- ---- what goes on standing
 
 pub returns-in-Entries-clause-later : goal.returns-in-Entries-clause-later
 returns-in-Entries-clause-later g c =
     same_later c.args.held.now (table_in (folder_of c.args.self)) (table_in (folder_of c.tell_entries.result.0)) (ap (λ (x : FolderSession). table_in (folder_of x)) c.tell_entries.ensures.session)
+
+pub returns-in-Catalog-clause-later : goal.returns-in-Catalog-clause-later
+returns-in-Catalog-clause-later g c =
+    same_later c.args.held.now (table_in (folder_of c.args.self)) (table_in (folder_of c.tell_catalog.result.0)) (ap (λ (x : FolderSession). table_in (folder_of x)) c.tell_catalog.ensures.session)
 
 pub returns-in-Stream-clause-later : goal.returns-in-Stream-clause-later
 returns-in-Stream-clause-later g c = c.make.ensures.later c.args.held.now
