@@ -6,7 +6,7 @@ use Rattle.nectar_top.specs.declared.exit.Exit.TheVariants.{Done, Usage, SourceF
 -- the line on standard error, where there is one without a place
 abbrev pub message_of : Exit → Option (List ℕ)
 message_of Done = None
-message_of Usage = Some (codes "usage: nectar FOLDER")
+message_of Usage = Some (codes "usage: nectar FOLDER [--quiet] [--generate N]")
 message_of SourceFault = Some (codes "nectar: input failed")
 message_of SinkFault = Some (codes "nectar: output failed")
 message_of StoreFault = Some (codes "nectar: folder failed")

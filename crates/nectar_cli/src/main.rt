@@ -1,16 +1,12 @@
-//! The program: `nectar FOLDER < script`.
+//! The program: `nectar FOLDER [--quiet] [--generate N] < script`.
 #![tactic(auto)]
 
 ghost use Rattle.std.specs.Prelude.{◌≡◌, map, drop, string_bytes, IfOk};
 
-mod directory;
-mod folder_store;
-#[cfg(test)]
-mod folder_tests;
 mod report;
 
-use crate::folder_store::FolderStore;
 use crate::report::{message, status};
+use folder_store::FolderStore;
 use nectar_top::{Exit, nectar};
 use outside_traits::{ReaderSource, WriterSink};
 use std::alloc::{AllocError, Global};

@@ -11,7 +11,7 @@ pub fn message(exit: Exit) -> Option<&'static str>
 {
     match exit {
         Exit::Done => None,
-        Exit::Usage => Some("usage: nectar FOLDER"),
+        Exit::Usage => Some("usage: nectar FOLDER [--quiet] [--generate N]"),
         Exit::SourceFault => Some("nectar: input failed"),
         Exit::SinkFault => Some("nectar: output failed"),
         Exit::StoreFault => Some("nectar: folder failed"),

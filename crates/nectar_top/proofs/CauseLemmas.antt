@@ -43,11 +43,11 @@ Rose-later before now later rose counts = omega (arith, rose, counts)
 
 -- a count that rose since a later moment rose since an earlier one
 pub caused_since : (e : Exit) (a b c : Faults) → NoneFell a b → NoWriteFailed a b → HasCause e b c → HasCause e a c
-caused_since exit.Done a b c p held cause = cause ∙ held
 caused_since exit.ScriptLimit a b c p held cause = cause ∙ held
 caused_since exit.SourceFault a b c p held cause = (Rose-since a.source b.source c.source p.source cause.0, cause.1 ∙ held)
 caused_since exit.SinkFault a b c p held cause = (Rose-since a.sink b.sink c.sink p.sink cause.0, cause.1 ∙ held)
 caused_since exit.StoreFault a b c p held cause = Rose-since a.store.writes b.store.writes c.store.writes p.store.writes cause
+caused_since exit.Done a b c p held cause = absurd cause
 caused_since exit.Usage a b c p held cause = absurd cause
 caused_since exit.Memory a b c p held cause = absurd cause
 caused_since (exit.NotAStore file at) a b c p held cause = absurd cause
@@ -61,11 +61,11 @@ served_is_taken _ a b cause taken = taken
 
 -- unless it ends in `StoreFault` no write has failed
 pub no_write_failed : (e : Exit) (a b : Faults) → HasCause e a b → (e ≡ exit.StoreFault → ⊥) → NoWriteFailed a b
-no_write_failed exit.Done a b cause other = cause
 no_write_failed exit.ScriptLimit a b cause other = cause
 no_write_failed exit.SourceFault a b cause other = cause.1
 no_write_failed exit.SinkFault a b cause other = cause.1
 no_write_failed exit.StoreFault a b cause other = absurd (other refl)
+no_write_failed exit.Done a b cause other = absurd cause
 no_write_failed exit.Usage a b cause other = absurd cause
 no_write_failed exit.Memory a b cause other = absurd cause
 no_write_failed (exit.NotAStore file at) a b cause other = absurd cause

@@ -1,5 +1,5 @@
 -- Runs in which no call fails, over a folder whose files hold their bytes.
-use Rattle.std.proofs.Common.{◌≡◌, ◌⊎◌, ◌≤◌, ℕ, zero, suc, List, [], ◌∷◌, ◌++◌, length, length-append, Option, None, Some, refl, ap, subst, inl, inr, arith}
+use Rattle.std.proofs.Common.{◌≡◌, ◌≤◌, ℕ, zero, suc, List, [], ◌∷◌, ◌++◌, length, length-append, Option, None, Some, refl, ap, subst, inl, inr, arith}
 use Rattle.std.specs.List.{AllByRecursion}
 use Rattle.std.specs.Io.KnownBytes.{Consumes}
 use Rattle.std.proofs.lemmas.List.Sums.{sum_by-cons}
@@ -20,9 +20,9 @@ use Rattle.session.specs.Machine.{Machine, without_jobs}
 use Rattle.nectar_top.specs.Crash.{intact}
 use Rattle.nectar_top.specs.Loading.{HasLoadingCause}
 use Rattle.nectar_top.specs.Machine.{Step, Run}
-use Rattle.nectar_top.specs.Outside.{Outside, Faults, NoneFell, NoneFailed, faults}
+use Rattle.nectar_top.specs.Outside.{Outside, Faults, NoneFell, NoneFailed}
 use Rattle.nectar_top.specs.Refusals.{IsSparing, IsSparingItem, fault_in, faults_in, RoseBy}
-use Rattle.nectar_top.specs.Run.{longest_script, IsDone, IsComplete}
+use Rattle.nectar_top.specs.Run.{longest_script, IsShortScript, IsDone, IsComplete}
 use Rattle.nectar_top.specs.Turns.{Ends, HasCause}
 use Rattle.nectar_top.specs.declared.exit.Exit.{Exit}
 use Rattle.nectar_top.specs.declared.exit.Exit.TheVariants as exit
@@ -44,6 +44,7 @@ step_sparing old new i (answer.Left n) step sparing none = tt
 step_sparing old new i (answer.Result rows used kept read) step sparing none = tt
 step_sparing old new i (answer.Evicted ids bytes) step sparing none = tt
 step_sparing old new i (answer.Entries summaries) step sparing none = tt
+step_sparing old new i (answer.Catalog line) step sparing none = tt
 
 run_sparing : (old new : Machine) (commands : List Item) (answers : List Answer) → Run Whole old commands answers new → AllByRecursion IsSparingItem commands → faults_in answers ≡ 0 → AllByRecursion IsSparing answers
 run_sparing old new [] [] run sparing none = tt
@@ -60,42 +61,40 @@ no_faults (suc n) a b rose none = absurd (none (omega (arith, rose.0)))
 -- ---- exits
 
 -- as many bytes as the limit, and one more
-too_long : (left left' : Option (List ℕ)) (input taken : List ℕ) (byte : ℕ) → left ≡ Some input → Consumes left left' (taken ++ byte ∷ []) → length taken ≡ longest_script → length input ≤ longest_script → ⊥
+pub too_long : (left left' : Option (List ℕ)) (input taken : List ℕ) (byte : ℕ) → left ≡ Some input → Consumes left left' (taken ++ byte ∷ []) → length taken ≡ longest_script → length input ≤ longest_script → ⊥
 too_long left None input taken byte is took full within = absurd (subst (λ (o : Option (List ℕ)). Consumes o None (taken ++ byte ∷ [])) is took)
 too_long left (Some rest) input taken byte is took full within =
     let whole : input ≡ (taken ++ byte ∷ []) ++ rest = subst (λ (o : Option (List ℕ)). Consumes o (Some rest) (taken ++ byte ∷ [])) is took in
     omega (arith, ap length whole, length-append (taken ++ byte ∷ []) rest, length-append taken (byte ∷ []), full, within)
 
-abbrev pub IsCompleteOr : State → View → View → Exit → Outside → Outside → Type 0
-IsCompleteOr s u v e begun now = ((e ≡ exit.Done) × IsComplete s u v begun now) ⊎ (e ≡ exit.Memory)
+pub done_spares : (s : State) (u v : View) (begun now : Outside) (done : IsDone (intact s) u v begun now) → (Rose begun.counts.reads now.counts.reads → ⊥) → AllByRecursion IsSparing done.answered.answers
+done_spares s u v begun now done none =
+    run_sparing (without_jobs s) done.answered.machine (all_items done.input) done.answered.answers done.answered.run (all_items_are_sparing done.input)
+    (no_faults (faults_in done.answered.answers) begun.counts.reads now.counts.reads done.answered.faults none)
 
-complete_done : (s : State) (u v : View) (begun now : Outside) → IsDone (intact s) u v begun now → (Rose begun.counts.reads now.counts.reads → ⊥) → IsComplete s u v begun now
-complete_done s u v begun now done none = record {
-  done = done;
-  sparing = run_sparing (without_jobs s) done.answered.machine (all_items done.input) done.answered.answers done.answered.run (all_items_are_sparing done.input)
-      (no_faults (faults_in done.answered.answers) begun.counts.reads now.counts.reads done.answered.faults none);
-}
+pub complete_done : (s : State) (u v : View) (begun now : Outside) → IsDone (intact s) u v begun now → (Rose begun.counts.reads now.counts.reads → ⊥) → IsComplete s u v begun now
+complete_done s u v begun now done none = record { done = done; sparing = done_spares s u v begun now done none }
 
--- a run that serves commands ends so
-pub complete_served : (s : State) (u v : View) (e : Exit) (begun now : Outside) (input : List ℕ) (old mid new : Faults) → Ends (intact s) u v e begun now → begun.left ≡ Some input → length input ≤ longest_script
-    → NoneFell old mid → HasCause e mid new → NoneFailed old new → (Rose begun.counts.reads now.counts.reads → ⊥) → IsCompleteOr s u v e begun now
-complete_served s u v exit.Done begun now input old mid new ends left within fell cause none reads = inl (refl, complete_done s u v begun now ends reads)
-complete_served s u v exit.SourceFault begun now input old mid new ends left within fell cause none reads = absurd (none.source (Rose-since old.source mid.source new.source fell.source cause.0))
-complete_served s u v exit.SinkFault begun now input old mid new ends left within fell cause none reads = absurd (none.sink (Rose-since old.sink mid.sink new.sink fell.sink cause.0))
-complete_served s u v exit.StoreFault begun now input old mid new ends left within fell cause none reads = absurd (none.writes (Rose-since old.store.writes mid.store.writes new.store.writes fell.store.writes cause))
-complete_served s u v exit.ScriptLimit begun now input old mid new ends left within fell cause none reads = absurd (too_long begun.left now.left input ends.taken ends.byte left ends.took ends.full within)
-complete_served s u v exit.Usage begun now input old mid new ends left within fell cause none reads = absurd ends
-complete_served s u v exit.Memory begun now input old mid new ends left within fell cause none reads = absurd ends
-complete_served s u v (exit.NotAStore file at) begun now input old mid new ends left within fell cause none reads = absurd ends
+-- a run that serves commands is done
+pub complete_served : (s : State) (u v : View) (e : Exit) (begun now : Outside) (input : List ℕ) (old mid new : Faults) → Ends (intact s) u v e begun now → IsShortScript begun.left input
+    → NoneFell old mid → HasCause e mid new → NoneFailed old new → ⊥
+complete_served s u v exit.SourceFault begun now input old mid new ends short fell cause none = none.source (Rose-since old.source mid.source new.source fell.source cause.0)
+complete_served s u v exit.SinkFault begun now input old mid new ends short fell cause none = none.sink (Rose-since old.sink mid.sink new.sink fell.sink cause.0)
+complete_served s u v exit.StoreFault begun now input old mid new ends short fell cause none = none.writes (Rose-since old.store.writes mid.store.writes new.store.writes fell.store.writes cause)
+complete_served s u v exit.ScriptLimit begun now input old mid new ends short fell cause none = too_long begun.left now.left input ends.taken ends.byte short.0 ends.took ends.full short.1
+complete_served s u v exit.Done begun now input old mid new ends short fell cause none = ends
+complete_served s u v exit.Usage begun now input old mid new ends short fell cause none = ends
+complete_served s u v exit.Memory begun now input old mid new ends short fell cause none = ends
+complete_served s u v (exit.NotAStore file at) begun now input old mid new ends short fell cause none = ends
 
--- a run that is ended before
-pub complete_unserved : (s : State) (u v : View) (e : Exit) (begun now : Outside) (old new : Faults) → HasLoadingCause e old.store new.store → NoneFailed old new → IsLeft Whole u s s
-    → ((file at : ℕ) → e ≡ exit.NotAStore file at → StopsReading u.files file at) → IsCompleteOr s u v e begun now
-complete_unserved s u v exit.Memory begun now old new cause none left stops = inr refl
-complete_unserved s u v exit.StoreFault begun now old new cause none left stops = absurd (elim cause [ inl reads ↦ none.reads reads | inr writes ↦ none.writes writes ])
-complete_unserved s u v (exit.NotAStore file at) begun now old new cause none left stops = absurd (reads_or_stops u.files _ file at left.read.reading (stops file at refl))
-complete_unserved s u v exit.Done begun now old new cause none left stops = absurd cause
-complete_unserved s u v exit.SourceFault begun now old new cause none left stops = absurd cause
-complete_unserved s u v exit.SinkFault begun now old new cause none left stops = absurd cause
-complete_unserved s u v exit.ScriptLimit begun now old new cause none left stops = absurd cause
-complete_unserved s u v exit.Usage begun now old new cause none left stops = absurd cause
+-- a run that is ended before wants memory
+pub complete_unserved : (s : State) (u : View) (e : Exit) (old new : Faults) → HasLoadingCause e old.store new.store → NoneFailed old new → IsLeft Whole u s s
+    → ((file at : ℕ) → e ≡ exit.NotAStore file at → StopsReading u.files file at) → e ≡ exit.Memory
+complete_unserved s u exit.Memory old new cause none left stops = refl
+complete_unserved s u exit.StoreFault old new cause none left stops = absurd (elim cause [ inl reads ↦ none.reads reads | inr writes ↦ none.writes writes ])
+complete_unserved s u (exit.NotAStore file at) old new cause none left stops = absurd (reads_or_stops u.files _ file at left.read.reading (stops file at refl))
+complete_unserved s u exit.Done old new cause none left stops = absurd cause
+complete_unserved s u exit.SourceFault old new cause none left stops = absurd cause
+complete_unserved s u exit.SinkFault old new cause none left stops = absurd cause
+complete_unserved s u exit.ScriptLimit old new cause none left stops = absurd cause
+complete_unserved s u exit.Usage old new cause none left stops = absurd cause

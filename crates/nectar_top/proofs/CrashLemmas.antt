@@ -1,7 +1,6 @@
 -- What crashes leave, as a run goes on.
-use Rattle.std.proofs.Common.{◌≡◌, ◌⊎◌, ℕ, List, [], ◌∷◌, ◌++◌, refl, sym, ap, ◌∙◌, append_assoc, append-nil, inl, inr}
-use Rattle.outside_traits.specs.View.{View, IsImageAt}
-use Rattle.outside_traits.specs.Runs.{Spans}
+use Rattle.std.proofs.Common.{◌⊎◌, ℕ, List, [], ◌∷◌, ◌++◌, refl, sym, ap, ◌∙◌, append_assoc, append-nil, inl, inr}
+use Rattle.outside_traits.specs.View.{View}
 use Rattle.outside_traits.proofs.RunLemmas.{spans_none, spans_wider, spans_on}
 use Rattle.script_text.specs.declared.answer.Answer.{Answer}
 use Rattle.script_text.specs.declared.item.Item.{Item}

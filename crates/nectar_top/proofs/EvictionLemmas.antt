@@ -89,6 +89,7 @@ folder_free held_ids s new (command.Run name tree) a is = ran_free s new a (runn
 folder_free held_ids s new (command.Fetch name as_run) a is = fetched_free s new a is.0 is.2
 folder_free held_ids s new (command.Collect reclaim) a is = collected_free (nat_le most_ticks s.tick) held_ids s new a reclaim is
 folder_free held_ids s new command.Entries a is = free_same s new (ap (λ (o : folder.Outcome). o.state) is)
+folder_free held_ids s new command.Catalog a is = free_same s new (ap (λ (o : folder.Outcome). o.state) is)
 folder_free held_ids s new _ a is = absurd is
 
 opened_free : (m new : Machine) (a : Answer) (name : List ℕ) (planned : Result Run Refusal) → OpensTo m name planned (outcome a new) → KeepsFree m.state new.state
@@ -211,6 +212,7 @@ module _ (folder : Folder) (s : State) (valid : IsValid s) (same : table_in fold
   not_changed (command.Collect reclaim) (inl log) = not_the_log log
   not_changed (command.Collect reclaim) (inr of_result) = free_here.no_result of_result.0 of_result.1 of_result.2
   not_changed command.Entries may = may
+  not_changed command.Catalog may = may
   not_changed (command.OpenJob job name tree) may = may
   not_changed (command.Step job) may = may
   not_changed (command.DropJob job) may = may

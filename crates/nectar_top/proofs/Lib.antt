@@ -2,11 +2,13 @@ pub mod CauseLemmas
 pub mod CompleteLemmas
 pub mod CrashLemmas
 pub mod EvictionLemmas
+pub mod ExitLemmas
 pub mod FaultLemmas
 pub mod FreeLemmas
 pub mod LoadingLemmas
 pub mod ProgressLemmas
 pub mod RunLemmas
 pub mod SendingLemmas
+pub mod SummaryLemmas
 pub mod TakingLemmas
 pub mod TurnLemmas

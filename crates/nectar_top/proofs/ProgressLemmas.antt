@@ -1,5 +1,5 @@
 -- A run of the program, as it takes more of the script.
-use Rattle.std.proofs.Common.{◌≡◌, ◌⊎◌, ◌≤◌, ℕ, IfOk, OnErr, List, [], ◌∷◌, ◌++◌, Option, refl, sym, ap, ◌∙◌, subst, append_assoc, append-nil, inl, inr, arith}
+use Rattle.std.proofs.Common.{◌≡◌, ◌⊎◌, ◌≤◌, ℕ, Bool, IfOk, OnErr, List, [], ◌∷◌, ◌++◌, Option, refl, sym, ap, ◌∙◌, subst, append_assoc, append-nil, inl, inr, arith}
 use Rattle.std.specs.Prelude.{Result, Ok, Err}
 use Rattle.std.specs.Io.KnownBytes.{Appends}
 use Rattle.std.proofs.KnownBytes.{Appends-nil, Appends-trans}
@@ -34,6 +34,9 @@ use Rattle.nectar_top.specs.Outside.{Outside, shown}
 use Rattle.nectar_top.specs.Refusals.{IsSparingItem, fault_in, faults_in, RoseBy}
 use Rattle.nectar_top.specs.Progress.{Progress, LeavesFree, Sends, SendsInPart, Breaks, BreaksOff, Performs}
 use Rattle.nectar_top.specs.Run.{Answered, AnsweredInPart, BrokenOff}
+use Rattle.nectar_top.specs.Summary.{of_answer, summary_of, together}
+use Rattle.nectar_top.specs.declared.summary.Summary.{Summary}
+use Rattle.nectar_top.proofs.SummaryLemmas.{summary_of-push}
 use Rattle.nectar_top.proofs.CrashLemmas.{reaches_loaded, reaches_on, since_none}
 use Rattle.nectar_top.proofs.EvictionLemmas.{changes_leave, evicts_free, evicts_given, gone_on, gone_still, gone_told, gone_weaker, is_table, step_free}
 use Rattle.nectar_top.proofs.FaultLemmas.{rose_by_none, rose_by_since, faults-push, sparing_given, sparing_front, sparing_last}
@@ -53,8 +56,8 @@ Step-spelled care old new spelled given a is step = elim is [
     at (item.Command command) h = inr h
     at (item.Refused why) h = inr h
 
-texts_of-push : (answers : List Answer) (a : Answer) → texts_of answers ++ answer_text a ≡ texts_of (answers ++ a ∷ [])
-texts_of-push answers a = ap (λ t. texts_of answers ++ t) (sym (append-nil (answer_text a))) ∙ sym (flat_map-append answer_text answers (a ∷ []))
+texts_of-push : (quiet : Bool) (answers : List Answer) (a : Answer) → texts_of quiet answers ++ answer_text quiet a ≡ texts_of quiet (answers ++ a ∷ [])
+texts_of-push quiet answers a = ap (λ t. texts_of quiet answers ++ t) (sym (append-nil (answer_text quiet a))) ∙ sym (flat_map-append (answer_text quiet) answers (a ∷ []))
 
 -- a step of the session is one of the machine
 pub performs_item : (care : Care) (u v : View) (session : Session) (old : Machine) (i : Item) (command : Command) (before now : Counts) (result : Result (Session × Answer) Failed) → i ≡ item.Command command → standing.Stands care u session old
@@ -97,10 +100,14 @@ breaks_item care u v session old i command before now (Err failed) is stands cha
   removes = removes;
 }
 
+-- the commands are answered, and the answers come to this
+abbrev pub AnsweredWith : Found → View → View → Summary → List Item → Outside → Outside → Type 0
+AnsweredWith found u v summary commands begun now = (a : Answered found u v commands begun now) × (summary ≡ summary_of a.answers)
+
 -- nothing was taken
-pub Progress-new : (found : Found) (u v : View) (reader : Lines) (session : Session) (left written : Option (List ℕ)) (old new : Counts) → Stands reader [] → standing.Stands found.care v session (without_jobs found.first) → Since found.care found.first found.other u v → new.reads ≡ old.reads → old.removes ≤ new.removes
-    → Progress found u v reader session [] (shown left written old) (shown left written new)
-Progress-new found u v reader session left written old new reads stands since same removes = record {
+pub Progress-new : (found : Found) (u v : View) (reader : Lines) (session : Session) (summary : Summary) (quiet : Bool) (left written : Option (List ℕ)) (old new : Counts) → Stands reader [] → summary ≡ summary_of [] → standing.Stands found.care v session (without_jobs found.first) → Since found.care found.first found.other u v → new.reads ≡ old.reads → old.removes ≤ new.removes
+    → Progress found u v reader session summary [] (shown quiet left written old) (shown quiet left written new)
+Progress-new found u v reader session summary quiet left written old new reads counted stands since same removes = record {
   done = [];
   part = [];
   commands = [];
@@ -113,16 +120,18 @@ Progress-new found u v reader session left written old new reads stands since sa
   stands = stands;
   since = reaches_loaded found u v since;
   reads = reads;
+  quiet = refl;
   wrote = Appends-nil written;
+  counted = counted;
   faults = rose_by_none old.reads new.reads same;
   free = λ file evicts. absurd evicts;
   removes = removes;
   gone = inr (λ file evicts. absurd evicts);
 }
 
-module _ (found : Found) (u v : View) (reader : Lines) (session : Session) (taken : List ℕ) (begun now : Outside) (at : Progress found u v reader session taken begun now) where
+module _ (found : Found) (u v : View) (reader : Lines) (session : Session) (summary : Summary) (taken : List ℕ) (begun now : Outside) (at : Progress found u v reader session summary taken begun now) where
   -- more was taken, and no command ended in it
-  pub Progress-more : (reader' : Lines) (piece : List ℕ) → ((before : List ℕ) → Stands reader before → Stands reader' (before ++ piece)) → Progress found u v reader' session (taken ++ piece) begun now
+  pub Progress-more : (reader' : Lines) (piece : List ℕ) → ((before : List ℕ) → Stands reader before → Stands reader' (before ++ piece)) → Progress found u v reader' session summary (taken ++ piece) begun now
   Progress-more reader' piece reads = record {
     done = at.done;
     part = at.part ++ piece;
@@ -136,12 +145,23 @@ module _ (found : Found) (u v : View) (reader : Lines) (session : Session) (take
     stands = at.stands;
     since = at.since;
     reads = reads at.part at.reads;
+    quiet = at.quiet;
     wrote = at.wrote;
+    counted = at.counted;
     faults = at.faults;
     free = at.free;
     removes = at.removes;
     gone = at.gone;
   }
+
+  -- one answer more was written, and counted
+  wrote_next : (now' : Outside) (answer : Answer) → Appends now.written now'.written (answer_text now.quiet answer) → Appends begun.written now'.written (texts_of begun.quiet (at.answers ++ answer ∷ []))
+  wrote_next now' answer wrote =
+      subst (Appends begun.written now'.written) (texts_of-push begun.quiet at.answers answer)
+      (Appends-trans begun.written now.written now'.written _ _ at.wrote (subst (λ q. Appends now.written now'.written (answer_text q answer)) at.quiet wrote))
+
+  counted_next : (summary' : Summary) (answer : Answer) → summary' ≡ together summary (of_answer answer) → summary' ≡ summary_of (at.answers ++ answer ∷ [])
+  counted_next summary' answer adds = adds ∙ ap (λ s. together s (of_answer answer)) at.counted ∙ summary_of-push at.answers answer
 
   -- the bytes taken and what comes behind the command that ends in them
   joined : (piece more : List ℕ) → (taken ++ piece) ++ more ≡ at.done ++ ((at.part ++ piece) ++ more)
@@ -194,8 +214,8 @@ module _ (found : Found) (u v : View) (reader : Lines) (session : Session) (take
         ap all_items (joined piece more) ∙ at.ends ((at.part ++ piece) ++ more) ∙ ap (λ i. at.commands ++ i) (ended.ends more) ∙ sym (append_assoc at.commands (ended.spelled ∷ []) (all_items more))
 
     -- a command ended, and was answered
-    pub Progress-command : (w : View) (reader' : Lines) (session' : Session) (now' : Outside) → Stands reader' [] → Sends found.care v w at.machine given session' now now' → Progress found u w reader' session' (taken ++ piece) begun now'
-    Progress-command w reader' session' now' reads sent = record {
+    pub Progress-command : (w : View) (reader' : Lines) (session' : Session) (summary' : Summary) (now' : Outside) → Stands reader' [] → Sends found.care v w at.machine given session' summary summary' now now' → Progress found u w reader' session' summary' (taken ++ piece) begun now'
+    Progress-command w reader' session' summary' now' reads sent = record {
       done = taken ++ piece;
       part = [];
       commands = at.commands ++ ended.spelled ∷ [];
@@ -208,7 +228,9 @@ module _ (found : Found) (u v : View) (reader : Lines) (session : Session) (take
       stands = sent.performs.stands;
       since = since_next ended.spelled given ended.is_given w sent.performs.new sent.answer sent.performs.step sent.performs.since;
       reads = reads;
-      wrote = subst (Appends begun.written now'.written) (texts_of-push at.answers sent.answer) (Appends-trans begun.written now.written now'.written _ _ at.wrote sent.wrote);
+      quiet = sent.quiet ∙ at.quiet;
+      wrote = wrote_next now' sent.answer sent.wrote;
+      counted = counted_next summary' sent.answer sent.adds;
       faults = faults_next ended.spelled given ended.is_given now' sent.answer (sparing_front (at.part ++ piece) ended.spelled (ended.goes_on [])) sent.faults;
       gone = gone_next ended.spelled given ended.is_given w now' sent.performs.new sent.answer sent.performs.step sent.performs.leaves sent.performs.removes sent.performs.gone;
       free = free_next ended.spelled given ended.is_given sent.performs.new sent.answer sent.performs.step;
@@ -227,7 +249,7 @@ module _ (found : Found) (u v : View) (reader : Lines) (session : Session) (take
       run = run_next ended.spelled given ended.is_given sent.performs.new sent.answer sent.performs.step;
       part = sent.sent.part;
       rest = sent.sent.rest;
-      last_text = sent.sent.whole;
+      last_text = subst (λ q. answer_text q sent.answer ≡ sent.sent.part ++ sent.sent.rest) at.quiet sent.sent.whole;
       lacks = sent.sent.lacks;
       wrote = Appends-trans begun.written now.written now'.written _ _ at.wrote sent.sent.wrote;
       faults = faults_next ended.spelled given ended.is_given now' sent.answer (sparing_front (at.part ++ piece) ended.spelled (ended.goes_on [])) sent.faults;
@@ -246,7 +268,7 @@ module _ (found : Found) (u v : View) (reader : Lines) (session : Session) (take
       answers = at.answers;
       machine = at.machine;
       run = at.run;
-      wrote = subst (λ o. Appends begun.written o (texts_of at.answers)) (sym broke.wrote) at.wrote;
+      wrote = subst (λ o. Appends begun.written o (texts_of begun.quiet at.answers)) (sym broke.wrote) at.wrote;
       faults = rose_by_since (faults_in at.answers) begun.counts.reads now.counts.reads now'.counts.reads at.faults broke.counts;
       gone = gone_still (EvictsIn found.care (without_jobs found.first) at.commands at.answers at.machine at.run) at.machine.state v w begun.counts now.counts now'.counts at.free broke.breaks.leaves broke.breaks.removes at.gone;
       answer = broke.breaks.answer;
@@ -257,21 +279,21 @@ module _ (found : Found) (u v : View) (reader : Lines) (session : Session) (take
     }
 
   -- these are the commands that are ended
-  all_answered : {commands : List Item} → at.commands ≡ commands → Answered found u v commands begun now
-  all_answered same = subst (λ c. Answered found u v c begun now) same (record { answers = at.answers; machine = at.machine; run = at.run; wrote = at.wrote; faults = at.faults; gone = at.gone; left = at.stands.base.left; since = at.since })
+  all_answered : {commands : List Item} → at.commands ≡ commands → AnsweredWith found u v summary commands begun now
+  all_answered same = subst (λ c. AnsweredWith found u v summary c begun now) same (record { answers = at.answers; machine = at.machine; run = at.run; wrote = at.wrote; faults = at.faults; gone = at.gone; left = at.stands.base.left; since = at.since }, at.counted)
 
   -- the commands that are ended are all that the bytes taken spell so far
   pub Answered-taken : Answered found u v (items taken) begun now
   Answered-taken =
       let quiet : items at.part ≡ [] = ap items (sym (append-nil at.part)) ∙ items-unbroken _ _ at.part [] _ at.reads (λ k d h. absurd (omega (arith, h))) in
       let all : items taken ≡ at.commands = ap items at.whole ∙ at.goes_on at.part ∙ ap (λ i. at.commands ++ i) quiet ∙ append-nil at.commands in
-      all_answered (sym all)
+      (all_answered (sym all)).0
 
   all_items-taken : all_items taken ≡ at.commands ++ all_items at.part
   all_items-taken = ap all_items at.whole ∙ at.ends at.part
 
   -- the script ends, and leaves no command unfinished
-  pub Answered-end : ((before : List ℕ) → Stands reader before → all_items before ≡ []) → Answered found u v (all_items taken) begun now
+  pub Answered-end : ((before : List ℕ) → Stands reader before → all_items before ≡ []) → AnsweredWith found u v summary (all_items taken) begun now
   Answered-end none =
       let all : all_items taken ≡ at.commands = all_items-taken ∙ ap (λ i. at.commands ++ i) (none at.part at.reads) ∙ append-nil at.commands in
       all_answered (sym all)
@@ -281,17 +303,20 @@ module _ (found : Found) (u v : View) (reader : Lines) (session : Session) (take
     all_items-last = all_items-taken ∙ ap (λ i. at.commands ++ i) (last at.part at.reads).2
 
     -- the script ends with a command, which was answered
-    pub Answered-last : (w : View) (session' : Session) (now' : Outside) → Sends found.care v w at.machine given session' now now' → Answered found u w (all_items taken) begun now'
-    Answered-last w session' now' sent = subst (λ c. Answered found u w c begun now') (sym all_items-last) (record {
-      answers = at.answers ++ sent.answer ∷ [];
-      machine = sent.performs.new;
-      run = run_next (last at.part at.reads).0 given (last at.part at.reads).1 sent.performs.new sent.answer sent.performs.step;
-      wrote = subst (Appends begun.written now'.written) (texts_of-push at.answers sent.answer) (Appends-trans begun.written now.written now'.written _ _ at.wrote sent.wrote);
-      faults = faults_next (last at.part at.reads).0 given (last at.part at.reads).1 now' sent.answer (sparing_last at.part (last at.part at.reads).0 (last at.part at.reads).2) sent.faults;
-      gone = gone_next (last at.part at.reads).0 given (last at.part at.reads).1 w now' sent.performs.new sent.answer sent.performs.step sent.performs.leaves sent.performs.removes sent.performs.gone;
-      left = sent.performs.stands.base.left;
-      since = since_next (last at.part at.reads).0 given (last at.part at.reads).1 w sent.performs.new sent.answer sent.performs.step sent.performs.since;
-    })
+    pub Answered-last : (w : View) (session' : Session) (summary' : Summary) (now' : Outside) → Sends found.care v w at.machine given session' summary summary' now now' → AnsweredWith found u w summary' (all_items taken) begun now'
+    Answered-last w session' summary' now' sent = subst (λ c. AnsweredWith found u w summary' c begun now') (sym all_items-last) (
+      record {
+        answers = at.answers ++ sent.answer ∷ [];
+        machine = sent.performs.new;
+        run = run_next (last at.part at.reads).0 given (last at.part at.reads).1 sent.performs.new sent.answer sent.performs.step;
+        wrote = wrote_next now' sent.answer sent.wrote;
+        faults = faults_next (last at.part at.reads).0 given (last at.part at.reads).1 now' sent.answer (sparing_last at.part (last at.part at.reads).0 (last at.part at.reads).2) sent.faults;
+        gone = gone_next (last at.part at.reads).0 given (last at.part at.reads).1 w now' sent.performs.new sent.answer sent.performs.step sent.performs.leaves sent.performs.removes sent.performs.gone;
+        left = sent.performs.stands.base.left;
+        since = since_next (last at.part at.reads).0 given (last at.part at.reads).1 w sent.performs.new sent.answer sent.performs.step sent.performs.since;
+      },
+      counted_next summary' sent.answer sent.adds,
+    )
 
     pub AnsweredInPart-last : (w : View) (now' : Outside) → SendsInPart found.care v w at.machine given now now' → AnsweredInPart found u w (all_items taken) begun now'
     AnsweredInPart-last w now' sent = record {
@@ -304,7 +329,7 @@ module _ (found : Found) (u v : View) (reader : Lines) (session : Session) (take
       run = run_next (last at.part at.reads).0 given (last at.part at.reads).1 sent.performs.new sent.answer sent.performs.step;
       part = sent.sent.part;
       rest = sent.sent.rest;
-      last_text = sent.sent.whole;
+      last_text = subst (λ q. answer_text q sent.answer ≡ sent.sent.part ++ sent.sent.rest) at.quiet sent.sent.whole;
       lacks = sent.sent.lacks;
       wrote = Appends-trans begun.written now.written now'.written _ _ at.wrote sent.sent.wrote;
       faults = faults_next (last at.part at.reads).0 given (last at.part at.reads).1 now' sent.answer (sparing_last at.part (last at.part at.reads).0 (last at.part at.reads).2) sent.faults;
@@ -324,7 +349,7 @@ module _ (found : Found) (u v : View) (reader : Lines) (session : Session) (take
           answers = at.answers;
           machine = at.machine;
           run = at.run;
-          wrote = subst (λ o. Appends begun.written o (texts_of at.answers)) (sym broke.wrote) at.wrote;
+          wrote = subst (λ o. Appends begun.written o (texts_of begun.quiet at.answers)) (sym broke.wrote) at.wrote;
           faults = rose_by_since (faults_in at.answers) begun.counts.reads now.counts.reads now'.counts.reads at.faults broke.counts;
           gone = gone_still (EvictsIn found.care (without_jobs found.first) at.commands at.answers at.machine at.run) at.machine.state v w begun.counts now.counts now'.counts at.free broke.breaks.leaves broke.breaks.removes at.gone;
           answer = broke.breaks.answer;

@@ -1,11 +1,12 @@
 pub mod Crash
 pub mod Eviction
+pub mod Exits
 pub mod Loading
 pub mod Machine
 pub mod Outside
 pub mod Progress
 pub mod Run
 pub mod Sending
+pub mod Summary
 pub mod Turns
-pub mod Words
 pub mod Refusals

@@ -1,5 +1,5 @@
 -- What ends a run before its first command.
-use Rattle.std.specs.Prelude.{◌≡◌, ◌⊎◌, ℕ, ⊤}
+use Rattle.std.specs.Prelude.{◌⊎◌, ⊤}
 use Rattle.outside_traits.specs.Counts.{Rose}
 use Rattle.outside_traits.specs.View.{Counts}
 use Rattle.folder.specs.declared.refusal.LoadRefusal.{LoadRefusal}

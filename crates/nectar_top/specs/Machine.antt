@@ -1,5 +1,5 @@
 -- The abstract machine over a script: each command is the session's, and a refused one leaves the machine.
-use Rattle.std.specs.Prelude.{◌≡◌, ◌⊎◌, ℕ, List, [], ◌∷◌, flat_map}
+use Rattle.std.specs.Prelude.{◌≡◌, ◌⊎◌, ℕ, Bool, List, [], ◌∷◌, flat_map}
 use Rattle.script_text.specs.Answer.{answer_text}
 use Rattle.script_text.specs.declared.answer.Answer.{Answer}
 use Rattle.script_text.specs.declared.item.Item.{Item}
@@ -26,6 +26,6 @@ Run care old (command ∷ commands) (answer ∷ answers) new = (mid : Machine) �
 Run care old [] (answer ∷ answers) new = ⊥
 Run care old (command ∷ commands) [] new = ⊥
 
--- the text of answers, one after another
-abbrev pub texts_of : List Answer → List ℕ
-texts_of answers = flat_map answer_text answers
+-- the text of answers, one after another; a quiet one leaves the row lines out
+abbrev pub texts_of : Bool → List Answer → List ℕ
+texts_of quiet answers = flat_map (answer_text quiet) answers

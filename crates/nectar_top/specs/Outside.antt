@@ -1,17 +1,19 @@
--- What the program works on shows of itself.
-use Rattle.std.specs.Prelude.{◌≡◌, ℕ, ◌≤◌, List, Option}
+-- What is seen of a run from outside.
+use Rattle.std.specs.Prelude.{◌≡◌, ℕ, ◌≤◌, Bool, List, Option}
 use Rattle.outside_traits.specs.Counts.{Rose}
 use Rattle.outside_traits.specs.View.{Counts}
 use Rattle.outside_traits.specs.Calls.{Rises}
 
--- what the source has left and the sink has written, where they tell it, and the store's counts
+-- whether row lines are left out of what is written; what the source has left and the sink has written, where they tell it; and the
+-- store's counts
 pub record Outside : Type 0 where
+  pub quiet : Bool
   pub left : Option (List ℕ)
   pub written : Option (List ℕ)
   pub counts : Counts
 
-abbrev pub shown : Option (List ℕ) → Option (List ℕ) → Counts → Outside
-shown left written counts = record { left = left; written = written; counts = counts }
+abbrev pub shown : Bool → Option (List ℕ) → Option (List ℕ) → Counts → Outside
+shown quiet left written counts = record { quiet = quiet; left = left; written = written; counts = counts }
 
 -- the same, where only the sink and the store have changed
 abbrev pub with_answer : Outside → Option (List ℕ) → Counts → Outside

@@ -21,13 +21,15 @@ use Rattle.nectar_top.specs.Machine.{Step, Run, texts_of}
 use Rattle.nectar_top.specs.Outside.{Outside}
 use Rattle.nectar_top.specs.Refusals.{IsSparingItem, fault_in, faults_in, RoseBy}
 use Rattle.nectar_top.specs.Sending.{SentInPart}
+use Rattle.nectar_top.specs.Summary.{of_answer, summary_of, together}
 use Rattle.nectar_top.specs.declared.exit.Exit.{Exit}
 use Rattle.nectar_top.specs.declared.exit.Exit.TheVariants as exit
+use Rattle.nectar_top.specs.declared.summary.Summary.{Summary}
 
 -- of the bytes taken the commands that are ended were performed from the first state on and their answers written, the
--- session means the machine that they leave, each crash since leaves a state after some of them, the reader stands at the
--- rest, and what collections evicted has files that the state names no more
-pub record Progress (found : Found) (u v : View) (reader : Lines) (session : Session) (taken : List ℕ) (begun now : Outside) : Type 0 where
+-- session means the machine that they leave, the summary is that of their answers, each crash since leaves a state after some of them,
+-- the reader stands at the rest, and what collections evicted has files that the state names no more
+pub record Progress (found : Found) (u v : View) (reader : Lines) (session : Session) (summary : Summary) (taken : List ℕ) (begun now : Outside) : Type 0 where
   pub done : List ℕ
   pub part : List ℕ
   pub commands : List Item
@@ -40,7 +42,9 @@ pub record Progress (found : Found) (u v : View) (reader : Lines) (session : Ses
   pub stands : standing.Stands found.care v session machine
   pub since : Reaches found commands answers u v
   pub reads : Stands reader part
-  pub wrote : Appends begun.written now.written (texts_of answers)
+  pub quiet : now.quiet ≡ begun.quiet
+  pub wrote : Appends begun.written now.written (texts_of begun.quiet answers)
+  pub counted : summary ≡ summary_of answers
   pub faults : RoseBy (faults_in answers) begun.counts.reads now.counts.reads
   pub free : (file : ℕ) → EvictsIn found.care (without_jobs found.first) commands answers machine run file → IsFree (table machine.state) file
   pub removes : begun.counts.removes ≤ now.counts.removes
@@ -70,12 +74,14 @@ pub record Breaks (care : Care) (u v : View) (old : Machine) (command : Item) (b
   pub leaves : LeavesFree old.state u v
   pub removes : before.removes ≤ now.removes
 
--- a command was performed and its answer written, and the session means the machine after it
-pub record Sends (care : Care) (u v : View) (old : Machine) (command : Item) (session : Session) (before now : Outside) : Type 0 where
+-- a command was performed and its answer written and counted, and the session means the machine after it
+pub record Sends (care : Care) (u v : View) (old : Machine) (command : Item) (session : Session) (counted next : Summary) (before now : Outside) : Type 0 where
   pub answer : Answer
   pub performs : Performs care u v old command session answer before.counts now.counts
   pub faults : IsSparingItem command → RoseBy (fault_in answer) before.counts.reads now.counts.reads
-  pub wrote : Appends before.written now.written (answer_text answer)
+  pub quiet : now.quiet ≡ before.quiet
+  pub wrote : Appends before.written now.written (answer_text before.quiet answer)
+  pub adds : next ≡ together counted (of_answer answer)
 
 -- a command was performed, and a front of its answer written that lacks something
 pub record SendsInPart (care : Care) (u v : View) (old : Machine) (command : Item) (before now : Outside) : Type 0 where
@@ -83,7 +89,7 @@ pub record SendsInPart (care : Care) (u v : View) (old : Machine) (command : Ite
   pub answer : Answer
   pub performs : Performs care u v old command session answer before.counts now.counts
   pub faults : IsSparingItem command → RoseBy (fault_in answer) before.counts.reads now.counts.reads
-  pub sent : SentInPart before.written now.written (answer_text answer)
+  pub sent : SentInPart before.written now.written (answer_text before.quiet answer)
 
 -- the store failed in a command, of which no answer was written
 pub record BreaksOff (care : Care) (u v : View) (old : Machine) (command : Item) (before now : Outside) : Type 0 where

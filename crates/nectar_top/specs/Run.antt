@@ -1,7 +1,7 @@
 -- What a run of the program has done at each exit, from what the folder was found with, by what the source and the sink show
 -- before it and after it, and by what the store's crashes leave. Where the source doesn't tell what it has left, some input
 -- is meant.
-use Rattle.std.specs.Prelude.{◌≡◌, ℕ, ◌<◌, ◌≤◌, List, ◌∷◌, [], ◌++◌, length, ◌⊎◌}
+use Rattle.std.specs.Prelude.{◌≡◌, ℕ, ◌<◌, ◌≤◌, List, ◌∷◌, [], ◌++◌, length, Option, Some, ◌⊎◌}
 use Rattle.std.specs.List.{AllByRecursion}
 use Rattle.std.specs.Io.KnownBytes.{Consumes, IsAtEnd, Appends}
 use Rattle.outside_traits.specs.Bytes.{Takes}
@@ -23,6 +23,10 @@ use Rattle.nectar_top.specs.Refusals.{IsSparing, faults_in, RoseBy}
 abbrev pub longest_script : ℕ
 longest_script = 1073741824
 
+-- the source tells its whole script, which is no longer than that
+abbrev pub IsShortScript : Option (List ℕ) → List ℕ → Type 0
+IsShortScript left input = (left ≡ Some input) × (length input ≤ longest_script)
+
 -- These commands, none left out, in another order or twice, were performed from the first state on, with no job open, and the text
 -- of their answers was written, and nothing else. A failed read is told at most as often as the store's count of them rose, and where
 -- none is told none has failed. No file is there of what collections evicted, unless a removal failed. The store is left with the
@@ -31,7 +35,7 @@ pub record Answered (found : Found) (u v : View) (commands : List Item) (begun n
   pub answers : List Answer
   pub machine : Machine
   pub run : Run found.care (without_jobs found.first) commands answers machine
-  pub wrote : Appends begun.written now.written (texts_of answers)
+  pub wrote : Appends begun.written now.written (texts_of begun.quiet answers)
   pub faults : RoseBy (faults_in answers) begun.counts.reads now.counts.reads
   pub gone : AreGone (EvictsIn found.care (without_jobs found.first) commands answers machine run) v begun.counts now.counts
   pub left : IsLeft found.care v machine.state machine.state
@@ -77,9 +81,9 @@ pub record AnsweredInPart (found : Found) (u v : View) (commands : List Item) (b
   pub run : Run found.care (without_jobs found.first) performed (answers ++ last ∷ []) machine
   pub part : List ℕ
   pub rest : List ℕ
-  pub last_text : answer_text last ≡ part ++ rest
+  pub last_text : answer_text begun.quiet last ≡ part ++ rest
   pub lacks : 0 < length rest
-  pub wrote : Appends begun.written now.written (texts_of answers ++ part)
+  pub wrote : Appends begun.written now.written (texts_of begun.quiet answers ++ part)
   pub faults : RoseBy (faults_in (answers ++ last ∷ [])) begun.counts.reads now.counts.reads
   pub gone : AreGone (EvictsIn found.care (without_jobs found.first) performed (answers ++ last ∷ []) machine run) v begun.counts now.counts
   pub left : IsLeft found.care v machine.state machine.state
@@ -95,7 +99,7 @@ pub record BrokenOff (found : Found) (u v : View) (commands : List Item) (begun 
   pub answers : List Answer
   pub machine : Machine
   pub run : Run found.care (without_jobs found.first) performed answers machine
-  pub wrote : Appends begun.written now.written (texts_of answers)
+  pub wrote : Appends begun.written now.written (texts_of begun.quiet answers)
   pub faults : RoseBy (faults_in answers) begun.counts.reads now.counts.reads
   pub gone : AreGone (EvictsIn found.care (without_jobs found.first) performed answers machine run) v begun.counts now.counts
   pub answer : Answer

@@ -3,10 +3,11 @@
 #![tactic(auto)]
 
 pub mod exit;
+mod generated;
 pub mod program;
 mod sending;
 mod server;
-mod words;
+pub mod summary;
 
 pub use exit::Exit;
 pub use program::nectar;

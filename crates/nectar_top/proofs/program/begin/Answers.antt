@@ -9,8 +9,8 @@ use Rattle.outside_traits.proofs.RunLemmas.{narrows_none}
 use Rattle.nectar_top.proofs.program.begin.Goals as goal
 
 pub returns-in-Ok-load_folder-clause-server : goal.returns-in-Ok-load_folder-clause-server
-returns-in-Ok-load_folder-clause-server g c = λ told found left source sink.
-    Serving-new found _ _ _ _ source sink _ _ (Progress-new found _ _ _ _ source sink _ _ (subst (λ r. reader.Stands r []) (sym c.new.ensures.reader) c.in-Ok.ensures.room)
+returns-in-Ok-load_folder-clause-server g c = λ told found left quiet source sink.
+    Serving-new found _ _ _ _ _ quiet source sink _ _ (Progress-new found _ _ _ _ _ quiet source sink _ _ (subst (λ r. reader.Stands r []) (sym c.new.ensures.reader) c.in-Ok.ensures.room) c.new.ensures.summary
     (subst (λ s. Stands found.care (g.D.Store.view c.load_folder.new.store) s (without_jobs found.first)) (sym c.new.ensures.session) (c.in-Ok-load_folder.ensures.stands told found left)) (c.load_folder.ensures.since told found left) c.in-Ok-load_folder.ensures.no_fault.0 c.load_folder.ensures.counts.removes)
 
 pub returns-in-Ok-load_folder-clause-holds : goal.returns-in-Ok-load_folder-clause-holds
