@@ -165,6 +165,13 @@ impl MemStore {
         })
     }
 
+    /// The bytes that reads have taken.
+    pub fn taken(&self) -> u64
+        ensures { result ≡ (⟦<MemStore as Store>⟧.counts self.now).taken }
+    {
+        self.taken
+    }
+
     /// The file's bytes; none where it isn't there.
     pub fn bytes(&self, file: u64) -> &[u8]
         ensures { result.now ≡ (⟦<MemStore as Store>⟧.view self.now).files file }
