@@ -1,8 +1,8 @@
 //! Runs in which one call on the outside fails. The first argument is the most bytes of a read.
 
 use crate::runs::run_on;
-use crate::{script, shown};
 use anyhow::{Context, Result};
+use case_text::{script, shown};
 use mem_outside::{MemSink, MemSource, MemStore};
 use nectar_top::nectar;
 use std::alloc::Global;

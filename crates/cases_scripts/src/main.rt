@@ -1,14 +1,11 @@
 //! Cases of scripts: a case a line on standard input, and on standard output a line for each, what it gives.
-//! A case is the word of its subject and then its arguments, of which the last is a script, as `script.rt`
-//! reads it. A line that is empty or begins with `#` is no case.
+//! A case is the word of its subject and then its arguments, of which the last is a script, as
+//! `case_text` reads it. A line that is empty or begins with `#` is no case.
 #![tactic(auto)]
 
-mod answers;
+mod anew;
 mod faults;
-mod reading;
 mod runs;
-mod script;
-mod shown;
 mod stops;
 
 use anyhow::{Context, Result};
@@ -34,19 +31,17 @@ fn main(rt: HostRuntime) -> io::Result<()> {
 fn answer(alloc: Global, case: &str) -> Result<String> {
     let (subject, arguments) = case.split_once(' ').unwrap_or((case, ""));
     match subject {
-        "spells" => reading::spells(alloc, arguments),
-        "block" => reading::block(alloc, arguments),
-        "answer" => answers::answer(alloc, arguments),
-        "result" => answers::result(alloc, false, arguments),
-        "quiet" => answers::result(alloc, true, arguments),
         "run" => runs::run(alloc, arguments),
         "lengths" => runs::lengths(alloc, arguments),
         "over-std" => runs::over_std(alloc, arguments),
         "words" => runs::words(alloc, arguments),
+        "quiet" => runs::quiet(alloc, arguments),
+        "generate" => runs::generate(alloc, arguments),
         "reads" => faults::reads(alloc, arguments),
         "writes" => faults::writes(alloc, arguments),
         "looks" => faults::looks(alloc, arguments),
-        "anew" => stops::anew(alloc, arguments),
+        "anew" => anew::anew(alloc, arguments),
+        "taken" => anew::taken(alloc, arguments),
         "stops" => stops::stops(alloc, arguments),
         _ => None.context("no such subject"),
     }

@@ -1,7 +1,7 @@
 //! Runs of the whole program on a script.
 
-use crate::{script, shown};
 use anyhow::{Context, Result};
+use case_text::{script, shown};
 use mem_outside::{MemSink, MemSource, MemStore};
 use nectar_top::{Exit, nectar};
 use outside_traits::{ReaderSource, Sink, WriterSink};
@@ -50,6 +50,38 @@ pub fn over_std(alloc: Global, text: &str) -> Result<String> {
     };
     let answers = shown::lines(alloc, &writer.taken)?;
     Ok(format!(in alloc; "{exit:?}: {answers}")?)
+}
+
+/// The exit and the answers, with the row lines left out.
+pub fn quiet(alloc: Global, text: &str) -> Result<String> {
+    let script = script::bytes(alloc, text)?;
+    let mut source = MemSource::new(script, usize::MAX, Vec::new(alloc));
+    let mut sink = MemSink::new(alloc, Vec::new(alloc));
+    let mut store = MemStore::new(alloc, Vec::new(alloc));
+    let words = ["folder", "--quiet"];
+    let exit = nectar(alloc, &words, &mut source, &mut sink, &mut store);
+    let answers = shown::lines(alloc, sink.written())?;
+    Ok(format!(in alloc; "{exit:?}: {answers}")?)
+}
+
+/// The exit and what is written of the generated script of this number, which are the same on two empty
+/// folders.
+pub fn generate(alloc: Global, number: &str) -> Result<String> {
+    let first = generated(alloc, number)?;
+    if generated(alloc, number)? != first {
+        return None.context("another summary of the same script");
+    }
+    Ok(first)
+}
+
+fn generated(alloc: Global, number: &str) -> Result<String> {
+    let mut source = MemSource::new(Vec::new(alloc), 1, Vec::new(alloc));
+    let mut sink = MemSink::new(alloc, Vec::new(alloc));
+    let mut store = MemStore::new(alloc, Vec::new(alloc));
+    let words = ["folder", "--generate", number];
+    let exit = nectar(alloc, &words, &mut source, &mut sink, &mut store);
+    let summary = shown::lines(alloc, sink.written())?;
+    Ok(format!(in alloc; "{exit:?}: {summary}")?)
 }
 
 /// The exit on these words, each in `<` and `>`, and how many bytes are written.

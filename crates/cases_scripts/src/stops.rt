@@ -1,11 +1,11 @@
-//! Runs over a store that fails at some call and at each call behind it, and runs that load the folder anew
-//! before each command. Commands stand behind each other with ` ; ` between them; in front of them and of
-//! ` : ` stands a probe, a script whose answers tell the state.
+//! Runs over a store that fails at some call and at each call behind it. Commands stand behind each other with
+//! ` ; ` between them; in front of them and of ` : ` stands a probe, a script whose answers tell the state.
 
-use crate::{script, shown};
+use crate::anew::{outcome, script_of};
 use anyhow::{Context, Result};
-use mem_outside::{MemSink, MemSource, MemStore};
-use nectar_top::{Exit, nectar};
+use case_text::script;
+use mem_outside::MemStore;
+use nectar_top::Exit;
 use std::alloc::Global;
 
 /// The most calls that a run is tried with.
@@ -43,27 +43,6 @@ pub fn stops(alloc: Global, arguments: &str) -> Result<String> {
     None.context("too many calls")
 }
 
-/// The answers to the commands, each of which is given to a run of its own on the same folder: they are those
-/// of one run.
-pub fn anew(alloc: Global, commands: &str) -> Result<String> {
-    let mut store = MemStore::new(alloc, Vec::new(alloc));
-    let mut answers = Vec::new(alloc);
-    for command in commands.split(" ; ") {
-        let script = script::bytes(alloc, command)?;
-        let (exit, given) = outcome(alloc, &script, &mut store)?;
-        if exit != Exit::Done {
-            return None.context("a run isn't done");
-        }
-        answers.extend_from_slice(&given)?;
-    }
-    let whole = script_of(alloc, commands, usize::MAX)?;
-    let mut other = MemStore::new(alloc, Vec::new(alloc));
-    if outcome(alloc, &whole, &mut other)?.1 != answers {
-        return None.context("one run has other answers");
-    }
-    shown::lines(alloc, &answers)
-}
-
 // What the first commands come to, from none of them to all.
 fn prefixes_of(alloc: Global, commands: &str, probe: &[u8]) -> Result<Vec<Prefix>> {
     let count = commands.split(" ; ").count();
@@ -79,15 +58,6 @@ fn prefixes_of(alloc: Global, commands: &str, probe: &[u8]) -> Result<Vec<Prefix
         })?;
     }
     Ok(prefixes)
-}
-
-// The script of the first commands, as many as count.
-fn script_of(alloc: Global, commands: &str, count: usize) -> Result<Vec<u8>> {
-    let mut whole = Vec::new(alloc);
-    for command in commands.split(" ; ").take(count) {
-        whole.extend_from_slice(&script::bytes(alloc, command)?)?;
-    }
-    Ok(whole)
 }
 
 // Each image has the state after the commands whose answers have so many bytes, or after one more.
@@ -111,14 +81,4 @@ fn check_images(
         }
     }
     Ok(())
-}
-
-// The exit of a run, and its answers.
-fn outcome(alloc: Global, script: &[u8], store: &mut MemStore) -> Result<(Exit, Vec<u8>)> {
-    let bytes = Vec::from_slice(alloc, script)?;
-    let mut source = MemSource::new(bytes, usize::MAX, Vec::new(alloc));
-    let mut sink = MemSink::new(alloc, Vec::new(alloc));
-    let exit = nectar(alloc, &["folder"], &mut source, &mut sink, store);
-    let answers = Vec::from_slice(alloc, sink.written())?;
-    Ok((exit, answers))
 }

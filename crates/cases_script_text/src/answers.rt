@@ -1,7 +1,7 @@
 //! The texts of answers.
 
-use crate::shown;
 use anyhow::{Context, Result};
+use case_text::shown;
 use rows_core::{Digest, Name, Row, Seq, Value};
 use script_text::{Answer, LimitKind, Refusal, line_count, print_line};
 use std::alloc::Global;

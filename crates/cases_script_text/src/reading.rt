@@ -1,7 +1,7 @@
 //! What a script spells, taken in pieces.
 
-use crate::{script, shown};
 use anyhow::{Context, Result};
+use case_text::{script, shown};
 use plan_text::{NamedPlan, print_plan};
 use rows_core::{Column, Name, Text};
 use script_text::{Answer, Command, Item, Lines, Refusal, print_line};
@@ -77,7 +77,8 @@ fn push_command(alloc: Global, command: &Command, to: &mut Vec<u8>) -> Result<()
         Command::Run { name, plan } => push_run(alloc, b"run ", name, plan, to),
         Command::Fetch { name, as_run } => push_fetch(name, *as_run, to),
         Command::Collect { bytes } => push_collect(alloc, *bytes, to),
-        Command::Entries => push_entries(to),
+        Command::Entries => push_line(b"entries\n", to),
+        Command::Catalog => push_line(b"catalog\n", to),
         Command::OpenJob { job, name, plan } => {
             push_words(b"open ", job, b" ", to)?;
             push_run(alloc, b"", name, plan, to)
@@ -142,8 +143,8 @@ fn push_collect(alloc: Global, bytes: u64, to: &mut Vec<u8>) -> Result<()> {
     Ok(())
 }
 
-fn push_entries(to: &mut Vec<u8>) -> Result<()> {
-    to.extend_from_slice(b"entries\n")?;
+fn push_line(line: &[u8], to: &mut Vec<u8>) -> Result<()> {
+    to.extend_from_slice(line)?;
     Ok(())
 }
 
