@@ -6,7 +6,7 @@ use Rattle.catalog_types.specs.PlainEntry.{PlainEntry, PlainNewEntry}
 use Rattle.entry_table.specs.declared.keys.Keys.{Keys}
 use Rattle.entry_table.specs.Ids.{ids_of, ascend_above, is_among, without}
 use Rattle.entry_table.specs.Keying.{keyed_entries}
-use Rattle.entry_table.specs.Results.{AreNew, Differ, IsNewTo, IsOf, IsResult}
+use Rattle.entry_table.specs.Results.{AreNew, Differ, IsNewTo, IsOf, IsResult, IsShort}
 use Rattle.entry_table.specs.Work.{Kept, used, with_uses, with_use, new_entry, new_entries, after_work}
 use Rattle.entry_table.specs.Keyed.{Digests, keys_of}
 use Rattle.entry_table.specs.AreKept.{AreKept, AreAlike, IsEntry, NoTwoAreAlike}
@@ -111,6 +111,10 @@ pub all-map : {A : Type 0} (P Q : A → Type 0) → ((x : A) → P x → Q x) �
 all-map P Q f [] all = tt
 all-map P Q f (x ∷ xs) all = (f x all.0, all-map P Q f xs all.1)
 
+pub all-both : {A : Type 0} (P Q : A → Type 0) (xs : List A) → AllByRecursion P xs → AllByRecursion Q xs → AllByRecursion (λ x. P x × Q x) xs
+all-both P Q [] all others = tt
+all-both P Q (x ∷ xs) all others = ((all.0, others.0), all-both P Q xs all.1 others.1)
+
 pub all-append : (P : PlainEntry → Type 0) (xs ys : List PlainEntry) → AllByRecursion P xs → AllByRecursion P ys → AllByRecursion P (xs ++ ys)
 all-append P [] ys front behind = behind
 all-append P (x ∷ xs) ys front behind = (front.0, all-append P xs ys front.1 behind)
@@ -147,11 +151,12 @@ entry-used tick e is = (
     counted = omega (arith, is.counted);
     machine = is.machine;
     short = is.short;
+    plan = is.plan;
   },
 )
 
-entry-new : (tick id : ℕ) (k : Keys) (new : PlainNewEntry) → IsResult new → IsEntry (new_entry tick id k new)
-entry-new tick id k new is = record { used = omega arith; counted = omega arith; machine = is.1; short = is.0 }
+entry-new : (tick id : ℕ) (k : Keys) (new : PlainNewEntry) → IsResult new × IsShort new → IsEntry (new_entry tick id k new)
+entry-new tick id k new is = record { used = omega arith; counted = omega arith; machine = is.0.1; short = is.0.0; plan = is.1 }
 
 -- ---- entries that are alike
 
@@ -221,8 +226,8 @@ worked tick reads dropped keys news k = record {
 }
 
 pub work-keeps : (tick : ℕ) (reads dropped : List ℕ) (keys : List Keys) (news : List PlainNewEntry) (k : Kept) → length keys ≡ length news
-    → AreNew k.entries dropped news → AreKept k → AreKept (worked tick reads dropped keys news k)
-work-keeps tick reads dropped keys news k many new is =
+    → AreNew k.entries dropped news → AllByRecursion IsShort news → AreKept k → AreKept (worked tick reads dropped keys news k)
+work-keeps tick reads dropped keys news k many new short is =
     let stay = with_uses tick reads (without dropped k.entries) in
     let come = keyed_entries tick k.next_id keys news in
     let same = ids-used tick reads (without dropped k.entries) in
@@ -241,7 +246,7 @@ work-keeps tick reads dropped keys news k many new is =
           omega (arith, long, stays, comes, new.few);
       are_entries = all-append IsEntry stay come
           (all-used IsEntry IsEntry tick reads (λ e it. entry-used tick e it) (without dropped k.entries) (all-without IsEntry dropped k.entries is.are_entries))
-          (all-keyed IsResult IsEntry tick (λ id ks n it. entry-new tick id ks n it) k.next_id keys news new.results);
+          (all-keyed (λ n. IsResult n × IsShort n) IsEntry tick (λ id ks n it. entry-new tick id ks n it) k.next_id keys news (all-both IsResult IsShort news new.results short));
       differ = differ-append stay come (differ-used tick reads (without dropped k.entries) (differ-without dropped k.entries is.differ)) (differ-keyed tick k.next_id keys news new.differ)
           (across tick k.next_id reads dropped keys news k.entries new.new);
     }

@@ -3,3 +3,5 @@ pub mod Places
 pub mod Growth
 pub mod Files
 pub mod Past
+pub mod KeyedEntries
+pub mod Restored

@@ -1,5 +1,7 @@
 -- Lists of entries: some left out, some used, and new ones behind.
-use Rattle.std.proofs.Common.{◌≡◌, ℕ, zero, suc, ◌+◌, ◌<◌, ◌≤◌, Bool, true, false, not, cond, List, [], ◌∷◌, ◌++◌, length, map, get_or, take, drop, slice_set, refl, ap, arith}
+use Rattle.std.proofs.Common.{◌≡◌, ℕ, zero, suc, ◌+◌, ◌<◌, ◌≤◌, ◌==◌, Bool, true, false, not, cond, List, [], ◌∷◌, ◌++◌, length, map, get_or, take, drop, slice_set, refl, sym, ap, subst, ◌∙◌, arith}
+use Rattle.std.proofs.lemmas.Bool.{eqb-true}
+use Rattle.std.proofs.lemmas.List.{nil_from_length}
 use Rattle.catalog_types.specs.PlainEntry.{PlainEntry, PlainNewEntry}
 use Rattle.entry_table.specs.declared.keys.Keys.{Keys}
 use Rattle.entry_table.specs.Ids.{is_among, without}
@@ -15,6 +17,26 @@ without-within ids (e ∷ es) = by (not (is_among ids e.id)) (without-within ids
     by : (b : Bool) → length (without ids es) ≤ length es → length (cond b (e ∷ without ids es) (without ids es)) ≤ suc (length es)
     by true rest = omega (arith, rest)
     by false rest = omega (arith, rest)
+
+-- no id is told where their list is empty
+none-told : (ids : List ℕ) (empty : Bool) → empty ≡ (length ids == 0) → empty ≡ true → ids ≡ []
+none-told ids empty is told = nil_from_length ids (eqb-true (length ids) 0 (sym is ∙ told))
+
+-- all are left then
+pub without-none : (ids : List ℕ) (es : List PlainEntry) (empty : Bool) → empty ≡ (length ids == 0) → empty ≡ true → es ≡ without ids es
+without-none ids es empty is told = subst (λ (ids : List ℕ). es ≡ without ids es) (sym (none-told ids empty is told)) (all-left es)
+  where
+    all-left : (es : List PlainEntry) → es ≡ without [] es
+    all-left [] = refl
+    all-left (e ∷ es) = ap (λ (es : List PlainEntry). e ∷ es) (all-left es)
+
+-- none has a use more then
+pub uses-none : (tick : ℕ) (ids : List ℕ) (es : List PlainEntry) (empty : Bool) → empty ≡ (length ids == 0) → empty ≡ true → es ≡ with_uses tick ids es
+uses-none tick ids es empty is told = subst (λ (ids : List ℕ). es ≡ with_uses tick ids es) (sym (none-told ids empty is told)) (all-stay es)
+  where
+    all-stay : (es : List PlainEntry) → es ≡ with_uses tick [] es
+    all-stay [] = refl
+    all-stay (e ∷ es) = ap (λ (es : List PlainEntry). e ∷ es) (all-stay es)
 
 pub uses-length : (tick : ℕ) (ids : List ℕ) (es : List PlainEntry) → length (with_uses tick ids es) ≡ length es
 uses-length tick ids [] = refl

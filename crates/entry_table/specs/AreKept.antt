@@ -2,17 +2,20 @@
 use Rattle.std.specs.Prelude.{◌≡◌, ℕ, ◌<◌, ◌≤◌, nat_lt, List, [], ◌∷◌, length, IsTrue}
 use Rattle.std.specs.Coded.{Coded-set, coded_bool, le_prop}
 use Rattle.std.specs.List.{AllByRecursion, AllByRecursion-prop, list_all}
+use Rattle.plan_spelling.specs.Spelling.{plan_spelling}
 use Rattle.catalog_types.specs.PlainEntry.{PlainEntry}
 use Rattle.entry_table.specs.Ids.{ids_of, ascend_above}
-use Rattle.entry_table.specs.Results.{most_entries, most_result_bytes}
+use Rattle.entry_table.specs.Results.{most_entries, most_plan_bytes, most_result_bytes}
 use Rattle.entry_table.specs.Work.{Kept, most_uses}
 
--- it was used at least once, which is its making, its machine time isn't 0, and its file is short enough
+-- it was used at least once, which is its making, its machine time isn't 0, and its file and its plan's spelling are short
+-- enough
 pub record IsEntry (e : PlainEntry) : Type 0 where
   pub used : 0 < e.uses
   pub counted : e.uses ≤ most_uses
   pub machine : 0 < e.machine
   pub short : e.file.len ≤ most_result_bytes
+  pub plan : length (plan_spelling e.plan) ≤ most_plan_bytes
 
 -- it was made at or before its last use, which was at or before this tick
 abbrev pub IsPast : ℕ → PlainEntry → Type 0
@@ -43,6 +46,7 @@ IsEntry-prop e x y = λ i. record {
   counted = le_prop x.counted y.counted i;
   machine = le_prop x.machine y.machine i;
   short = le_prop x.short y.short i;
+  plan = le_prop x.plan y.plan i;
 }
 
 pub not-prop : (A : Type 0) → IsProp (¬ A)

@@ -5,3 +5,4 @@ pub mod Work
 pub mod Keying
 pub mod AreKept
 pub mod Tables
+pub mod Restoring

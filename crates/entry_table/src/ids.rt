@@ -39,6 +39,9 @@ pub(crate) fn is_among(ids: &[u32], id: u32) -> bool
 pub(crate) fn count_without(entries: &[Entry], ids: &[u32]) -> usize
     ensures { result ≡ length (without ids.now entries.now) }
 {
+    if ids.is_empty() {
+        return entries.len();
+    }
     let mut count = 0;
     for entry in entries {
         if !is_among(ids, entry.id) {

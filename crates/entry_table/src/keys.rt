@@ -1,11 +1,13 @@
 //! The keys of kept results.
 ghost use Rattle.std.specs.Prelude.{◌≡◌, ◌++◌, IfOk, OnOk, map};
 ghost use Rattle.std.specs.List.{AllByRecursion};
+ghost use Rattle.plan_core.specs.PlainPlan.{plan_of};
 ghost use Rattle.plan_spelling.specs.Spelling.{HasPlanSpelling};
-ghost use Rattle.entry_table.specs.Keyed.{Digests, chain_at, chains_at, keys_of};
+ghost use Rattle.entry_table.specs.Keyed.{Digests, chain_at, chains_at, keys_at, keys_of};
 
 use catalog_types::NewEntry;
 use fingerprints::{data_key, program_key};
+use plan_core::Plan;
 use rows_core::{Cut, Digest, Memory};
 use std::alloc::Global;
 
@@ -30,15 +32,21 @@ pub trait Chains {
 }
 
 impl Keys {
-    /// The keys of a new result.
-    pub fn of<C: Chains>(alloc: Global, chains: &C, new: &NewEntry) -> Result<Keys, Memory>
-        requires { HasPlanSpelling new.now.plan }
-        ensures { IfOk result (λ keys. keys ≡ keys_of (C.digests chains.now) new.now) }
+    /// The keys of a plan and its cut.
+    pub fn of<C: Chains>(
+        alloc: Global,
+        chains: &C,
+        plan: &Plan,
+        cuts: &[Cut],
+    ) -> Result<Keys, Memory>
+        requires { HasPlanSpelling (plan_of plan.now) }
+        ensures { IfOk result
+            (λ keys. keys ≡ keys_at (C.digests chains.now) (plan_of plan.now) cuts.now) }
     {
-        let program = program_key(alloc, &new.plan)?;
-        let leaves = new.plan.leaves(alloc)?;
+        let program = program_key(alloc, plan)?;
+        let leaves = plan.leaves(alloc)?;
         let mut found = Vec::new(alloc);
-        put_chains(chains, &leaves, new.cuts.items(), &mut found)?;
+        put_chains(chains, &leaves, cuts, &mut found)?;
         Ok(Keys {
             program,
             key: data_key(&program, &found),
@@ -56,7 +64,7 @@ impl Keys {
     {
         let mut keys = Vec::with_capacity(alloc, kept.len())?;
         for new in kept {
-            keys.push(Keys::of(alloc, chains, new)?)?;
+            keys.push(Keys::of(alloc, chains, &new.plan, new.cuts.items())?)?;
         }
         Ok(keys)
     }

@@ -1,9 +1,9 @@
 //! Laws of kept results.
-ghost use Rattle.std.specs.Prelude.{ℕ, ◌+◌, ◌≤◌, List, length};
+ghost use Rattle.std.specs.Prelude.{◌≡◌, ℕ, ◌+◌, ◌≤◌, List, length, map};
 ghost use Rattle.std.specs.List.{AllByRecursion};
-ghost use Rattle.catalog_types.specs.PlainEntry.{PlainNewEntry};
+ghost use Rattle.catalog_types.specs.PlainEntry.{PlainEntry, PlainNewEntry};
 ghost use Rattle.entry_table.specs.AreKept.{IsPast};
-ghost use Rattle.entry_table.specs.Keyed.{Digests};
+ghost use Rattle.entry_table.specs.Keyed.{Digests, IsKeyed, with_keys};
 ghost use Rattle.entry_table.specs.Results.{HaveNextFiles, file_end};
 ghost use Rattle.entry_table.specs.Work.{Kept, after_work, after_collection};
 
@@ -22,4 +22,19 @@ pub fn entries_are_past()
     ensures collection { (before tick : ℕ) (ids : List ℕ) (k : Kept) → before ≤ tick
         → AllByRecursion (IsPast before) k.entries
         → AllByRecursion (IsPast tick) (after_collection ids k).entries }
+{}
+
+/// Entries have the keys of their plans and cuts: work and collections keep that, and it is so with those that
+/// are given these keys, which changes no others.
+pub fn entries_are_keyed()
+    ensures work { (digests : Digests) (tick : ℕ) (reads dropped : List ℕ) (news : List PlainNewEntry)
+        (k : Kept) → AllByRecursion (IsKeyed digests) k.entries
+        → AllByRecursion (IsKeyed digests) (after_work digests tick reads dropped news k).entries }
+    ensures collection { (digests : Digests) (ids : List ℕ) (k : Kept)
+        → AllByRecursion (IsKeyed digests) k.entries
+        → AllByRecursion (IsKeyed digests) (after_collection ids k).entries }
+    ensures made { (digests : Digests) (entries : List PlainEntry)
+        → AllByRecursion (IsKeyed digests) (map (with_keys digests) entries) }
+    ensures same { (digests : Digests) (entries : List PlainEntry)
+        → AllByRecursion (IsKeyed digests) entries → map (with_keys digests) entries ≡ entries }
 {}

@@ -4,6 +4,7 @@
 mod ids;
 mod keys;
 pub mod laws;
+mod restoring;
 mod results;
 mod table;
 mod uses;

@@ -3,32 +3,35 @@ ghost use Rattle.std.specs.Prelude.{◌≡◌, ◌↔◌, ◌+◌, ◌≤◌, le
 ghost use Rattle.std.specs.List.{AllByRecursion};
 ghost use Rattle.plan_core.specs.PlainPlan.{plan_of};
 ghost use Rattle.plan_spelling.specs.Spelling.{HasPlanSpelling, plan_spelling};
+ghost use Rattle.fingerprints.specs.Keys as fingerprints;
 ghost use Rattle.entry_table.specs.Ids.{is_among, without};
+ghost use Rattle.entry_table.specs.Keyed.{IsOfItsPlan};
 ghost use Rattle.entry_table.specs.Results.{MayBeKept, HaveNextFiles, IsResult, IsNewTo, Differ, IsOf};
 ghost use Rattle.entry_table.specs.Results.{AreNew, IsShort, most_entries};
 
 use crate::ids::{count_without, is_among};
 use catalog_types::{Entry, NewEntry};
 use estimator::are_same_cuts;
+use fingerprints::program_key;
 use plan_core::Plan;
 use plan_spelling::spell;
-use rows_core::{Cut, Memory};
+use rows_core::{Cut, Digest, Memory};
 use std::alloc::Global;
 
 /// The most entries.
-const MAX_ENTRIES: usize = 4_096;
+pub(crate) const MAX_ENTRIES: usize = 4_096;
 
 /// The most bytes of a result's file.
-const MAX_RESULT_BYTES: u64 = 67_108_864;
+pub(crate) const MAX_RESULT_BYTES: u64 = 67_108_864;
 
 /// The most bytes of a plan's spelling.
-const MAX_PLAN_BYTES: usize = 65_536;
+pub(crate) const MAX_PLAN_BYTES: usize = 65_536;
 
 /// The number behind the last file's.
 const FILE_END: u64 = 4_294_967_296;
 
-/// Whether new results may be kept where these of the entries are dropped. It asks for memory only where all
-/// but the lengths of the plans' spellings are right.
+/// Whether new results may be kept where these of the entries are dropped. It asks for memory, for the plans'
+/// spellings, only where all is right that is told without them.
 pub(crate) fn may_be_kept(
     alloc: Global,
     entries: &[Entry],
@@ -37,23 +40,32 @@ pub(crate) fn may_be_kept(
     kept: &[NewEntry],
 ) -> Result<bool, Memory>
     requires few { length entries.now ≤ most_entries }
+    requires keyed { AllByRecursion IsOfItsPlan entries.now }
     requires spelled { AllByRecursion (λ new. HasPlanSpelling new.plan) kept.now }
     ensures { IfOk result (λ may. IsTrue may ↔ MayBeKept entries.now dropped.now next_file kept.now) }
 {
-    if !are_new(entries, dropped, kept) || !have_next_files(next_file, kept) {
+    if !have_next_files(next_file, kept) || !are_new(alloc, entries, dropped, kept)? {
         return Ok(false);
     }
     are_short(alloc, kept)
 }
 
-fn are_new(entries: &[Entry], dropped: &[u32], kept: &[NewEntry]) -> bool
-    requires { length entries.now ≤ most_entries }
-    ensures { IsTrue result ↔ AreNew entries.now dropped.now kept.now }
+fn are_new(
+    alloc: Global,
+    entries: &[Entry],
+    dropped: &[u32],
+    kept: &[NewEntry],
+) -> Result<bool, Memory>
+    requires few { length entries.now ≤ most_entries }
+    requires keyed { AllByRecursion IsOfItsPlan entries.now }
+    requires spelled { AllByRecursion (λ new. HasPlanSpelling new.plan) kept.now }
+    ensures { IfOk result (λ are. IsTrue are ↔ AreNew entries.now dropped.now kept.now) }
 {
-    are_few(entries, dropped, kept)
-        && are_results(kept)
-        && are_new_to(entries, dropped, kept)
-        && differ(kept)
+    if are_few(entries, dropped, kept) && are_results(kept) && differ(kept) {
+        are_new_to(alloc, entries, dropped, kept)
+    } else {
+        Ok(false)
+    }
 }
 
 fn are_few(entries: &[Entry], dropped: &[u32], kept: &[NewEntry]) -> bool
@@ -93,29 +105,51 @@ fn is_result(new: &NewEntry) -> bool
     new.file.len <= MAX_RESULT_BYTES && 0 < new.machine
 }
 
-fn are_new_to(entries: &[Entry], dropped: &[u32], kept: &[NewEntry]) -> bool
-    ensures { IsTrue result ↔ AllByRecursion (IsNewTo entries.now dropped.now) kept.now }
+fn are_new_to(
+    alloc: Global,
+    entries: &[Entry],
+    dropped: &[u32],
+    kept: &[NewEntry],
+) -> Result<bool, Memory>
+    requires keyed { AllByRecursion IsOfItsPlan entries.now }
+    requires spelled { AllByRecursion (λ new. HasPlanSpelling new.plan) kept.now }
+    ensures { IfOk result
+        (λ are. IsTrue are ↔ AllByRecursion (IsNewTo entries.now dropped.now) kept.now) }
 {
-    match kept {
-        [] => true,
-        [new, others @ ..] => {
-            is_new_to(entries, dropped, new) && are_new_to(entries, dropped, others)
-        }
+    let [new, others @ ..] = kept else {
+        return Ok(true);
+    };
+    let program = program_key(alloc, &new.plan)?;
+    if is_new_to(entries, dropped, &program, new) {
+        are_new_to(alloc, entries, dropped, others)
+    } else {
+        Ok(false)
     }
 }
 
-// Whether no entry has its plan and cut, but for those that are dropped.
-fn is_new_to(entries: &[Entry], dropped: &[u32], new: &NewEntry) -> bool
+// Whether no entry has its plan, of this program key, and its cut, but for those that are dropped.
+fn is_new_to(entries: &[Entry], dropped: &[u32], program: &Digest, new: &NewEntry) -> bool
+    requires keyed { AllByRecursion IsOfItsPlan entries.now }
+    requires program { program.now ≡ fingerprints.program_key new.now.plan }
     ensures { IsTrue result ↔ IsNewTo entries.now dropped.now new.now }
 {
     match entries {
         [] => true,
         [entry, others @ ..] => {
-            let is_free = !is_of(&entry.plan, entry.cuts.items(), new)
-                || is_among(dropped, entry.id);
-            is_free && is_new_to(others, dropped, new)
+            let is_free = !is_entry_of(entry, program, new) || is_among(dropped, entry.id);
+            is_free && is_new_to(others, dropped, program, new)
         }
     }
+}
+
+// Whether it has the plan, of this program key, and the cut of a new result. Plans are compared only where the
+// keys are the same.
+fn is_entry_of(entry: &Entry, program: &Digest, new: &NewEntry) -> bool
+    requires keyed { IsOfItsPlan entry.now }
+    requires program { program.now ≡ fingerprints.program_key new.now.plan }
+    ensures { IsTrue result ↔ IsOf entry.now.plan entry.now.cuts new.now }
+{
+    entry.program.is_same(program) && is_of(&entry.plan, entry.cuts.items(), new)
 }
 
 // Whether no two of them have the same plan and cut.
@@ -145,7 +179,7 @@ fn differ_from(new: &NewEntry, others: &[NewEntry]) -> bool
 fn is_of(plan: &Plan, cuts: &[Cut], new: &NewEntry) -> bool
     ensures { IsTrue result ↔ IsOf (plan_of plan.now) cuts.now new.now }
 {
-    plan.is_same(&new.plan) && are_same_cuts(cuts, new.cuts.items())
+    are_same_cuts(cuts, new.cuts.items()) && plan.is_same(&new.plan)
 }
 
 // Whether the spelling of each plan is short enough.

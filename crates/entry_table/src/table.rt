@@ -7,6 +7,7 @@ ghost use Rattle.entry_table.specs.Work.{kept_with};
 
 use crate::ids::{are_apart, are_ids_of, place_of};
 use crate::keys::{Chains, Keys};
+use crate::restoring::{are_kept, put_keys};
 use crate::results::may_be_kept;
 use crate::uses::{add_entries, add_uses, drop_entries};
 use catalog_types::{Entry, NewEntry};
@@ -29,10 +30,10 @@ pub struct EntryTable {
 }
 
 impl EntryTable {
-    ghost use Rattle.std.specs.Prelude.{option_copied, ◌==◌};
+    ghost use Rattle.std.specs.Prelude.{option_copied, ◌==◌, None, map, IfSome};
     ghost use Rattle.std.specs.List.{find};
-    ghost use Rattle.entry_table.specs.Keyed.{Digests, keys_of};
-    ghost use Rattle.entry_table.specs.Results.{AreNew};
+    ghost use Rattle.entry_table.specs.Keyed.{Digests, IsOfItsPlan, keys_of, with_keys};
+    ghost use Rattle.entry_table.specs.Results.{AreNew, IsShort};
     ghost use Rattle.entry_table.specs.Work.{FitsWork, FitsCollection, after_work, after_collection};
     ghost use Rattle.entry_table.specs.Work.{none_kept};
     ghost use Rattle.entry_table.specs.Tables.{kept_of, HasRoom, HasKeys};
@@ -47,6 +48,36 @@ impl EntryTable {
             spare_keys: Vec::new(alloc),
             alloc,
         }
+    }
+
+    /// The table of these entries with the keys of their plans and cuts over these chains, whatever keys they
+    /// come with. `None` exactly where they can't be those of a table with this next id: the ids don't ascend
+    /// from 1 on below the next one, two have the same plan and cut, there are more than the most, or one
+    /// wasn't used, has no machine time, or a file or a plan's spelling that is too long. `Memory` where that
+    /// is refused.
+    pub fn restored<C: Chains>(
+        alloc: Global,
+        chains: &C,
+        next_id: u64,
+        entries: Seq<Entry>,
+    ) -> Result<Option<EntryTable>, Memory>
+        requires { AllByRecursion (λ e. HasPlanSpelling e.plan) entries }
+        ensures some { IfOk result (λ restored. IfSome restored (λ table. kept_of table
+            ≡ kept_with next_id (map (with_keys (C.digests chains.now)) entries))) }
+        ensures none { IfOk result (λ restored. restored ≡ None
+            → AreKept (kept_with next_id (map (with_keys (C.digests chains.now)) entries)) → ⊥) }
+    {
+        let mut entries = entries.into_vec();
+        if !are_kept(alloc, next_id, entries.as_slice())? {
+            return Ok(None);
+        }
+        put_keys(alloc, chains, &mut entries)?;
+        Ok(Some(EntryTable {
+            next_id,
+            entries,
+            spare_keys: Vec::new(alloc),
+            alloc,
+        }))
     }
 
     /// The entries by their ids.
@@ -80,7 +111,8 @@ impl EntryTable {
     }
 
     /// Whether a piece of work fits: it reads entries with these ids, drops others and keeps these results,
-    /// whose files begin with the next one. `Memory` where that for a plan's spelling is refused.
+    /// whose files begin with the next one. `Memory` where that for a plan's spelling is refused. The
+    /// entries have the program keys of their plans, so only plans whose keys are the same are compared.
     pub fn fits_work(
         &self,
         next_file: u64,
@@ -88,7 +120,8 @@ impl EntryTable {
         dropped: &[u32],
         kept: &[NewEntry],
     ) -> Result<bool, Memory>
-        requires { AllByRecursion (λ new. HasPlanSpelling new.plan) kept.now }
+        requires spelled { AllByRecursion (λ new. HasPlanSpelling new.plan) kept.now }
+        requires keyed { AllByRecursion IsOfItsPlan (kept_of self.now).entries }
         ensures { IfOk result (λ fits. IsTrue fits
             ↔ FitsWork next_file reads.now dropped.now kept.now (kept_of self.now)) }
     {
@@ -120,6 +153,7 @@ impl EntryTable {
     pub fn apply_work(&mut self, tick: u32, reads: &[u32], dropped: &[u32], kept: Seq<NewEntry>)
         requires room { HasRoom kept self.old }
         requires new { AreNew (kept_of self.old).entries dropped.now kept }
+        requires short { AllByRecursion IsShort kept }
         requires ids { (kept_of self.old).next_id + length kept ≤ 4294967296 }
         ensures { (digests : Digests) → HasKeys digests kept self.old → kept_of self.new
             ≡ after_work digests tick reads.now dropped.now kept (kept_of self.old) }

@@ -13,6 +13,9 @@ pub(crate) fn add_uses(entries: &mut Vec<Entry>, tick: u32, ids: &[u32])
     ensures entries { entries.new.items ≡ with_uses tick ids.now entries.old.items }
     ensures room { vec_capacity entries.new ≡ vec_capacity entries.old }
 {
+    if ids.is_empty() {
+        return;
+    }
     for place in 0..entries.len() {
         add_use_of(&mut entries[place], tick, ids);
     }
@@ -40,6 +43,9 @@ pub(crate) fn drop_entries(entries: &mut Vec<Entry>, ids: &[u32])
     ensures entries { entries.new.items ≡ without ids.now entries.old.items }
     ensures room { vec_capacity entries.new ≡ vec_capacity entries.old }
 {
+    if ids.is_empty() {
+        return;
+    }
     entries.retain(|entry| !is_among(ids, entry.id));
 }
 

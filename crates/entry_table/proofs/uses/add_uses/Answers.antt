@@ -1,8 +1,12 @@
 use Rattle.std.proofs.Common.{◌≡◌, ◌<◌, ◌++◌, ◌∙◌, ap, rules, List, length, map, take, drop, get_or, slice_set, add-one, arith}
 use Rattle.catalog_types.specs.PlainEntry.{PlainEntry}
 use Rattle.entry_table.specs.Work.{used}
-use Rattle.entry_table.proofs.Lists.{changed-next}
+use Rattle.entry_table.proofs.Lists.{changed-next, uses-none}
 use Rattle.entry_table.proofs.uses.add_uses.Goals as goal
+
+pub returns-then-is_empty-clause-entries : goal.returns-then-is_empty-clause-entries
+returns-then-is_empty-clause-entries c =
+    uses-none c.args.tick c.args.ids.now c.args.entries.now.items c.is_empty.result c.is_empty.ensures c.if-is_empty.true
 
 pub loop-place-preserved : goal.loop-place-preserved
 loop-place-preserved c =

@@ -30,7 +30,7 @@ invariant_of-self c =
     let all : c.add_entries.new.entries.items ≡ with_uses tick reads (without dropped t.entries.items) ++ keyed_entries tick t.next_id t.spare_keys.items c.args.kept =
     c.add_entries.ensures ∙ (λ i. front i ++ keyed_entries tick t.next_id (keys i) (c.into_vec-kept.ensures i)) in
     let is = now-worked tick reads dropped t.spare_keys.items c.args.kept (kept_of t) c.len-count.result c.add_entries.new.entries.items count all in
-    record { sound = subst AreKept (sym is) (work-keeps tick reads dropped t.spare_keys.items c.args.kept (kept_of t) c.requires.room.0 c.requires.new t.sound) }
+    record { sound = subst AreKept (sym is) (work-keeps tick reads dropped t.spare_keys.items c.args.kept (kept_of t) c.requires.room.0 c.requires.new c.requires.short t.sound) }
 
 pub returns : goal.returns
 returns c =
