@@ -23,7 +23,7 @@ use Rattle.catalog_core.specs.Programs.{AreCuts}
 use Rattle.catalog_core.specs.Results.{IsEntryOver}
 use Rattle.catalog_core.specs.Table.{Table}
 
-all-at : {A : Type 0} (P : A → Type 0) (xs : List A) (x : A) → AllByRecursion P xs → Contains xs x → P x
+pub all-at : {A : Type 0} (P : A → Type 0) (xs : List A) (x : A) → AllByRecursion P xs → Contains xs x → P x
 all-at P xs x all has = All-contains P xs x (All-from_recursion P xs all) has
 
 -- each that is asked is one of the kept results

@@ -1,5 +1,5 @@
 -- Programs in the byte order of their names, and where a name belongs among them.
-use Rattle.std.proofs.Common.{◌≡◌, ℕ, zero, suc, ◌+◌, ◌<◌, ◌≤◌, Bool, true, false, cond, List, [], ◌∷◌, ◌++◌, length, map, take, drop, set, filter, slice_get, Some, IsTrue, ◌↔◌, refl, sym, ap, subst, ◌∙◌, arith, length-append, length-set}
+use Rattle.std.proofs.Common.{◌≡◌, ℕ, zero, suc, ◌+◌, ◌-◌, ◌<◌, ◌≤◌, Bool, true, false, cond, List, [], ◌∷◌, ◌++◌, length, map, take, drop, set, filter, get_or, slice_get, Some, IsTrue, ◌↔◌, refl, sym, ap, subst, ◌∙◌, arith, length-append, length-set}
 use Rattle.std.specs.List.{AllByRecursion}
 use Rattle.std.specs.List.Sorted.{IsStrictlySortedBy}
 use Rattle.std.specs.Ordering.{is_lt, is_eq, nat_cmp, ordering_reverse}
@@ -7,6 +7,7 @@ use Rattle.std.specs.declared.cmp.Ordering.{Ordering}
 use Rattle.std.specs.declared.cmp.Ordering.TheVariants.{Less, Equal, Greater}
 use Rattle.std.specs.Cmp.Lexicographic.{slice_cmp, texts_ties, bytes_decides}
 use Rattle.std.proofs.lemmas.Cmp.{nat_list_cmp_total}
+use Rattle.std.proofs.lemmas.List.{take_all}
 use Rattle.std.proofs.lemmas.List.Kept.{IsStrictlySortedBy-filter}
 use Rattle.catalog_types.specs.declared.program.Program.{Program}
 use Rattle.catalog_core.specs.Programs.{is_below, below, above, with_program, AreByName}
@@ -258,3 +259,30 @@ room-is program programs n false sorted count same most full = (
   where
     false-is : IsTrue false → ⊥
     false-is e = absurd (cc)
+
+-- ---- the order by neighbours
+
+-- in order where the first two are, and those from the second on
+pub by-name-next : (p q : Program) (others : List Program) → AreByName (p ∷ q ∷ others) ↔ ((is_below p.name q.name ≡ true) × AreByName (q ∷ others))
+unfolding IsStrictlySortedBy
+by-name-next p q others = (
+  λ sorted. (ap is_lt sorted.0.0, sorted.1),
+  λ at. (let less = is-less (order p.name q.name) at.0 in ((less, weaker (λ key e. nat_list_cmp_total.trans p.name q.name key less e) (names others) at.1.0), at.1)),
+)
+
+pub by-name-short : (programs : List Program) → length programs < 2 → AreByName programs
+unfolding IsStrictlySortedBy
+by-name-short [] short = tt
+by-name-short (p ∷ []) short = (tt, tt)
+by-name-short (p ∷ q ∷ others) short = absurd (omega (arith, short))
+
+-- the same at a list whose first two these are
+pub by-name-at : (programs : List Program) (p q : Program) → 2 ≤ length programs → p ≡ get_or programs 0 p → q ≡ get_or programs 1 q
+    → AreByName programs ↔ ((is_below p.name q.name ≡ true) × AreByName (take (length programs - 1) (drop 1 programs)))
+by-name-at [] p q long first second = absurd (omega (arith, long))
+by-name-at (a ∷ []) p q long first second = absurd (omega (arith, long))
+by-name-at (a ∷ b ∷ others) p q long first second =
+    let all : take (length (a ∷ b ∷ others) - 1) (b ∷ others) ≡ b ∷ others = take_all (length (a ∷ b ∷ others) - 1) (b ∷ others) (omega arith) in
+    subst (λ (rest : List Program). AreByName (a ∷ b ∷ others) ↔ ((is_below p.name q.name ≡ true) × AreByName rest)) (sym all)
+    (subst (λ (x : Program). AreByName (a ∷ b ∷ others) ↔ ((is_below x.name q.name ≡ true) × AreByName (b ∷ others))) (sym first)
+    (subst (λ (y : Program). AreByName (a ∷ b ∷ others) ↔ ((is_below a.name y.name ≡ true) × AreByName (b ∷ others))) (sym second) (by-name-next a b others)))

@@ -49,6 +49,10 @@ names-kept [] place x y low is same = absurd (omega (arith, low))
 names-kept (z ∷ zs) zero x y low is same = ap (λ (n : List ℕ). n ∷ map name_of zs) (same ∙ ap name_of is)
 names-kept (z ∷ zs) (suc n) x y low is same = ap (λ (ns : List (List ℕ)). name_of z ∷ ns) (names-kept zs n x y (omega (arith, low)) is same)
 
+-- the names stay where the streams do
+pub names-stay : (streams others : List CatalogStream) → states_of others ≡ states_of streams → map name_of streams ≡ map name_of others
+names-stay streams others same = names-states streams ∙ sym (ap names_of same) ∙ sym (names-states others)
+
 -- one stream more
 pub states-push : (streams : List CatalogStream) (x : CatalogStream) → states_of (streams ++ x ∷ []) ≡ states_of streams ++ state_of x ∷ []
 states-push [] x = refl

@@ -13,12 +13,13 @@ use Rattle.catalog_types.specs.PlainEntry.{PlainNewEntry}
 use Rattle.catalog_types.specs.declared.snapshot.StreamState.{StreamState}
 use Rattle.plan_binder.specs.Binding.{has_repeat, is_there}
 use Rattle.catalog_core.specs.Programs.{names_of, extents_at, AreByName, IsStored}
-use Rattle.catalog_core.specs.IsTable.{IsStream, IsTable}
+use Rattle.catalog_core.specs.IsTable.{IsExtent, IsStream, IsTable}
 use Rattle.catalog_core.proofs.ByName.{by-name-kept}
 use Rattle.catalog_core.proofs.OwnNumbers.{files-stream, files-append}
+use Rattle.catalog_core.proofs.StillKeyed.{keyed-stream, keyed-append}
 use Rattle.catalog_core.proofs.StoredPrograms.{stored-stream, stored-append, stored-more}
 use Rattle.catalog_core.proofs.OverStreams.{over-stream, over-append, past-tick, work-keeps-table, collection-keeps-table}
-use Rattle.catalog_core.specs.Table.{Table, place_of, extent_count, new_stream, with_extent, updated, most_ticks, most_extents, most_rows, most_programs, Fits, FitsStream, FitsAppend, FitsProgram, FitsWork, FitsCollection, after, with_programs, with_stored, with_tick}
+use Rattle.catalog_core.specs.Table.{Table, place_of, extent_count, new_stream, with_extent, updated, most_ticks, most_extents, most_rows, most_programs, Fits, FitsStream, FitsAppend, IsNextExtent, FitsProgram, FitsWork, FitsCollection, after, with_programs, with_stored, with_tick}
 
 -- ---- names that differ
 
@@ -68,7 +69,7 @@ names-added (x ∷ xs) stream = ap (λ (names : List (List ℕ)). x.name ∷ nam
 
 -- ---- a stream more
 
-all-push : {A : Type 0} (P : A → Type 0) (xs : List A) (y : A) → AllByRecursion P xs → P y → AllByRecursion P (xs ++ y ∷ [])
+pub all-push : {A : Type 0} (P : A → Type 0) (xs : List A) (y : A) → AllByRecursion P xs → P y → AllByRecursion P (xs ++ y ∷ [])
 all-push P [] y all last = (last, tt)
 all-push P (x ∷ xs) y all last = (all.0, all-push P xs y all.1 last)
 
@@ -80,7 +81,7 @@ stream-keeps name columns t fits is = record {
   last_file = is.last_file;
   names = ap (λ names. not (has_repeat names)) (names-added t.streams (new_stream name columns))
       ∙ ap not (no-repeat-push (names_of t.streams) name (untrue _ is.names) (absent-name t.streams name fits.absent));
-  are_streams = all-push IsStream t.streams (new_stream name columns) is.are_streams (record { schema = fits.schema; extents = omega arith; rows = omega arith });
+  are_streams = all-push IsStream t.streams (new_stream name columns) is.are_streams (record { schema = fits.schema; extents = omega arith; are_extents = tt; rows = omega arith });
   few_streams = let n = length-append t.streams (new_stream name columns ∷ []) in omega (arith, n, fits.room);
   few_extents = let n = sum_by-append (λ (s : StreamState). length s.extents) t.streams (new_stream name columns ∷ []) in omega (arith, n, is.few_extents);
   few_programs = is.few_programs;
@@ -88,6 +89,7 @@ stream-keeps name columns t fits is = record {
   stored = stored-stream t.streams (new_stream name columns) t.programs is.stored;
   kept = is.kept;
   over = over-stream t.streams (new_stream name columns) t.entries is.over;
+  keyed = keyed-stream t.streams (new_stream name columns) t.entries is.over is.keyed;
   past = is.past;
   ids = is.ids;
   own_files = files-stream t.next_file t.streams t.entries (new_stream name columns) refl is.own_files;
@@ -123,21 +125,25 @@ extents-counted (x ∷ xs) (suc n) extent low =
     let old = sum_by-cons (λ (s : StreamState). length s.extents) x xs in
     omega (arith, rest, new, old)
 
-grown-stream : (stream : StreamState) (extent : Extent) → IsStream stream → length stream.extents < most_extents → extent.rows ≤ most_rows → IsStream (with_extent extent stream)
-grown-stream stream extent is few rows =
+pub is-extent : (extent : Extent) (t : Table) → IsNextExtent extent t → IsExtent extent
+is-extent extent t is = record { has_row = is.has_row; short = is.short }
+
+grown-stream : (stream : StreamState) (extent : Extent) → IsStream stream → length stream.extents < most_extents → IsExtent extent → extent.rows ≤ most_rows → IsStream (with_extent extent stream)
+grown-stream stream extent is few is_extent rows =
     let long = length-append stream.extents (extent ∷ []) in
     let sum = sum_by-append (λ (e : Extent). e.rows) stream.extents (extent ∷ []) in
     record {
       schema = is.schema;
       extents = omega (arith, long, few);
+      are_extents = all-push IsExtent stream.extents extent is.are_extents is_extent;
       rows = omega (arith, long, sum, is.rows, rows);
     }
 
-streams-updated : (streams : List StreamState) (place : ℕ) (extent : Extent) → AllByRecursion IsStream streams → length (extents_at streams place) < most_extents → extent.rows ≤ most_rows
+streams-updated : (streams : List StreamState) (place : ℕ) (extent : Extent) → AllByRecursion IsStream streams → length (extents_at streams place) < most_extents → IsExtent extent → extent.rows ≤ most_rows
     → AllByRecursion IsStream (updated (with_extent extent) streams place)
-streams-updated [] place extent all few rows = tt
-streams-updated (x ∷ xs) zero extent all few rows = (grown-stream x extent all.0 few rows, all.1)
-streams-updated (x ∷ xs) (suc n) extent all few rows = (all.0, streams-updated xs n extent all.1 few rows)
+streams-updated [] place extent all few is rows = tt
+streams-updated (x ∷ xs) zero extent all few is rows = (grown-stream x extent all.0 few is rows, all.1)
+streams-updated (x ∷ xs) (suc n) extent all few is rows = (all.0, streams-updated xs n extent all.1 few is rows)
 
 pub append-keeps : (place : ℕ) (extent : Extent) (t : Table) → FitsAppend place extent t → IsTable t
     → IsTable (record t { next_file = t.next_file + 1; streams = updated (with_extent extent) t.streams place })
@@ -146,7 +152,7 @@ append-keeps place extent t fits is = record {
   first_file = omega arith;
   last_file = omega (arith, fits.is_next.numbered);
   names = ap (λ names. not (has_repeat names)) (names-updated t.streams place extent) ∙ is.names;
-  are_streams = streams-updated t.streams place extent is.are_streams fits.has_place.1 fits.is_next.rows;
+  are_streams = streams-updated t.streams place extent is.are_streams fits.has_place.1 (is-extent extent t fits.is_next) fits.is_next.rows;
   few_streams = let n = as-many-updated t.streams place extent in omega (arith, n, is.few_streams);
   few_extents = let n = extents-counted t.streams place extent fits.has_place.0 in omega (arith, n, fits.room_in_all);
   few_programs = is.few_programs;
@@ -154,9 +160,10 @@ append-keeps place extent t fits is = record {
   stored = stored-append t.streams place extent t.programs is.stored;
   kept = is.kept;
   over = over-append t.streams place extent t.entries is.over;
+  keyed = keyed-append t.streams place extent t.entries is.over is.keyed;
   past = is.past;
   ids = omega (arith, is.ids);
-  own_files = files-append t.next_file t.streams t.entries place extent fits.is_next.next is.own_files;
+  own_files = files-append t.next_file t.streams t.entries place extent is.first_file fits.has_place.0 fits.is_next.next is.own_files;
 }
 
 -- ---- a program stored, and a tick
@@ -183,6 +190,7 @@ program-keeps program t fits is = record {
   stored = stored-are program t fits is;
   kept = is.kept;
   over = is.over;
+  keyed = is.keyed;
   past = is.past;
   ids = is.ids;
   own_files = is.own_files;
@@ -202,6 +210,7 @@ tick-keeps t low is = record {
   stored = is.stored;
   kept = is.kept;
   over = is.over;
+  keyed = is.keyed;
   past = past-tick t.tick t.entries is.past;
   ids = is.ids;
   own_files = is.own_files;
@@ -236,4 +245,4 @@ change-keeps (change.Append place extent) t fits is =
     tick-keeps (record t { next_file = t.next_file + 1; streams = updated (with_extent extent) t.streams place }) fits.counted (append-keeps place extent t fits is)
 change-keeps (change.Work program reads dropped kept) t fits is = work-keeps program reads dropped kept t fits is
 change-keeps (change.Collect ids) t fits is = collection-keeps ids t fits is
-change-keeps (change.Checkpoint whole) t fits is = absurd fits
+change-keeps (change.Checkpoint whole) t fits is = fits.table

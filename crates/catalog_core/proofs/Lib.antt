@@ -10,6 +10,11 @@ pub mod Nested
 pub mod OverStreams
 pub mod OwnNumbers
 pub mod Places
+pub mod Restored
+pub mod Rising
+pub mod SortedFiles
+pub mod StillKeyed
 pub mod StoredPrograms
+pub mod StreamNames
 pub mod Texts
 pub mod Typings

@@ -13,10 +13,11 @@ use Rattle.catalog_types.specs.declared.snapshot.StreamState.{StreamState}
 use Rattle.entry_table.specs.AreKept.{AreKept, IsPast}
 use Rattle.entry_table.specs.Ids.{without}
 use Rattle.entry_table.specs.Keyed.{Digests, keys_of}
-use Rattle.entry_table.specs.Work.{with_use, with_uses, new_entries, after_work}
+use Rattle.entry_table.specs.Work.{with_use, with_uses, new_entries}
 use Rattle.entry_table.specs.Work as work
 use Rattle.entry_table.proofs.Files.{files-fit}
 use Rattle.entry_table.proofs.Growth.{all-map, all-append, all-without, all-used, work-keeps, worked-is, collection-keeps}
+use Rattle.entry_table.proofs.KeyedEntries.{keyed-work, keyed-collection}
 use Rattle.entry_table.proofs.Past.{past-work, past-collection}
 use Rattle.catalog_core.specs.Programs.{kinds_of_streams, extents_at, AreCuts}
 use Rattle.catalog_core.specs.Results.{IsOver, IsEntryOver, IsResultOver, digests_of}
@@ -112,10 +113,11 @@ work-keeps-table reads dropped kept t fits is =
       by_name = is.by_name;
       stored = is.stored;
       kept = subst AreKept (worked-is digests t.tick reads dropped keys kept k refl)
-          (work-keeps t.tick reads dropped keys kept k (length-map kept (keys_of digests)) fits.results.kept.are_new is.kept);
+          (work-keeps t.tick reads dropped keys kept k (length-map kept (keys_of digests)) fits.results.kept.are_new fits.results.kept.short is.kept);
       over = all-append (IsEntryOver t.streams) (with_uses t.tick reads (without dropped t.entries)) (new_entries digests t.tick t.next_id kept)
           (all-used (IsEntryOver t.streams) (IsEntryOver t.streams) t.tick reads (λ e over. use-over t.streams t.tick e over) (without dropped t.entries) (all-without (IsEntryOver t.streams) dropped t.entries is.over))
           (over-new t.streams digests t.tick t.next_id kept fits.over);
+      keyed = keyed-work digests t.tick reads dropped kept k is.keyed;
       past = past-work digests t.tick t.tick reads dropped kept k (le_refl t.tick) is.past;
       ids = omega (arith, is.ids);
       own_files = files-work digests t.tick t.next_id t.next_file reads dropped kept t.streams t.entries is.first_file fits.results.kept.files is.own_files;
@@ -137,6 +139,7 @@ collection-keeps-table ids t is = record {
   stored = is.stored;
   kept = collection-keeps ids (kept_of_table t) is.kept;
   over = all-without (IsEntryOver t.streams) ids t.entries is.over;
+  keyed = keyed-collection (digests_of t.streams) ids (kept_of_table t) is.keyed;
   past = past-collection t.tick t.tick ids (kept_of_table t) (le_refl t.tick) is.past;
   ids = is.ids;
   own_files = files-collection ids t.next_file t.streams t.entries is.own_files;

@@ -1,7 +1,7 @@
 -- The streams of a catalogue and of its table, and their names.
-use Rattle.std.proofs.Common.{◌≡◌, ℕ, suc, ◌+◌, not, nat_lt, cond, List, [], ◌∷◌, length, map, bytes_eq, Some, None, refl, sym, ap, subst, ◌∙◌, arith}
+use Rattle.std.proofs.Common.{◌≡◌, ℕ, suc, ◌+◌, ◌==◌, not, nat_lt, cond, List, [], ◌∷◌, length, map, bytes_eq, Some, None, refl, sym, ap, subst, ◌∙◌, arith}
 use Rattle.std.specs.Prelude.{position}
-use Rattle.std.specs.List.{position_or_len}
+use Rattle.std.specs.List.{position_or_len, IsDistinct}
 use Rattle.std.specs.List.Sorted.{IsStrictlySortedBy}
 use Rattle.std.specs.Cmp.Lexicographic.{nat_list_eq_equiv}
 use Rattle.rows_core.specs.declared.schema.Column.{Column}
@@ -42,6 +42,10 @@ no-names : table.AreByName []
 unfolding IsStrictlySortedBy
 no-names = tt
 
+no-files : IsDistinct (λ (a b : ℕ). a == b) []
+unfolding IsDistinct
+no-files = tt
+
 -- the first table
 pub first-table : (streams : List CatalogStream) (programs : List Program) (k : Kept) → streams ≡ [] → programs ≡ [] → k ≡ none_kept
     → IsTable (table_with 0 1 k.next_id (states_of streams) programs k.entries)
@@ -59,9 +63,10 @@ first-table [] [] k e f same =
       stored = tt;
       kept = record { first = omega arith; ascend = refl; below = refl; few = omega arith; are_entries = tt; differ = tt };
       over = tt;
+      keyed = tt;
       past = tt;
       ids = omega arith;
-      own_files = record { extents = tt; results = tt; ascend = tt; apart = tt };
+      own_files = record { given = tt; differ = no-files };
     })
 first-table (x ∷ xs) programs k e f same = absurd (cc)
 first-table [] (p ∷ ps) k e f same = absurd (cc)

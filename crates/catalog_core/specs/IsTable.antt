@@ -6,25 +6,33 @@ use Rattle.std.specs.List.Sorted.{IsStrictlySortedBy-prop}
 use Rattle.rows_core.specs.declared.schema.Column.{Column}
 use Rattle.rows_core.specs.Schema.{IsSchema}
 use Rattle.plan_binder.specs.Binding.{has_repeat}
+use Rattle.catalog_types.specs.declared.extent.Extent.{Extent}
 use Rattle.catalog_types.specs.declared.snapshot.StreamState.{StreamState}
+use Rattle.entry_table.specs.Keyed.{IsKeyed, IsKeyed-prop}
 use Rattle.entry_table.specs.AreKept.{AreKept, AreKept-prop, IsPast, not-prop}
 use Rattle.catalog_types.specs.PlainEntry.{PlainEntry}
 use Rattle.plan_core.specs.PlainPlan.{PlainPlan, leaves}
 use Rattle.rows_core.specs.declared.cut.Cut.{Cut}
 use Rattle.catalog_core.specs.OwnFiles.{HaveOwnFiles, HaveOwnFiles-prop}
 use Rattle.catalog_core.specs.Programs.{names_of, AreByName, AreCuts, IsProgram, IsStored}
-use Rattle.catalog_core.specs.Results.{IsOver, IsEntryOver}
-use Rattle.catalog_core.specs.Table.{Table, kept_of_table, most_ticks, file_end, most_streams, most_extents, most_extents_in_all, most_rows, most_programs, extent_count, row_count}
+use Rattle.catalog_core.specs.Results.{IsOver, IsEntryOver, digests_of}
+use Rattle.catalog_core.specs.Parts.{Table, kept_of_table, most_ticks, file_end, most_streams, most_extents, most_extents_in_all, most_extent_bytes, most_rows, most_programs, extent_count, row_count}
 
--- its columns differ, and its extents are within their limit
+-- it has a row, and its file is short enough
+pub record IsExtent (extent : Extent) : Type 0 where
+  pub has_row : 0 < extent.rows
+  pub short : extent.file.len ≤ most_extent_bytes
+
+-- its columns differ, and its extents are within their limits
 pub record IsStream (stream : StreamState) : Type 0 where
   pub schema : IsSchema stream.columns
   pub extents : length stream.extents ≤ most_extents
+  pub are_extents : AllByRecursion IsExtent stream.extents
   pub rows : row_count stream ≤ length stream.extents * most_rows
 
 -- Names differ, the counts are within their limits, programs are of plans over the streams, and kept results are what they are
--- to be: of plans and cuts over the streams, with ids that differ, no two alike, made and used at or before the tick. There are as
--- many files as ids, or more, and each has its own number.
+-- to be: of plans and cuts over the streams, with their keys, with ids that differ, no two alike, made and used at or before the
+-- tick. There are as many files as ids, or more, and each has its own number.
 pub record IsTable (t : Table) : Type 0 where
   pub counted : t.tick ≤ most_ticks
   pub first_file : 0 < t.next_file
@@ -38,6 +46,7 @@ pub record IsTable (t : Table) : Type 0 where
   pub stored : AllByRecursion (IsStored t.streams) t.programs
   pub kept : AreKept (kept_of_table t)
   pub over : AllByRecursion (IsEntryOver t.streams) t.entries
+  pub keyed : AllByRecursion (IsKeyed (digests_of t.streams)) t.entries
   pub past : AllByRecursion (IsPast t.tick) t.entries
   pub ids : t.next_id ≤ t.next_file
   pub own_files : HaveOwnFiles t.next_file t.streams t.entries
@@ -47,10 +56,17 @@ pub record IsTable (t : Table) : Type 0 where
 pub IsSchema-prop : (columns : List Column) → IsProp (IsSchema columns)
 IsSchema-prop columns x y = λ i. (le_prop x.0 y.0 i, Coded-set coded_bool _ _ x.1 y.1 i, le_prop x.2 y.2 i)
 
+pub IsExtent-prop : (extent : Extent) → IsProp (IsExtent extent)
+IsExtent-prop extent x y = λ i. record {
+  has_row = le_prop x.has_row y.has_row i;
+  short = le_prop x.short y.short i;
+}
+
 pub IsStream-prop : (stream : StreamState) → IsProp (IsStream stream)
 IsStream-prop stream x y = λ i. record {
   schema = IsSchema-prop stream.columns x.schema y.schema i;
   extents = le_prop x.extents y.extents i;
+  are_extents = AllByRecursion-prop IsExtent IsExtent-prop stream.extents x.are_extents y.are_extents i;
   rows = le_prop x.rows y.rows i;
 }
 
@@ -84,6 +100,7 @@ IsTable-prop t x y = λ i. record {
   stored = AllByRecursion-prop (IsStored t.streams) (λ program. not-prop (¬ (IsProgram t.streams program))) t.programs x.stored y.stored i;
   kept = AreKept-prop (kept_of_table t) x.kept y.kept i;
   over = AllByRecursion-prop (IsEntryOver t.streams) (λ e. IsOver-prop t.streams e.plan e.cuts) t.entries x.over y.over i;
+  keyed = AllByRecursion-prop (IsKeyed (digests_of t.streams)) (IsKeyed-prop (digests_of t.streams)) t.entries x.keyed y.keyed i;
   past = AllByRecursion-prop (IsPast t.tick) (λ e. IsPast-prop t.tick e) t.entries x.past y.past i;
   ids = le_prop x.ids y.ids i;
   own_files = HaveOwnFiles-prop t.next_file t.streams t.entries x.own_files y.own_files i;

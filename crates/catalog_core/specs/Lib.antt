@@ -2,9 +2,11 @@ pub mod Programs
 pub mod Results
 pub mod Stored
 pub mod Chains
+pub mod Parts
 pub mod Table
 pub mod IsTable
 pub mod Streams
 pub mod Catalogs
 pub mod Named
 pub mod OwnFiles
+pub mod Restoring

@@ -1,46 +1,37 @@
 -- The files of a table have numbers of their own.
-use Rattle.std.specs.Prelude.{◌≡◌, ℕ, ◌<◌, List, [], ◌∷◌}
+use Rattle.std.specs.Prelude.{ℕ, ◌<◌, ◌==◌, List, ◌++◌, map}
 use Rattle.std.specs.Coded.{le_prop}
-use Rattle.std.specs.List.{AllByRecursion, AllByRecursion-prop}
+use Rattle.std.specs.List.{AllByRecursion, AllByRecursion-prop, IsDistinct, flat_map}
+use Rattle.std.proofs.lemmas.Map.Keys.{IsDistinct-prop}
 use Rattle.catalog_types.specs.PlainEntry.{PlainEntry}
 use Rattle.catalog_types.specs.declared.snapshot.StreamState.{StreamState}
-use Rattle.entry_table.specs.AreKept.{not-prop}
 
--- it holds of the file of each extent
-abbrev pub EachExtentFile : (ℕ → Type 0) → List StreamState → Type 0
-EachExtentFile P streams = AllByRecursion (λ stream. AllByRecursion (λ extent. P extent.file.file) stream.extents) streams
+-- the files of all extents, and those of the kept results
+abbrev pub extent_files : List StreamState → List ℕ
+extent_files streams = flat_map (λ stream. map (λ extent. extent.file.file) stream.extents) streams
 
--- the file isn't that of this kept result
-abbrev pub IsOther : ℕ → PlainEntry → Type 0
-IsOther file e = ¬ (e.file.file ≡ file)
+abbrev pub result_files : List PlainEntry → List ℕ
+result_files entries = map (λ e. e.file.file) entries
 
--- the file of each is above that of the one before it, and the first above this number
-abbrev pub FilesAscend : ℕ → List PlainEntry → Type 0
-FilesAscend low [] = Unit {0}
-FilesAscend low (e ∷ entries) = (low < e.file.file) × FilesAscend e.file.file entries
+abbrev pub files_in : List StreamState → List PlainEntry → List ℕ
+files_in streams entries = extent_files streams ++ result_files entries
 
--- All were given before the next one; those of the kept results ascend from 1 on; and no extent has one of these.
+-- it was given before the next one
+abbrev pub IsGiven : ℕ → ℕ → Type 0
+IsGiven next file = (0 < file) × (file < next)
+
+-- each was given before the next one, and no two are the same
 pub record HaveOwnFiles (next : ℕ) (streams : List StreamState) (entries : List PlainEntry) : Type 0 where
-  pub extents : EachExtentFile (λ file. file < next) streams
-  pub results : AllByRecursion (λ e. e.file.file < next) entries
-  pub ascend : FilesAscend 0 entries
-  pub apart : EachExtentFile (λ file. AllByRecursion (IsOther file) entries) streams
+  pub given : AllByRecursion (IsGiven next) (files_in streams entries)
+  pub differ : IsDistinct (λ a b. a == b) (files_in streams entries)
 
 -- ---- each of these facts has one proof, so that it may stand in a field
 
-pub EachExtentFile-prop : (P : ℕ → Type 0) → ((file : ℕ) → IsProp (P file)) → (streams : List StreamState) → IsProp (EachExtentFile P streams)
-EachExtentFile-prop P prop streams =
-    AllByRecursion-prop _ (λ stream. AllByRecursion-prop _ (λ extent. prop extent.file.file) stream.extents) streams
-
-pub FilesAscend-prop : (low : ℕ) (entries : List PlainEntry) → IsProp (FilesAscend low entries)
-FilesAscend-prop low [] x y = λ i. tt
-FilesAscend-prop low (e ∷ entries) x y = λ i. (le_prop x.0 y.0 i, FilesAscend-prop e.file.file entries x.1 y.1 i)
+pub IsGiven-prop : (next file : ℕ) → IsProp (IsGiven next file)
+IsGiven-prop next file x y = λ i. (le_prop x.0 y.0 i, le_prop x.1 y.1 i)
 
 pub HaveOwnFiles-prop : (next : ℕ) (streams : List StreamState) (entries : List PlainEntry) → IsProp (HaveOwnFiles next streams entries)
 HaveOwnFiles-prop next streams entries x y = λ i. record {
-  extents = EachExtentFile-prop (λ file. file < next) (λ file. le_prop) streams x.extents y.extents i;
-  results = AllByRecursion-prop (λ e. e.file.file < next) (λ e. le_prop) entries x.results y.results i;
-  ascend = FilesAscend-prop 0 entries x.ascend y.ascend i;
-  apart = EachExtentFile-prop (λ file. AllByRecursion (IsOther file) entries)
-      (λ file. AllByRecursion-prop (IsOther file) (λ e. not-prop (e.file.file ≡ file)) entries) streams x.apart y.apart i;
+  given = AllByRecursion-prop (IsGiven next) (IsGiven-prop next) (files_in streams entries) x.given y.given i;
+  differ = IsDistinct-prop (λ a b. a == b) (files_in streams entries) x.differ y.differ i;
 }

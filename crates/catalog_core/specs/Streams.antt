@@ -1,5 +1,5 @@
 -- What the streams of a catalogue are as plain data, and the chains of their extents.
-use Rattle.std.specs.Prelude.{◌<◌, ℕ, List, map, vec_len, vec_capacity}
+use Rattle.std.specs.Prelude.{◌<◌, ◌≤◌, ℕ, List, length, map, min, vec_len, vec_capacity}
 use Rattle.rows_core.specs.declared.schema.Column.{Column}
 use Rattle.catalog_types.specs.declared.snapshot.StreamState.{StreamState}
 use Rattle.catalog_core.specs.declared.stream.CatalogStream.{CatalogStream}
@@ -18,4 +18,8 @@ states_of streams = map state_of streams
 
 -- room for one more extent, so that appending wants no memory
 abbrev pub HasRoomForExtent : CatalogStream → Type 0
-HasRoomForExtent stream = (vec_len stream.extents < vec_capacity stream.extents) × (vec_len stream.chains < vec_capacity stream.chains)
+HasRoomForExtent stream = vec_len stream.extents < vec_capacity stream.extents
+
+-- the chains of the first extents are known, as many as this or all of them
+abbrev pub KnowsChains : ℕ → CatalogStream → Type 0
+KnowsChains count stream = min count (length stream.extents.items) ≤ length stream.chains.items

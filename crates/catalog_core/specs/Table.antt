@@ -1,6 +1,7 @@
 -- The table: all that the catalogue holds. What a change makes of it, and which changes fit.
-use Rattle.std.specs.Prelude.{◌≡◌, ℕ, zero, suc, ◌+◌, ◌<◌, ◌≤◌, List, [], ◌∷◌, ◌++◌, length, position, sum_by, bytes_eq, Option, Some, None}
+use Rattle.std.specs.Prelude.{◌≡◌, ℕ, zero, suc, ◌+◌, ◌<◌, ◌≤◌, Bool, true, false, List, [], ◌∷◌, ◌++◌, length, map, position, bytes_eq, Option, Some, None}
 use Rattle.std.specs.List.{AllByRecursion}
+use Rattle.rows_core.specs.declared.file_ref.Digest.{Digest}
 use Rattle.rows_core.specs.declared.schema.Column.{Column}
 use Rattle.rows_core.specs.Schema.{IsSchema}
 use Rattle.catalog_types.specs.PlainEntry.{PlainEntry, PlainNewEntry}
@@ -10,65 +11,19 @@ use Rattle.catalog_types.specs.declared.extent.Extent.{Extent}
 use Rattle.catalog_types.specs.declared.program.Program.{Program}
 use Rattle.catalog_types.specs.declared.snapshot.Snapshot.{Snapshot}
 use Rattle.catalog_types.specs.declared.snapshot.StreamState.{StreamState}
-pub use Rattle.entry_table.specs.Results.{file_end}
+use Rattle.entry_table.specs.Keyed.{with_keys}
 use Rattle.entry_table.specs.Work as work
-use Rattle.entry_table.specs.Work.{Kept, kept_with}
+use Rattle.entry_table.specs.Work.{Kept}
+use Rattle.catalog_core.specs.IsTable.{IsTable}
+pub use Rattle.catalog_core.specs.Parts.{Table, table_with, empty_table, kept_of_table, file_end, most_ticks, most_streams, most_extents, most_extents_in_all, most_extent_bytes, most_rows, most_programs, extent_count, row_count}
 use Rattle.catalog_core.specs.Programs.{extents_at, IsProgram, with_program}
 use Rattle.catalog_core.specs.Results.{IsResultOver, digests_of}
-
--- how many commands were recorded, the next numbers of files and of kept results, and what these are called by
-abbrev pub Table : Type 0
-Table = Snapshot
-
--- the table of these parts
-abbrev pub table_with : ℕ → ℕ → ℕ → List StreamState → List Program → List PlainEntry → Table
-table_with tick next_file next_id streams programs entries =
-    record { tick = tick; next_file = next_file; next_id = next_id; streams = streams; programs = programs; entries = entries }
-
-abbrev pub empty_table : Table
-empty_table = table_with 0 1 1 [] [] []
-
--- the kept results of a table, and the id of the next one
-abbrev pub kept_of_table : Table → Kept
-kept_of_table t = kept_with t.next_id t.entries
-
--- ---- limits
-
-abbrev pub most_ticks : ℕ
-most_ticks = 4294967295
-
-abbrev pub most_streams : ℕ
-most_streams = 1024
-
--- of one stream, and of all streams together
-abbrev pub most_extents : ℕ
-most_extents = 65535
-
-abbrev pub most_extents_in_all : ℕ
-most_extents_in_all = 262144
-
-abbrev pub most_extent_bytes : ℕ
-most_extent_bytes = 16777216
-
-abbrev pub most_rows : ℕ
-most_rows = 4294967295
-
-abbrev pub most_programs : ℕ
-most_programs = 1024
 
 -- ---- streams
 
 -- the place of the first stream with this name
 abbrev pub place_of : List StreamState → List ℕ → Option ℕ
 place_of streams name = position (λ stream. bytes_eq stream.name name) streams
-
--- the extents of all streams
-abbrev pub extent_count : List StreamState → ℕ
-extent_count streams = sum_by (λ stream. length stream.extents) streams
-
--- the rows of a stream
-abbrev pub row_count : StreamState → ℕ
-row_count stream = sum_by (λ extent. extent.rows) stream.extents
 
 abbrev pub new_stream : List ℕ → List Column → StreamState
 new_stream name columns = record { name = name; columns = columns; extents = [] }
@@ -130,13 +85,26 @@ pub record FitsCollection (ids : List ℕ) (t : Table) : Type 0 where
   pub counted : t.tick < most_ticks
   pub there : work.FitsCollection ids (kept_of_table t)
 
--- The change may be made of this table. Checkpoints don't fit yet.
+-- the table that a checkpoint tells: the keys of its kept results are those of their plans and cuts
+abbrev pub keyed : Snapshot → Table
+keyed whole = record whole { entries = map (with_keys (digests_of whole.streams)) whole.entries }
+
+-- the table, told with this program key and this key for each of its kept results
+abbrev pub told_with : Digest → Digest → Table → Snapshot
+told_with program key t = record t { entries = map (λ (e : PlainEntry). record e { program = program; key = key }) t.entries }
+
+-- a checkpoint fits the empty table alone, and tells a table
+pub record FitsCheckpoint (whole : Snapshot) (t : Table) : Type 0 where
+  pub first : t ≡ empty_table
+  pub table : IsTable (keyed whole)
+
+-- the change may be made of this table
 abbrev pub Fits : Change → Table → Type 0
 Fits (Stream name columns) t = FitsStream name columns t
 Fits (Append place extent) t = FitsAppend place extent t
 Fits (Work program reads dropped kept) t = FitsWork program reads dropped kept t
 Fits (Collect ids) t = FitsCollection ids t
-Fits (Checkpoint whole) t = ⊥
+Fits (Checkpoint whole) t = FitsCheckpoint whole t
 
 -- ---- the table after a change
 
@@ -168,4 +136,11 @@ after (Append place extent) t =
 after (Work program reads dropped kept) t =
     with_work reads dropped kept (with_programs (with_stored program t.programs) (with_tick t))
 after (Collect ids) t = with_kept (work.after_collection ids (kept_of_table t)) (with_tick t)
-after (Checkpoint whole) t = whole
+after (Checkpoint whole) t = keyed whole
+
+abbrev pub is_checkpoint : Change → Bool
+is_checkpoint (Stream name columns) = false
+is_checkpoint (Append place extent) = false
+is_checkpoint (Work program reads dropped kept) = false
+is_checkpoint (Collect ids) = false
+is_checkpoint (Checkpoint whole) = true

@@ -1,5 +1,5 @@
 //! The table in memory.
-ghost use Rattle.std.specs.Prelude.{◌≡◌, ◌↔◌, map, IsTrue};
+ghost use Rattle.std.specs.Prelude.{◌≡◌, ◌↔◌, false, map, IsTrue};
 ghost use Rattle.entry_table.specs.Tables.{kept_of};
 ghost use Rattle.catalog_core.specs.IsTable.{IsTable, IsTable-prop};
 ghost use Rattle.catalog_core.specs.Programs.{kinds_of_streams};
@@ -10,6 +10,8 @@ use crate::columns::are_schema;
 use crate::program::is_program;
 use crate::programs::{has_room_for, make_room_to_store, program_named, store_any};
 use crate::refusal::CatalogRefusal;
+use crate::restored_streams::RestoredStreams;
+use crate::restoring::{are_numbers, are_programs, restored_results};
 use crate::results::{are_over, make_room_for_results};
 use crate::schemas::with_stream;
 use crate::snapshot::copy_streams;
@@ -30,7 +32,7 @@ use std::mem;
 const MAX_TICKS: u32 = 4_294_967_295;
 
 /// The number behind the last file's.
-const FILE_END: u64 = 4_294_967_296;
+pub(crate) const FILE_END: u64 = 4_294_967_296;
 
 /// The most streams.
 const MAX_STREAMS: usize = 1_024;
@@ -90,6 +92,7 @@ impl Catalog {
     ghost use Rattle.catalog_core.specs.Table.{empty_table, place_of, most_ticks, Fits, FitsStream};
     ghost use Rattle.catalog_core.specs.Table.{FitsAppend, IsNextExtent, HasPlaceForExtent, FitsProgram};
     ghost use Rattle.catalog_core.specs.Table.{FitsResults, FitsWork, FitsCollection, after, with_tick};
+    ghost use Rattle.catalog_core.specs.Table.{FitsCheckpoint, is_checkpoint, keyed};
 
     /// The empty table.
     pub fn new(alloc: Global) -> Catalog
@@ -110,6 +113,52 @@ impl Catalog {
             spare_schemas: None,
             alloc,
         }
+    }
+
+    /// The catalogue that a checkpoint tells. The keys of its kept results are made anew from their plans and
+    /// cuts. `Misfit` exactly where it doesn't fit the empty table, else `Memory` where memory was asked for and
+    /// refused.
+    pub fn restored(alloc: Global, whole: Snapshot) -> Result<Catalog, CatalogRefusal>
+        ensures table { IfOk result (λ catalog. table_of catalog ≡ keyed whole) }
+        ensures fits { OnOk result (FitsCheckpoint whole empty_table) }
+        ensures misfit { IsErrOf result CatalogRefusal.Misfit → FitsCheckpoint whole empty_table → ⊥ }
+    {
+        if !are_numbers(whole.next_file, whole.next_id) {
+            return Err(CatalogRefusal::Misfit);
+        }
+        let Some(mut restored) = RestoredStreams::new(alloc, whole.streams)? else {
+            return Err(CatalogRefusal::Misfit);
+        };
+        restored.know_chains(alloc, whole.entries.items())?;
+        let streams = restored.streams.as_slice();
+        if !are_programs(alloc, streams, &restored.schemas, whole.programs.items())? {
+            return Err(CatalogRefusal::Misfit);
+        }
+        let (tick, next_file, next_id) = (whole.tick, whole.next_file, whole.next_id);
+        let Some(kept) = restored_results(
+            alloc,
+            tick,
+            next_file,
+            next_id,
+            &restored,
+            whole.entries,
+        )?
+        else {
+            return Err(CatalogRefusal::Misfit);
+        };
+        Ok(Catalog {
+            tick,
+            next_file,
+            streams: restored.streams,
+            names: restored.names,
+            schemas: restored.schemas,
+            extents: restored.extents,
+            programs: whole.programs.into_vec(),
+            kept,
+            spare_name: None,
+            spare_schemas: None,
+            alloc,
+        })
     }
 
     /// How many commands were recorded.
@@ -223,9 +272,10 @@ impl Catalog {
         })
     }
 
-    /// Takes all the memory that the change wants. `Misfit` exactly where the change doesn't fit, else
-    /// `Memory` where memory was asked for and refused. The table stays in each case.
+    /// Takes all the memory that the change wants, which is no checkpoint. `Misfit` exactly where the change
+    /// doesn't fit, else `Memory` where memory was asked for and refused. The table stays in each case.
     pub fn prepare(&mut self, change: &Change) -> Result<(), CatalogRefusal>
+        requires { is_checkpoint change.now ≡ false }
         ensures same { table_of self.new ≡ table_of self.old }
         ensures ready { OnOk result (IsReady self.new change.now) }
         ensures fits { OnOk result (Fits change.now (table_of self.old)) }
@@ -240,6 +290,7 @@ impl Catalog {
 
     // Whether the change fits. The plans of the results of work that fits have spellings.
     fn fits(&self, change: &Change) -> Result<bool, Memory>
+        requires { is_checkpoint change.now ≡ false }
         ensures fits { IfOk result (λ fits. IsTrue fits ↔ Fits change.now (table_of self.now)) }
         ensures spelled { IfOk result (λ fits. IsTrue fits → AreSpelled change.now) }
     {
@@ -253,7 +304,7 @@ impl Catalog {
                 kept,
             } => self.fits_work(program, reads.items(), dropped.items(), kept.items()),
             Change::Collect { ids } => Ok(self.fits_collection(ids.items())),
-            Change::Checkpoint { .. } => Ok(false),
+            Change::Checkpoint { .. } => unreachable!(),
         }
     }
 
@@ -396,12 +447,13 @@ impl Catalog {
         ensures room { OnOk result (HasRoomForWork program.now kept.now self.new) }
     {
         make_room_to_store(&mut self.programs, program)?;
-        make_room_for_results(self.streams.as_slice(), &mut self.kept, kept)
+        make_room_for_results(self.alloc, &mut self.streams, &mut self.kept, kept)
     }
 
     /// Makes the change that it was prepared for. It takes no memory.
     pub fn apply(&mut self, change: Change)
-        requires { IsReady self.old change }
+        requires ready { IsReady self.old change }
+        requires no_checkpoint { is_checkpoint change ≡ false }
         ensures { table_of self.new ≡ after change (table_of self.old) }
     {
         match change {

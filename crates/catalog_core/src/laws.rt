@@ -2,6 +2,7 @@
 ghost use Rattle.std.specs.Prelude.{◌≡◌, ◌≢◌, ◌<◌, ℕ, List, [], Option, length, slice_index};
 ghost use Rattle.std.specs.List.{Contains};
 ghost use Rattle.rows_core.specs.declared.cut.Cut.{Cut};
+ghost use Rattle.rows_core.specs.declared.file_ref.Digest.{Digest};
 ghost use Rattle.plan_core.specs.PlainPlan.{PlainPlan, leaves};
 ghost use Rattle.estimator.specs.Bytes.{IsCutOf, lengths_at};
 ghost use Rattle.rewrite_core.specs.Entries.{Entry, AreSound};
@@ -11,18 +12,30 @@ ghost use Rattle.catalog_types.specs.declared.change.Change.{Change};
 ghost use Rattle.catalog_types.specs.declared.change.Change.TheVariants as change;
 ghost use Rattle.catalog_types.specs.declared.extent.Extent as of_table;
 ghost use Rattle.catalog_types.specs.declared.program.Program.{Program};
+ghost use Rattle.catalog_types.specs.declared.snapshot.Snapshot.{Snapshot};
 ghost use Rattle.catalog_types.specs.declared.snapshot.StreamState.{StreamState};
 ghost use Rattle.cache_index.specs.Asked.{asked};
 ghost use Rattle.catalog_core.specs.IsTable.{IsTable};
 ghost use Rattle.catalog_core.specs.Named.{lengths_of, HasFile, file_at, machine_at};
 ghost use Rattle.catalog_core.specs.Programs.{extents_at, AreCuts};
 ghost use Rattle.catalog_core.specs.Table.{Table, empty_table, most_ticks, Fits, FitsProgram, after};
-ghost use Rattle.catalog_core.specs.Table.{with_programs, with_stored, with_tick};
+ghost use Rattle.catalog_core.specs.Table.{with_programs, with_stored, with_tick, keyed, told_with};
 
 /// What is true of every table is true of the first one, and a change that fits keeps it.
 pub fn tables_stay_tables()
     ensures first { IsTable empty_table }
     ensures kept { (change : Change) (t : Table) → Fits change t → IsTable t → IsTable (after change t) }
+{}
+
+/// A table is told whole by the checkpoint of it, whatever keys that has: it fits the empty table, and leads to the
+/// table again.
+pub fn checkpoints_tell_tables()
+    ensures fits { (t : Table) (whole : Snapshot) → IsTable t → keyed whole ≡ t
+        → Fits (change.Checkpoint whole) empty_table }
+    ensures after { (t : Table) (whole : Snapshot) → IsTable t → keyed whole ≡ t
+        → after (change.Checkpoint whole) empty_table ≡ t }
+    ensures keyed { (t : Table) → IsTable t → keyed t ≡ t }
+    ensures anyway { (t : Table) (program key : Digest) → keyed (told_with program key t) ≡ keyed t }
 {}
 
 /// Work that reads, drops and keeps no result is a tick and stores its program, if it has one. It fits where

@@ -7,9 +7,12 @@ mod columns;
 mod extents;
 mod files;
 pub mod laws;
+mod own_files;
 mod program;
 mod programs;
 pub mod refusal;
+mod restored_streams;
+mod restoring;
 mod results;
 mod schemas;
 mod snapshot;
@@ -18,7 +21,8 @@ pub mod stream;
 
 pub use catalog::Catalog;
 pub use laws::{
-    cuts_of_tables, files_of_tables, idle_work, kept_results_of_tables, tables_stay_tables,
+    checkpoints_tell_tables, cuts_of_tables, files_of_tables, idle_work, kept_results_of_tables,
+    tables_stay_tables,
 };
 pub use refusal::CatalogRefusal;
 pub use stored::StoredPlan;

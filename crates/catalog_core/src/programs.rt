@@ -9,7 +9,7 @@ use catalog_types::Program;
 use rows_core::{Memory, Name};
 
 /// The most programs.
-const MAX_PROGRAMS: usize = 1_024;
+pub(crate) const MAX_PROGRAMS: usize = 1_024;
 
 /// The program of this name.
 pub(crate) fn program_named<'a>(programs: &'a [Program], name: &Name) -> Option<&'a Program>
@@ -84,7 +84,8 @@ fn count_below(programs: &[Program], name: &Name) -> usize
     count
 }
 
-fn is_below(name: &Name, other: &Name) -> bool
+/// Whether the first name is below the other in the byte order.
+pub(crate) fn is_below(name: &Name, other: &Name) -> bool
     ensures { result ≡ is_below name.now other.now }
 {
     name.bytes().cmp(&other.bytes()).is_lt()

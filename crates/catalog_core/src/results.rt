@@ -8,7 +8,7 @@ ghost use Rattle.catalog_core.specs.Programs.{kinds_of_streams};
 ghost use Rattle.catalog_core.specs.Results.{IsOver, IsResultOver, digests_of};
 ghost use Rattle.catalog_core.specs.Streams.{states_of};
 
-use crate::chains::StreamChains;
+use crate::chains::{StreamChains, know_chains_of};
 use crate::program::{are_cuts, typed_over};
 use crate::stream::CatalogStream;
 use catalog_types::NewEntry;
@@ -42,7 +42,9 @@ pub(crate) fn are_over(
     }
 }
 
-fn is_over(
+/// Whether the plan has a typing over the streams, and the cuts are one interval for each of its leaves, up to
+/// the present extents at most. A plan that has a typing has a spelling.
+pub(crate) fn is_over(
     alloc: Global,
     streams: &[CatalogStream],
     schemas: &Schemas,
@@ -65,16 +67,37 @@ fn is_over(
     }
 }
 
-/// Takes all the memory that keeping these results wants. The entries stay in each case.
+/// Takes all the memory that keeping these results wants, and that of the chains up to the ends of their cuts. The
+/// streams and the entries stay in each case.
 pub(crate) fn make_room_for_results(
-    streams: &[CatalogStream],
+    alloc: Global,
+    streams: &mut Vec<CatalogStream>,
     table: &mut EntryTable,
     kept: &[NewEntry],
 ) -> Result<(), Memory>
     requires { AllByRecursion (λ new. HasPlanSpelling new.plan) kept.now }
+    ensures streams { states_of streams.new.items ≡ states_of streams.old.items }
     ensures same { kept_of table.new ≡ kept_of table.old }
     ensures room { OnOk result (HasRoom kept.now table.new) }
-    ensures keys { OnOk result (HasKeys (digests_of (states_of streams.now)) kept.now table.new) }
+    ensures keys { OnOk result
+        (HasKeys (digests_of (states_of streams.new.items)) kept.now table.new) }
 {
-    table.prepare_work(&StreamChains::new(streams), kept)
+    know_chains_of_results(alloc, streams, kept)?;
+    table.prepare_work(&StreamChains::new(streams.as_slice()), kept)
+}
+
+// Makes the chains known that the keys of these results are made of.
+fn know_chains_of_results(
+    alloc: Global,
+    streams: &mut Vec<CatalogStream>,
+    kept: &[NewEntry],
+) -> Result<(), Memory>
+    ensures { states_of streams.new.items ≡ states_of streams.old.items }
+{
+    let mut rest = kept;
+    while let [new, others @ ..] = rest {
+        know_chains_of(alloc, streams, &new.plan, new.cuts.items())?;
+        rest = others;
+    }
+    Ok(())
 }

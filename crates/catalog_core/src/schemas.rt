@@ -32,7 +32,8 @@ fn copy_each(alloc: Global, lists: &[Seq<Kind>]) -> Result<Vec<Seq<Kind>>, Memor
     Ok(copies)
 }
 
-fn kinds_of(alloc: Global, columns: &[Column]) -> Result<Seq<Kind>, Memory>
+/// The kinds of these columns.
+pub(crate) fn kinds_of(alloc: Global, columns: &[Column]) -> Result<Seq<Kind>, Memory>
     ensures { IfOk result (λ kinds. kinds ≡ schema.kinds_of columns.now) }
 {
     let mut kinds = Vec::with_capacity(alloc, columns.len())?;

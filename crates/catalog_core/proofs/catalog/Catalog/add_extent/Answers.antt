@@ -7,9 +7,12 @@ use Rattle.catalog_core.specs.Programs.{kinds_of_streams}
 use Rattle.catalog_core.specs.Streams.{states_of}
 use Rattle.catalog_core.specs.Table.{table_with, extent_count, with_tick}
 use Rattle.catalog_core.proofs.Growth.{as-many-states, states-grown, names-kept}
-use Rattle.catalog_core.proofs.Kept.{extents-counted, append-keeps}
+use Rattle.catalog_core.proofs.Kept.{extents-counted, append-keeps, is-extent}
 use Rattle.catalog_core.proofs.OverStreams.{kinds-grown}
 use Rattle.catalog_core.proofs.catalog.Catalog.add_extent.Goals as goal
+
+pub push-requires-clause-is_extent : goal.push-requires-clause-is_extent
+push-requires-clause-is_extent c = is-extent c.args.extent (table_of c.args.self.now) c.requires.fits.is_next
 
 pub invariant_of-self : goal.invariant_of-self
 invariant_of-self c =

@@ -1,16 +1,18 @@
-use Rattle.std.proofs.Common.{◌≡◌, ◌∙◌, ◌-◌, suc, min, ap, List, length, get_or, arith}
-use Rattle.rows_core.specs.declared.file_ref.Digest.{Digest}
-use Rattle.fingerprints.specs.Keys.{chain_start}
+use Rattle.std.proofs.Common.{◌≡◌, ◌∙◌, ◌≤◌, min, ap, List, length, slice_range, arith}
+use Rattle.catalog_types.specs.declared.extent.Extent.{Extent}
+use Rattle.fingerprints.specs.Keys.{chain_start, chain_of}
 use Rattle.catalog_core.specs.Results.{extent_digests}
-use Rattle.catalog_core.proofs.ChainLemmas.{chains-length, chain-of-first}
+use Rattle.catalog_core.proofs.ChainLemmas.{chain-goes-on}
 use Rattle.catalog_core.proofs.stream.CatalogStream.chain.Goals as goal
 
-pub returns-else-place-eq0 : goal.returns-else-place-eq0
-returns-else-place-eq0 c =
+pub returns : goal.returns
+returns c =
     let s = c.args.self.now in
-    let ds = extent_digests s.extents.items in
-    let long : length s.chains.items ≡ length ds = ap length s.chained ∙ chains-length chain_start ds in
-    let x = c.index.result.now in
-    let place : suc (c.min-place.result - 1) ≡ min c.args.count (length ds) = omega (arith, long, c.min-place.ensures, c.len.ensures, c.if-place-eq0.false) in
-    c.index.ensures ∙ ap (λ (ds : List Digest). get_or ds (c.min-place.result - 1) x) s.chained
-    ∙ chain-of-first chain_start ds c.args.count (c.min-place.result - 1) x place
+    let es = s.extents.items in
+    let known = c.min-known.result in
+    let end = c.min-end.result in
+    let is : end ≡ min c.args.count (length es) = omega (arith, c.min-end.ensures, c.len-2.ensures, s.extents.ok.0) in
+    let low : known ≤ end = omega (arith, is, c.min-known.ensures, c.len.ensures, s.chains.ok.0, s.known) in
+    c.chain_over.ensures
+    ∙ ap (λ (xs : List Extent). chain_of c.known_chain.result (extent_digests (slice_range xs known end))) c.deref.ensures.value
+    ∙ chain-goes-on chain_start es c.args.count known end c.known_chain.result low is c.known_chain.ensures
