@@ -12,13 +12,7 @@ use std::alloc::Global;
 pub fn load(alloc: Global, arguments: &str) -> Result<String> {
     let mut store = begun(alloc, arguments)?;
     let (journal, bodies) = Journal::load(alloc, &mut store)?;
-    let (generation, file, end) = (journal.generation(), journal.file(), journal.end());
-    let mut answer = format!(in alloc; "generation {generation}, file {file}, end {end}:")?;
-    for body in &bodies {
-        answer.push(' ')?;
-        answer.push_str(words::shown(alloc, body)?.as_str())?;
-    }
-    Ok(answer)
+    shown(alloc, &journal, &bodies)
 }
 
 /// The bytes of file 0 and of the log of generation 0 after a store is loaded, and then `BODY` committed
@@ -34,6 +28,38 @@ pub fn commit(alloc: Global, arguments: &str) -> Result<String> {
     let root = words::shown(alloc, store.bytes(0))?;
     let log = words::shown(alloc, store.bytes(4_294_967_296))?;
     Ok(format!(in alloc; "{root} {log}")?)
+}
+
+/// The bytes of file 0, of the log that was in use and of the next one after a store is loaded, and `BODY` is
+/// made the body of the next generation.
+pub fn checkpoint(alloc: Global, arguments: &str) -> Result<String> {
+    let (body, arguments) = words::first(arguments);
+    let body = words::bytes(alloc, body)?;
+    let mut store = begun(alloc, arguments)?;
+    let (journal, _) = Journal::load(alloc, &mut store)?;
+    let former = journal.file();
+    let next = checkpoint_short(journal, &mut store, &body)?.context("the store failed")?;
+    let root = words::shown(alloc, store.bytes(0))?;
+    let left = words::shown(alloc, store.bytes(former))?;
+    let log = words::shown(alloc, store.bytes(next.file()))?;
+    Ok(format!(in alloc; "{root} {left} {log}")?)
+}
+
+/// An empty store is loaded, 01 is committed, and 02 is made the body of the next generation, while each call
+/// from `CALL` on fails: whether that was answered, and what the image `PICK` is loaded as.
+pub fn checkpoint_stop(alloc: Global, arguments: &str) -> Result<String> {
+    let (call, pick) = words::first(arguments);
+    let mut store = MemStore::new(alloc, Vec::new(alloc));
+    store.fail_from(words::number(call)?);
+    let answered = if commit_and_checkpoint(alloc, &mut store)? {
+        "answered"
+    } else {
+        "failed"
+    };
+    let mut image = store.image(words::number(pick)?)?;
+    let (journal, bodies) = Journal::load(alloc, &mut image)?;
+    let loaded = shown(alloc, &journal, &bodies)?;
+    Ok(format!(in alloc; "{answered}, {loaded}")?)
 }
 
 /// A store is loaded whose file 0 is `ROOT`, and two bodies are committed, while each call from `CALL` on
@@ -69,6 +95,17 @@ fn begun(alloc: Global, arguments: &str) -> Result<MemStore> {
     Ok(store)
 }
 
+// The generation in use, its file, the end of its log, and the bodies.
+fn shown(alloc: Global, journal: &Journal, bodies: &[Vec<u8>]) -> Result<String> {
+    let (generation, file, end) = (journal.generation(), journal.file(), journal.end());
+    let mut answer = format!(in alloc; "generation {generation}, file {file}, end {end}:")?;
+    for body in bodies {
+        answer.push(' ')?;
+        answer.push_str(words::shown(alloc, body)?.as_str())?;
+    }
+    Ok(answer)
+}
+
 // Loads the journal and commits the bodies 01 and 02, and says how many were answered, if it was loaded.
 fn commit_two(alloc: Global, store: &mut MemStore) -> Result<Option<u8>> {
     let journal = match Journal::load(alloc, store) {
@@ -82,6 +119,16 @@ fn commit_two(alloc: Global, store: &mut MemStore) -> Result<Option<u8>> {
             None => Ok(Some(1)),
         },
         None => Ok(Some(0)),
+    }
+}
+
+// Loads the journal, commits the body 01 and makes 02 the body of the next generation, and says whether all
+// was answered.
+fn commit_and_checkpoint(alloc: Global, store: &mut MemStore) -> Result<bool> {
+    let (journal, _) = Journal::load(alloc, store)?;
+    match commit_short(journal, store, &[1])? {
+        Some(journal) => Ok(checkpoint_short(journal, store, &[2])?.is_some()),
+        None => Ok(false),
     }
 }
 
@@ -101,6 +148,21 @@ fn commit_short(journal: Journal, store: &mut MemStore, body: &[u8]) -> Result<O
         return None.context("no body");
     }
     match journal.commit(store, body) {
+        Ok(journal) => Ok(Some(journal)),
+        Err(Failed) => Ok(None),
+    }
+}
+
+// Makes the next generation, with a body of at most 1,000 bytes; none where the store failed.
+fn checkpoint_short(
+    journal: Journal,
+    store: &mut MemStore,
+    body: &[u8],
+) -> Result<Option<Journal>> {
+    if body.is_empty() || body.len() > 1000 || journal.generation() > 1_000_000 {
+        return None.context("no body");
+    }
+    match journal.checkpoint(store, body) {
         Ok(journal) => Ok(Some(journal)),
         Err(Failed) => Ok(None),
     }

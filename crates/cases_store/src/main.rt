@@ -39,6 +39,8 @@ fn answer(alloc: Global, case: &str) -> Result<String> {
         "load" => journals::load(alloc, arguments),
         "commit" => journals::commit(alloc, arguments),
         "journal_stop" => journals::stop(alloc, arguments),
+        "checkpoint" => journals::checkpoint(alloc, arguments),
+        "checkpoint_stop" => journals::checkpoint_stop(alloc, arguments),
         "digest" => files::digest(alloc, arguments),
         "front" => files::front(alloc, arguments),
         "dropped" => files::dropped(alloc, arguments),

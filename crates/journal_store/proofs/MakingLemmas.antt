@@ -1,11 +1,14 @@
 -- What a crash leaves while the journal is made.
-use Rattle.std.proofs.Common.{◌≡◌, ◌≢◌, inl, inr, ℕ, ◌+◌, ◌≤◌, List, [], length, refl, sym, ap, ◌∙◌, subst, arith}
-use Rattle.std.specs.Prelude.{Bool, ◌==◌, ◌||◌}
+use Rattle.std.proofs.Common.{◌≡◌, ◌≢◌, inl, inr, ℕ, ◌+◌, ◌≤◌, List, [], ◌∷◌, length, drop, Result, Ok, Err, refl, sym, ap, ◌∙◌, subst, arith}
+use Rattle.std.specs.Prelude.{Bool, ◌==◌, ◌||◌, OnOk}
+use Rattle.std.proofs.lemmas.List.{drop_all}
 use Rattle.std.proofs.lemmas.Bool.{le-leb}
 use Rattle.std.proofs.Math.Bool.{or-true}
 use Rattle.outside_traits.specs.View.{View, Now, Only}
-use Rattle.outside_traits.specs.Runs.{Touches, Spans}
-use Rattle.outside_traits.proofs.RunLemmas.{spans_of}
+use Rattle.outside_traits.specs.Runs.{Touches, ChangesOnly, Spans}
+use Rattle.outside_traits.proofs.RunLemmas.{joined, spans_of}
+use Rattle.gated_log.specs.Logs.{sealed}
+use Rattle.gated_log.proofs.Crash.{sealed_empty}
 use Rattle.gated_log.specs.Stands.{file_of, Stands}
 use Rattle.gated_log.specs.declared.log.Log.{Log}
 use Rattle.journal_store.specs.Readings.{generation_file, IsJournalFile, IsUnfinished, HaveBodies}
@@ -46,3 +49,17 @@ making_root u v run =
 -- the root is unfinished where it stands as an empty log
 pub unfinished_root : (u : View) (root : Log) → file_of root ≡ 0 → Stands u root [] → (x : List ℕ) → Now u 0 x → IsUnfinished x
 unfinished_root u root is stands x now = inr (stands.outcomes x (subst (λ g. Now u g x) (sym is) now))
+
+-- nothing stands behind the first body of a log that was made
+pub first_bytes : (made bytes body : List ℕ) (end : ℕ) → end ≡ 9 → made ≡ sealed [] [] → bytes ≡ sealed (body ∷ []) (drop (end + length body + 5) made) → bytes ≡ sealed (body ∷ []) []
+first_bytes made bytes body end end_is empty wrote =
+    wrote ∙ ap (λ (l : List ℕ). sealed (body ∷ []) l) (drop_all (end + length body + 5) made (omega (arith, end_is, ap length (empty ∙ sealed_empty))))
+
+-- two runs on one file, one after the other
+pub one_file : (file f : ℕ) (u v w : View) → f ≡ file → ChangesOnly file u v → ChangesOnly f v w → ChangesOnly file u w
+one_file file f u v w is first then = joined file (λ x. Unit {0}) u v w first (subst (λ g. ChangesOnly g v w) is then)
+
+-- what follows from what holds at Ok
+pub ok_then : {T E : Type 0} (r : Result T E) (P Q : Type 0) → OnOk r P → (P → Q) → OnOk r Q
+ok_then (Ok x) P Q has then = then has
+ok_then (Err e) P Q has then = tt

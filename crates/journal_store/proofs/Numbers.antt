@@ -7,6 +7,7 @@ use Rattle.std.proofs.lemmas.List.{take-append-le, take-take, length-map, take-m
 use Rattle.std.proofs.lemmas.Bool.{cases_order, cases_eq}
 use Rattle.gated_log.specs.Logs.{header, length_bytes, spelled, blocks, front, contents, Reads}
 use Rattle.gated_log.proofs.Blocks.{length-length_bytes}
+use Rattle.gated_log.proofs.Crash.{length-front_empty, length-front_push}
 use Rattle.journal_store.specs.declared.refusal.JournalRefusal.TheVariants.{NotAStore}
 use Rattle.journal_store.specs.Readings.{number_bytes, numbers_below, generations, StopsAtNumber}
 
@@ -66,10 +67,26 @@ short_has_none [] file short reads = refl
 short_has_none (body ∷ bodies) file short reads =
     absurd (omega (arith, short, ap length reads.is, length-append (front (body ∷ bodies)) (reads.gate ∷ reads.rest), length-front_bodies (body ∷ bodies)))
 
--- ## The loop over the root's bodies
-
-numbers_more : (i : ℕ) → numbers_below (i + 1) ≡ numbers_below i ++ number_bytes i ∷ []
+pub numbers_more : (i : ℕ) → numbers_below (i + 1) ≡ numbers_below i ++ number_bytes i ∷ []
 numbers_more i = ap numbers_below (add-one i)
+
+pub length-number_bytes : (n : ℕ) → length (number_bytes n) ≡ 8
+unfolding number_bytes
+length-number_bytes n = refl
+
+length-front_numbers : (n : ℕ) → length (front (numbers_below n)) ≡ 13 * n + 8
+length-front_numbers zero = length-front_empty
+length-front_numbers (suc n) = omega (arith, length-front_push (numbers_below n) (number_bytes n), length-number_bytes n, length-front_numbers n)
+
+-- the root of a generation takes 13 bytes for each number up to it
+pub length-front_generations : (g : ℕ) → length (front (generations g)) ≡ 13 * (g + 1) + 8
+length-front_generations g = length-front_numbers (g + 1)
+
+-- so that is where it ends
+pub root_end : (bodies : List (List ℕ)) (g end : ℕ) → bodies ≡ generations g → end ≡ length (front bodies) + 1 → end ≡ 13 * (g + 1) + 9
+root_end bodies g end names end_is = omega (arith, end_is, ap (λ (l : List (List ℕ)). length (front l)) names, length-front_generations g)
+
+-- ## The loop over the root's bodies
 
 contents_more : (vecs : List (Vec ℕ Global)) (i : ℕ) (v : Vec ℕ Global) → i < length vecs → v ≡ get_or vecs i v
     → take (i + 1) (contents vecs) ≡ take i (contents vecs) ++ v.items ∷ []

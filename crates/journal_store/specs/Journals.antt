@@ -24,3 +24,7 @@ pub record Keeps (v : View) (journal : Journal) (generation : ℕ) (bodies : Lis
 -- an image has the bodies without the new one, or with it
 abbrev pub HaveBeforeOrAfter : (ℕ → List ℕ) → ℕ → List (List ℕ) → List ℕ → Type 0
 HaveBeforeOrAfter image generation bodies body = HaveBodies image generation bodies ⊎ HaveBodies image generation (bodies ++ body ∷ [])
+
+-- an image has the former generation with its bodies, or the next one with this body
+abbrev pub HaveFormerOrNext : (ℕ → List ℕ) → ℕ → List (List ℕ) → List ℕ → Type 0
+HaveFormerOrNext image generation bodies body = HaveBodies image generation bodies ⊎ HaveBodies image (generation + 1) (body ∷ [])

@@ -1,3 +1,4 @@
+pub mod Checkpoints
 pub mod Journals
 pub mod Making
 pub mod Readings

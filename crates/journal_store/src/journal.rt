@@ -1,13 +1,13 @@
 //! Journals in a store.
 ghost use Rattle.std.specs.Prelude.{◌≡◌, ◌⊎◌, ℕ, ◌+◌, ◌^◌, ◌<◌, ◌≤◌, List, [], ◌∷◌, ◌++◌, length, take};
-ghost use Rattle.std.specs.Prelude.{drop, IsTrue, IfOk, IsErrOf, OnOk, OnErr};
+ghost use Rattle.std.specs.Prelude.{drop, false, ◌*◌, IsTrue, IfOk, IsErrOf, OnOk, OnErr};
 ghost use Rattle.std.specs.List.{All};
 ghost use Rattle.outside_traits.specs.Counts.{Rose};
 ghost use Rattle.outside_traits.specs.View.{Now, Only};
 ghost use Rattle.outside_traits.specs.Calls.{CountsTaken, MayRaiseWrites, Rises};
 ghost use Rattle.outside_traits.specs.Runs.{Touches, ChangesOnly, Spans, Narrows};
 ghost use Rattle.gated_log.specs.Logs.{front, sealed, contents, IsBody, Reads, StopsAt};
-ghost use Rattle.gated_log.specs.Stands.{file_of, IsBeforeOrAfter};
+ghost use Rattle.gated_log.specs.Stands.{file_of, end_of as end_of_log, IsBeforeOrAfter};
 ghost use Rattle.journal_store.specs.Readings.{
   generation_file,
   generations,
@@ -19,20 +19,24 @@ ghost use Rattle.journal_store.specs.Readings.{
   StopsReading,
 };
 ghost use Rattle.journal_store.specs.Making.{AreStable, IsLoading};
+ghost use Rattle.journal_store.specs.Checkpoints.{MayRaiseWritesOrRemoves};
 
-use crate::making::{GENERATION_0, make_behind, make_short, root_is_short};
+use crate::making::{GENERATION_0, Made, make_behind, make_log, make_short, root_is_short};
 use crate::refusal::{JournalRefusal, in_file};
-use crate::root::generation_in_use;
+use crate::root::{generation_in_use, number_bytes};
 use gated_log::Log;
 use outside_traits::{Failed, Store};
 use std::alloc::Global;
 
-/// The generation in use, and its log.
+/// The generation in use, the root that names it, and its log.
 #[derive(Drop)]
 pub struct Journal {
     generation: u64,
+    root: Log,
     log: Log,
     ghost in_range: { generation < 2 ^ 63 },
+    ghost is_root: { file_of root ≡ 0 },
+    ghost root_end: { end_of_log root ≡ 13 * (generation + 1) + 9 },
     ghost is_file: { file_of log ≡ generation_file generation },
 }
 
@@ -42,6 +46,7 @@ impl Journal {
       end_of,
       Keeps,
       HaveBeforeOrAfter,
+      HaveFormerOrNext,
     };
 
     /// Loads the journal: its bodies, and what it takes to add further ones. Where its making isn't
@@ -54,6 +59,7 @@ impl Journal {
     ) -> Result<(Journal, Vec<Vec<u8>>), JournalRefusal>
         ensures end { IfOk result (λ r. end_of r.0 ≡ length (front (contents r.1.items)) + 1) }
         ensures bound { IfOk result (λ r. end_of r.0 < 2 ^ 63) }
+        ensures named { IfOk result (λ r. generation_of r.0 < 2 ^ 60) }
         ensures sizes { IfOk result (λ r. All IsBody (contents r.1.items)) }
         ensures reading { IsTrue D.tells → IfOk result
             (λ r. HaveBodies (D.view store.old).files (generation_of r.0) (contents r.1.items)) }
@@ -106,8 +112,13 @@ impl Journal {
     {
         let short = root_is_short(store)?;
         if short {
-            let log = make_short(store)?;
-            return Ok((Journal { generation: 0, log }, Vec::new(alloc)));
+            let Made { root, log } = make_short(store)?;
+            let journal = Journal {
+                generation: 0,
+                root,
+                log,
+            };
+            return Ok((journal, Vec::new(alloc)));
         }
         Journal::load_long(alloc, store)
     }
@@ -119,6 +130,7 @@ impl Journal {
     ) -> Result<(Journal, Vec<Vec<u8>>), JournalRefusal>
         ensures end { IfOk result (λ r. end_of r.0 ≡ length (front (contents r.1.items)) + 1) }
         ensures bound { IfOk result (λ r. end_of r.0 < 2 ^ 63) }
+        ensures named { IfOk result (λ r. generation_of r.0 < 2 ^ 60) }
         ensures sizes { IfOk result (λ r. All IsBody (contents r.1.items)) }
         ensures reading { IsTrue D.tells → IfOk result
             (λ r. HaveBodies (D.view store.old).files (generation_of r.0) (contents r.1.items)) }
@@ -160,23 +172,32 @@ impl Journal {
             Err(refusal) => return Err(in_file(0, refusal)),
         };
         if roots.is_empty() {
-            let log = make_behind(store, root)?;
-            return Ok((Journal { generation: 0, log }, Vec::new(alloc)));
+            let Made { root, log } = make_behind(store, root)?;
+            let journal = Journal {
+                generation: 0,
+                root,
+                log,
+            };
+            return Ok((journal, Vec::new(alloc)));
         }
         let generation = generation_in_use(&roots)?;
-        Journal::load_generation(alloc, store, generation)
+        Journal::load_generation(alloc, store, root, generation)
     }
 
     // Reads the log of the generation in use. No file is changed.
     fn load_generation<D: Store>(
         alloc: Global,
         store: &mut D,
+        root: Log,
         generation: u64,
     ) -> Result<(Journal, Vec<Vec<u8>>), JournalRefusal>
-        requires { generation < 2 ^ 63 }
+        requires root { file_of root ≡ 0 }
+        requires root_end { end_of_log root ≡ 13 * (generation + 1) + 9 }
+        requires bound { end_of_log root < 2 ^ 63 }
         ensures generation { IfOk result (λ r. generation_of r.0 ≡ generation) }
         ensures end { IfOk result (λ r. end_of r.0 ≡ length (front (contents r.1.items)) + 1) }
         ensures bound { IfOk result (λ r. end_of r.0 < 2 ^ 63) }
+        ensures named { IfOk result (λ r. generation_of r.0 < 2 ^ 60) }
         ensures sizes { IfOk result (λ r. All IsBody (contents r.1.items)) }
         ensures bodies { IsTrue D.tells → IfOk result
             (λ r. Reads (contents r.1.items) ((D.view store.old).files (generation_file generation))) }
@@ -204,10 +225,16 @@ impl Journal {
         ensures removes { (D.counts store.new).removes ≡ (D.counts store.old).removes }
     {
         let file = GENERATION_0 + generation;
-        match Log::read(alloc, store, file) {
-            Ok((log, bodies)) => Ok((Journal { generation, log }, bodies)),
-            Err(refusal) => Err(in_file(file, refusal)),
-        }
+        let (log, bodies) = match Log::read(alloc, store, file) {
+            Ok(read) => read,
+            Err(refusal) => return Err(in_file(file, refusal)),
+        };
+        let journal = Journal {
+            generation,
+            root,
+            log,
+        };
+        Ok((journal, bodies))
     }
 
     /// Adds a body. From the start of the call each crash leaves the bodies without the new one or with it,
@@ -246,6 +273,87 @@ impl Journal {
         let log = self.log.commit(store, body)?;
         Ok(Journal {
             generation: self.generation,
+            root: self.root,
+            log,
+        })
+    }
+
+    /// Makes the next generation, whose one body is this, the one in use, and removes the log of the former; a
+    /// removal that fails is let pass. From the start of the call each crash leaves the former generation with
+    /// its bodies, or the next one with this body, and after `Ok` the next one. `Failed` comes only where the
+    /// store failed in a write or sync. It takes no memory.
+    pub fn checkpoint<D: Store>(self, store: &mut D, body: &[u8]) -> Result<Journal, Failed>
+        requires size { IsBody body.now }
+        requires room { generation_of self < 2 ^ 60 }
+        ensures generation { IfOk result (λ journal. generation_of journal ≡ generation_of self + 1) }
+        ensures end { IfOk result (λ journal. end_of journal ≡ length body.now + 14) }
+        ensures committed { IsTrue D.tells → (g : ℕ) (bodies : List (List ℕ))
+            → Keeps (D.view store.old) self g bodies
+            → IfOk result (λ journal. Keeps (D.view store.new) journal (g + 1) (body.now ∷ [])) }
+        // The log has the body and a closed gate 0, and nothing behind it.
+        ensures bytes { IsTrue D.tells
+            → OnOk result ((D.view store.new).files (generation_file (generation_of self + 1))
+            ≡ sealed (body.now ∷ []) []) }
+        // The root has the numbers up to the next one, a closed gate 0, and what stood behind.
+        ensures root_bytes { IsTrue D.tells → (g : ℕ) (bodies : List (List ℕ))
+            → Keeps (D.view store.old) self g bodies
+            → OnOk result ((D.view store.new).files 0 ≡ sealed (generations (g + 1))
+            (drop (length (front (generations (g + 1))) + 1) ((D.view store.old).files 0))) }
+        ensures stable { IsTrue D.tells → (g : ℕ) (bodies : List (List ℕ))
+            → Keeps (D.view store.old) self g bodies
+            → OnOk result (AreStable (D.view store.new) (g + 1)) }
+        ensures images { IsTrue D.tells → (g : ℕ) (bodies : List (List ℕ))
+            → Keeps (D.view store.old) self g bodies
+            → Spans IsJournalFile (λ image. HaveFormerOrNext image g bodies body.now)
+            (D.view store.old) (D.view store.new) }
+        // The former log isn't there, unless its removal failed.
+        ensures gone { IsTrue D.tells
+            → OnOk result (Rose (D.counts store.old).removes (D.counts store.new).removes
+            ⊎ ((D.view store.new).there (generation_file (generation_of self)) ≡ false)) }
+        ensures cause { OnErr result (Rose (D.counts store.old).writes (D.counts store.new).writes) }
+        ensures no_fault { OnOk result ((D.counts store.new).writes ≡ (D.counts store.old).writes) }
+        ensures no_removal { OnErr result ((D.counts store.new).removes ≡ (D.counts store.old).removes) }
+        ensures counts { MayRaiseWritesOrRemoves (D.counts store.old) (D.counts store.new) }
+    {
+        let former = self.file();
+        let next = self.name_next(store, body)?;
+        let _ = store.remove(former);
+        Ok(next)
+    }
+
+    // Makes the log of the next generation, and then the root name it. No file is removed.
+    fn name_next<D: Store>(self, store: &mut D, body: &[u8]) -> Result<Journal, Failed>
+        requires size { IsBody body.now }
+        requires room { generation_of self < 2 ^ 60 }
+        ensures generation { IfOk result (λ journal. generation_of journal ≡ generation_of self + 1) }
+        ensures end { IfOk result (λ journal. end_of journal ≡ length body.now + 14) }
+        ensures committed { IsTrue D.tells → (g : ℕ) (bodies : List (List ℕ))
+            → Keeps (D.view store.old) self g bodies
+            → IfOk result (λ journal. Keeps (D.view store.new) journal (g + 1) (body.now ∷ [])) }
+        ensures bytes { IsTrue D.tells
+            → OnOk result ((D.view store.new).files (generation_file (generation_of self + 1))
+            ≡ sealed (body.now ∷ []) []) }
+        ensures root_bytes { IsTrue D.tells → (g : ℕ) (bodies : List (List ℕ))
+            → Keeps (D.view store.old) self g bodies
+            → OnOk result ((D.view store.new).files 0 ≡ sealed (generations (g + 1))
+            (drop (length (front (generations (g + 1))) + 1) ((D.view store.old).files 0))) }
+        ensures stable { IsTrue D.tells → (g : ℕ) (bodies : List (List ℕ))
+            → Keeps (D.view store.old) self g bodies
+            → OnOk result (AreStable (D.view store.new) (g + 1)) }
+        ensures images { IsTrue D.tells → (g : ℕ) (bodies : List (List ℕ))
+            → Keeps (D.view store.old) self g bodies
+            → Spans IsJournalFile (λ image. HaveFormerOrNext image g bodies body.now)
+            (D.view store.old) (D.view store.new) }
+        ensures cause { OnErr result (Rose (D.counts store.old).writes (D.counts store.new).writes) }
+        ensures no_fault { OnOk result ((D.counts store.new).writes ≡ (D.counts store.old).writes) }
+        ensures counts { MayRaiseWrites (D.counts store.old) (D.counts store.new) }
+    {
+        let generation = self.generation + 1;
+        let log = make_log(store, GENERATION_0 + generation, body)?;
+        let root = self.root.commit(store, &number_bytes(generation))?;
+        Ok(Journal {
+            generation,
+            root,
             log,
         })
     }

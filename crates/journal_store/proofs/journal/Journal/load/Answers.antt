@@ -6,12 +6,12 @@ use Rattle.journal_store.proofs.OneReading.{unfinished_names, unfinished_goes_on
 use Rattle.journal_store.proofs.LoadingLemmas.{loading_making, loading_on, have_before, stops_before, empty_end, on_ok}
 use Rattle.journal_store.proofs.journal.Journal.load.Goals as goal
 
-pub returns-in_err-log-clause-crash : goal.returns-in_err-log-clause-crash
-returns-in_err-log-clause-crash g c = λ told.
+pub returns-in_err-root-clause-crash : goal.returns-in_err-root-clause-crash
+returns-in_err-root-clause-crash g c = λ told.
     loading_making _ _ c.root_is_short.ensures.narrows _ (inl (c.in_ok-short.ensures.read told c.if-short.true)) (c.make_short.ensures.crash told (c.in_ok-short.ensures.short told c.if-short.true))
 
 pub returns-then-short-clause-end : goal.returns-then-short-clause-end
-returns-then-short-clause-end g c = c.in_ok-log.ensures.end ∙ sym (empty_end c.new.result.items c.new.ensures.items)
+returns-then-short-clause-end g c = c.in_ok-root.ensures.end ∙ sym (empty_end c.new.result.items c.new.ensures.items)
 
 pub returns-then-short-clause-crash : goal.returns-then-short-clause-crash
 returns-then-short-clause-crash g c = λ told.

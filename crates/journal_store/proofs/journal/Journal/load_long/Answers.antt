@@ -4,6 +4,7 @@ use Rattle.gated_log.specs.Logs.{contents, front, Reads, StopsAt}
 use Rattle.gated_log.specs.Stands.{Stands}
 use Rattle.gated_log.proofs.Crash.{length-front_empty}
 use Rattle.journal_store.proofs.OneReading.{unfinished_names}
+use Rattle.journal_store.proofs.Numbers.{root_end}
 use Rattle.journal_store.proofs.LoadingLemmas.{none_inside, loading_narrow, loading_making, empty_end, named_keeps}
 use Rattle.journal_store.proofs.journal.Journal.load_long.Goals as goal
 
@@ -12,29 +13,29 @@ make_behind-requires-clause-room g c =
     let none = none_inside c.in-Ok.read.1 _ c.is_empty.ensures c.if-is_empty.true in
     c.in-Ok.ensures.end ∙ ap (λ (l : List (List ℕ)). length (front l) + 1) none ∙ ap (λ (n : ℕ). n + 1) length-front_empty
 
-pub returns-in_err-log-clause-crash : goal.returns-in_err-log-clause-crash
-returns-in_err-log-clause-crash g c = λ told.
+pub returns-in_err-root-clause-crash : goal.returns-in_err-root-clause-crash
+returns-in_err-root-clause-crash g c = λ told.
     let none = none_inside c.in-Ok.read.1 _ c.is_empty.ensures c.if-is_empty.true in
     loading_making _ _ c.read.ensures.narrows _ (inr (subst (λ l. Reads l ((g.D.Store.view c.args.store.now).files 0)) none (c.in-Ok.ensures.bodies told)))
     (c.make_behind.ensures.crash told (subst (λ l. Stands (g.D.Store.view c.read.new.store) c.in-Ok.read.0 l) none (c.in-Ok.ensures.stands told)))
 
-pub returns-in_err-log-clause-finished : goal.returns-in_err-log-clause-finished
-returns-in_err-log-clause-finished g c = λ told finished.
+pub returns-in_err-root-clause-finished : goal.returns-in_err-root-clause-finished
+returns-in_err-root-clause-finished g c = λ told finished.
     let none = none_inside c.in-Ok.read.1 _ c.is_empty.ensures c.if-is_empty.true in
     absurd (finished (inr (subst (λ l. Reads l ((g.D.Store.view c.args.store.now).files 0)) none (c.in-Ok.ensures.bodies told))))
 
 pub returns-then-is_empty-clause-end : goal.returns-then-is_empty-clause-end
-returns-then-is_empty-clause-end g c = c.in_ok-log.ensures.end ∙ sym (empty_end c.new.result.items c.new.ensures.items)
+returns-then-is_empty-clause-end g c = c.in_ok-root.ensures.end ∙ sym (empty_end c.new.result.items c.new.ensures.items)
 
 pub returns-then-is_empty-clause-keeps : goal.returns-then-is_empty-clause-keeps
 returns-then-is_empty-clause-keeps g c = λ told.
     let none = none_inside c.in-Ok.read.1 _ c.is_empty.ensures c.if-is_empty.true in
-    named_keeps _ _ 0 _ refl (ap contents c.new.ensures.items) (c.in_ok-log.ensures.made told (subst (λ l. Stands (g.D.Store.view c.read.new.store) c.in-Ok.read.0 l) none (c.in-Ok.ensures.stands told)))
+    named_keeps _ _ 0 _ refl (ap contents c.new.ensures.items) (c.in_ok-root.ensures.made told (subst (λ l. Stands (g.D.Store.view c.read.new.store) c.in-Ok.read.0 l) none (c.in-Ok.ensures.stands told)))
 
 pub returns-then-is_empty-clause-stable : goal.returns-then-is_empty-clause-stable
 returns-then-is_empty-clause-stable g c = λ told.
     let none = none_inside c.in-Ok.read.1 _ c.is_empty.ensures c.if-is_empty.true in
-    c.in_ok-log.ensures.stable told (subst (λ l. Stands (g.D.Store.view c.read.new.store) c.in-Ok.read.0 l) none (c.in-Ok.ensures.stands told))
+    c.in_ok-root.ensures.stable told (subst (λ l. Stands (g.D.Store.view c.read.new.store) c.in-Ok.read.0 l) none (c.in-Ok.ensures.stands told))
 
 pub returns-then-is_empty-clause-crash : goal.returns-then-is_empty-clause-crash
 returns-then-is_empty-clause-crash g c = λ told.
@@ -51,6 +52,11 @@ pub returns-then-is_empty-clause-taken : goal.returns-then-is_empty-clause-taken
 returns-then-is_empty-clause-taken g c = λ told made.
     let none = none_inside c.in-Ok.read.1 _ c.is_empty.ensures c.if-is_empty.true in
     absurd (unfinished_names 0 ((g.D.Store.view c.args.store.now).files 0) made.root (inr (subst (λ l. Reads l ((g.D.Store.view c.args.store.now).files 0)) none (c.in-Ok.ensures.bodies told))))
+
+pub load_generation-requires-clause-root_end : goal.load_generation-requires-clause-root_end
+load_generation-requires-clause-root_end g c =
+    let names = sym (ap contents c.deref.ensures.value) ∙ c.in_ok-generation.ensures.names in
+    root_end (contents c.in-Ok.read.1.items) c.in_ok-generation.generation c.in-Ok.read.0.end names c.in-Ok.ensures.end
 
 pub returns-clause-crash : goal.returns-clause-crash
 returns-clause-crash g c = λ told. loading_narrow _ _ (narrows_on _ _ _ c.read.ensures.narrows c.load_generation.ensures.narrows)
