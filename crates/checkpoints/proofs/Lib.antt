@@ -1,0 +1,5 @@
+pub mod Order
+pub mod Whole
+pub mod Limits
+pub mod Staying
+pub mod Restored
