@@ -131,6 +131,12 @@ since_then_stays care a b u v w since stays =
     spans_on Everything (IsSoundForOneOf care a b) u v w since
     (spans_wider Everything Everything (λ image. IsSound care image b) (IsSoundForOneOf care a b) v w stays (λ g any. any) (λ image is others. inr is))
 
+-- and one in which the first does
+pub since_then_first : (care : Care) (a b : State) (u v w : View) → Since care a b u v → StaysSound care a v w → Since care a b u w
+since_then_first care a b u v w since stays =
+    spans_on Everything (IsSoundForOneOf care a b) u v w since
+    (spans_wider Everything Everything (λ image. IsSound care image a) (IsSoundForOneOf care a b) v w stays (λ g any. any) (λ image is others. inl is))
+
 -- ---- what stands after a call that failed
 
 pub near_back : (a b : State) → Near a b → Near b a

@@ -40,6 +40,7 @@ pub record Going (due : Bool) (all : List (Vec ℕ Global)) (i : ℕ) (now : Boo
   pub reached : (t' : Table) → Replays now t (contents (drop i all)) t' → Replays due empty_table (contents all) t'
   pub stopped : (at : ℕ) → StopsReplay now t (gate_at all i) (contents (drop i all)) at → StopsReplay due empty_table 8 (contents all) at
   pub first : now ≡ true → i ≡ 0
+  pub fresh : now ≡ true → t ≡ empty_table
 
 pub going_from : (due : Bool) (all : List (Vec ℕ Global)) (now : Bool) (t : Table) → now ≡ due → t ≡ empty_table → Going due all 0 now t
 unfolding gate_at
@@ -48,6 +49,7 @@ going_from due all now t now_is t_is = record {
   stopped = λ at stops. subst (λ n. StopsReplay due empty_table n (contents all) at) length-front_empty
       (subst (λ x. StopsReplay due x (length (front [])) (contents all) at) t_is (subst (λ b. StopsReplay b t (length (front [])) (contents all) at) now_is stops));
   first = λ is. refl;
+  fresh = λ is. t_is;
 }
 
 pub stops_at : (m n : ℕ) → replay.Stops m ≡ replay.Stops n → m ≡ n
@@ -67,6 +69,7 @@ module _ (due : Bool) (all : List (Vec ℕ Global)) (i : ℕ) (now : Bool) (t : 
               (subst (λ y. StopsReplay false y (gate_at all (suc i)) (contents (drop (suc i) all)) at) t_is stops),
         )));
     first = λ is. absurd (false≢true is);
+    fresh = λ is. absurd (false≢true is);
   }
 
   pub going_on : (t' : Table) (bytes : List ℕ) (c : Change) → bytes ≡ body.items → IsBodyOf c bytes → MayBeMade now t c → t' ≡ after c t → Going due all (i + 1) false t'

@@ -21,3 +21,5 @@ pub mod Removals
 pub mod FreeFiles
 pub mod Collecting
 pub mod Unread
+pub mod SpelledLogs
+pub mod Replacing

@@ -49,7 +49,7 @@ ticks_left (change.Stream name columns) t plain fits = fits.counted
 ticks_left (change.Append stream extent) t plain fits = fits.counted
 ticks_left (change.Work program reads dropped kept) t plain fits = fits.counted
 ticks_left (change.Collect ids) t plain fits = fits.counted
-ticks_left (change.Checkpoint whole) t plain fits = absurd fits
+ticks_left (change.Checkpoint whole) t plain fits = absurd (cc)
 
 module _ (care : Care) (u v : View) (t : Table) (journal : Journal) (s s' : State) (c : Change) (body : List ℕ)
     (law : (g : ℕ) → Now u g (u.files g)) (means : Means care u t journal s) (next : IsNext care u s c s') (is_body : IsBodyOf c body)

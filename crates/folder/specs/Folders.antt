@@ -1,5 +1,5 @@
 -- The table and the journal of a folder that was loaded.
-use Rattle.std.specs.Prelude.{◌≡◌, ℕ, Result, Ok, Err, Vec, ⊤}
+use Rattle.std.specs.Prelude.{◌≡◌, ℕ, length, Result, Ok, Err, Vec, ⊤}
 use Rattle.std.specs.declared.alloc.Global.{Global}
 use Rattle.outside_traits.specs.View.{View}
 use Rattle.gated_log.specs.Logs.{contents}
@@ -16,6 +16,7 @@ use Rattle.folder.specs.Refusals.{journal_as}
 use Rattle.folder.specs.Sound.{Care}
 use Rattle.folder.specs.Standing.{Stands, Means}
 use Rattle.folder.specs.declared.folder.Folder.{Folder}
+use Rattle.folder.specs.declared.found.Found.{Found}
 use Rattle.folder.specs.declared.refusal.LoadRefusal.{LoadRefusal}
 use Rattle.folder.specs.declared.refusal.LoadRefusal.TheVariants.{Fault, NotAStore, Memory}
 
@@ -37,12 +38,13 @@ abbrev pub FolderMeans : Care → View → Folder → State → Type 0
 FolderMeans care v folder s = Means care v (table_in folder) (journal_of folder) s
 
 -- What was read of the journal leads to this folder, or to this refusal.
-abbrev pub Gives : Result (Journal × Vec (Vec ℕ Global) Global) JournalRefusal → Result Folder LoadRefusal → Type 0
-Gives (Ok r) (Ok folder) =
-    (journal_of folder ≡ r.0) × Replays (due_in (generation_of r.0)) empty_table (contents r.1.items) (table_in folder)
+abbrev pub Gives : Result (Journal × Vec (Vec ℕ Global) Global) JournalRefusal → Result Found LoadRefusal → Type 0
+Gives (Ok r) (Ok found) =
+    (journal_of found.folder ≡ r.0) × Replays (due_in (generation_of r.0)) empty_table (contents r.1.items) (table_in found.folder)
+    × (found.bodies ≡ length r.1.items)
 Gives (Ok r) (Err Fault) = ⊥
 Gives (Ok r) (Err (NotAStore file at)) =
     (file ≡ generation_file (generation_of r.0)) × StopsReplay (due_in (generation_of r.0)) empty_table 8 (contents r.1.items) at
 Gives (Ok r) (Err Memory) = ⊤
-Gives (Err why) (Ok folder) = ⊥
+Gives (Err why) (Ok found) = ⊥
 Gives (Err why) (Err refusal) = refusal ≡ journal_as why

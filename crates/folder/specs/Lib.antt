@@ -10,3 +10,4 @@ pub mod Files
 pub mod Refusals
 pub mod Folders
 pub mod Damage
+pub mod InUse

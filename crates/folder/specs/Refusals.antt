@@ -3,6 +3,8 @@ use Rattle.std.specs.Prelude.{ℕ, ◌+◌, ◌^◌, ◌<◌, ◌≤◌, Bool, L
 use Rattle.record_codec.specs.declared.refusal.ChangeRefusal.{ChangeRefusal}
 use Rattle.record_codec.specs.declared.refusal.ChangeRefusal.TheVariants as of_change
 use Rattle.catalog_core.specs.Table.{Table}
+use Rattle.catalog_core.specs.declared.refusal.CatalogRefusal.{CatalogRefusal}
+use Rattle.catalog_core.specs.declared.refusal.CatalogRefusal.TheVariants as of_catalog
 use Rattle.journal_store.specs.declared.refusal.JournalRefusal.{JournalRefusal}
 use Rattle.journal_store.specs.declared.refusal.JournalRefusal.TheVariants as of_journal
 use Rattle.folder.specs.Replay.{StopsIn}
@@ -21,6 +23,11 @@ journal_as of_journal.Memory = load.Memory
 abbrev pub change_as : ChangeRefusal → ReplayRefusal
 change_as (of_change.NotChange at) = replay.Stops at
 change_as of_change.Memory = replay.Memory
+
+-- why a change isn't made
+abbrev pub catalog_as : CatalogRefusal → ReplayRefusal
+catalog_as of_catalog.Misfit = replay.Stops 0
+catalog_as of_catalog.Memory = replay.Memory
 
 -- why the log in this file isn't replayed
 abbrev pub replay_as : ℕ → ReplayRefusal → LoadRefusal

@@ -2,23 +2,16 @@
 use Rattle.std.specs.Prelude.{◌≡◌, ◌⊎◌, ℕ, ◌+◌, nat_lt, Bool, true, false, List, [], ◌∷◌, length}
 use Rattle.byte_formats.specs.Format.{StopsAt}
 use Rattle.catalog_types.specs.declared.change.Change.{Change}
-use Rattle.catalog_types.specs.declared.change.Change.TheVariants.{Stream, Append, Work, Collect, Checkpoint}
 use Rattle.record_codec.specs.Spelling.{change_spelling}
 use Rattle.record_codec.specs.Formats.{IsSpelledChange, change_format}
 use Rattle.catalog_core.specs.Table.{Table, empty_table, Fits, after}
+pub use Rattle.catalog_core.specs.Table.{is_checkpoint}
 use Rattle.journal_store.specs.Readings.{HaveBodies, generation_file}
 use Rattle.journal_store.specs.Readings as journal
 
 -- the body spells this change
 abbrev pub IsBodyOf : Change → List ℕ → Type 0
 IsBodyOf c body = IsSpelledChange c × (body ≡ change_spelling c)
-
-abbrev pub is_checkpoint : Change → Bool
-is_checkpoint (Stream name columns) = false
-is_checkpoint (Append stream extent) = false
-is_checkpoint (Work program reads dropped kept) = false
-is_checkpoint (Collect ids) = false
-is_checkpoint (Checkpoint whole) = true
 
 -- A change may be made of this table: it fits, and it is a checkpoint exactly where one is due.
 abbrev pub MayBeMade : Bool → Table → Change → Type 0

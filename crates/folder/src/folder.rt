@@ -9,22 +9,28 @@ ghost use Rattle.gated_log.specs.Logs.{front, contents};
 ghost use Rattle.record_codec.specs.Spelling.{change_spelling, HasChangeSpelling};
 ghost use Rattle.catalog_core.specs.Table.{Table, empty_table, after, Fits};
 ghost use Rattle.catalog_core.specs.Catalogs.{table_of, IsReady};
-ghost use Rattle.journal_store.specs.Readings.{generation_file, IsUnfinished, LogHasAtMost};
-ghost use Rattle.journal_store.specs.Journals.{end_of, generation_of};
+ghost use Rattle.checkpoints.specs.Spelled.{IsSpelledTable};
+ghost use Rattle.journal_store.specs.Readings.{generation_file, HaveBodies, LogHasAtMost};
+ghost use Rattle.journal_store.specs.Journals.{end_of, generation_of, Keeps};
 ghost use Rattle.folder.specs.State.{State, table, file_bytes};
 ghost use Rattle.folder.specs.Replay.{Replays, ReadsAs, StopsReading, StopsReplay, due_in, is_checkpoint};
 ghost use Rattle.folder.specs.Sound.{Care};
 ghost use Rattle.folder.specs.Left.{IsLeft, IsLeftWith, Since, StaysSound};
 ghost use Rattle.folder.specs.Standing.{Means, IsNext};
 
-use crate::refusal::{LoadRefusal, of_journal};
+use crate::found::Found;
+use crate::refusal::LoadRefusal;
 use crate::replay::{of_replay, replay};
 use catalog_core::{Catalog, CatalogRefusal};
 use catalog_types::Change;
+use checkpoints::spell_checkpoint;
 use extent_files::write_file;
-use journal_store::{Journal, JournalRefusal};
+use journal_store::Journal;
 use outside_traits::{Failed, Store};
 use std::alloc::Global;
+
+/// The most bodies of a log that loading leaves.
+const MOST_BODIES: usize = 1_024;
 
 /// A folder that was loaded: its table in memory, and the journal that keeps it.
 #[derive(Drop)]
@@ -36,11 +42,13 @@ pub struct Folder {
 
 impl Folder {
     ghost use Rattle.folder.specs.Folders.{catalog_of, journal_of, table_in, FolderStands, FolderMeans};
+    ghost use Rattle.folder.specs.InUse.{most_bodies, IsInUse, IsLoadedAsItIs, IsReplaced};
 
     /// Loads a folder, which is made where its making isn't finished. The table is what the logs read as.
     /// `NotAStore` comes exactly where they read as none, with the first byte where reading stops, and leaves
     /// each file as it was. `Fault` comes only where the store failed. No file is read but the logs, each
-    /// once.
+    /// once. A log of more than 1,024 bodies is replaced by that of the next generation, which begins with a
+    /// checkpoint of the table.
     pub fn load<D: Store>(alloc: Global, store: &mut D) -> Result<Folder, LoadRefusal>
         ensures reading { IsTrue D.tells
             → IfOk result (λ folder. ReadsAs (D.view store.old).files (table_in folder)) }
@@ -61,8 +69,13 @@ impl Folder {
             → OnOk result ⊥ }
         ensures place { IsTrue D.tells → (file at g b : ℕ) → StopsReading (D.view store.old).files file at
             → IsErrOf result (LoadRefusal.NotAStore g b) → (g ≡ file) × (b ≡ at) }
-        // Where the making is finished no file is changed, nor before `NotAStore`.
-        ensures finished { IsTrue D.tells → (IsUnfinished ((D.view store.old).files 0) → ⊥)
+        // The generation in use is the one that was or is newly made, unless that has more than 1,024 bodies;
+        // then it is the next one, with the checkpoint as its one body.
+        ensures generation { IsTrue D.tells → (g : ℕ) (bodies : List (List ℕ))
+            → HaveBodies (D.view store.old).files g bodies
+            → IfOk result (λ folder. IsInUse (D.view store.new) folder g bodies) }
+        // Where the making is finished and no log is long no file is changed, nor before `NotAStore`.
+        ensures finished { IsTrue D.tells → IsLoadedAsItIs (D.view store.old).files
             → Narrows (D.view store.old) (D.view store.new) }
         ensures unchanged { IsTrue D.tells → (file at : ℕ) → IsErrOf result (LoadRefusal.NotAStore file at)
             → Narrows (D.view store.old) (D.view store.new) }
@@ -72,18 +85,61 @@ impl Folder {
         ensures no_fault { OnOk result
             (((D.counts store.new).reads ≡ (D.counts store.old).reads)
             × ((D.counts store.new).writes ≡ (D.counts store.old).writes)) }
-        ensures taken { IsTrue D.tells → IfOk result (λ folder. (D.counts store.new).taken
+        ensures taken { IsTrue D.tells → (g : ℕ) (bodies : List (List ℕ))
+            → HaveBodies (D.view store.old).files g bodies → (D.counts store.new).taken
             ≤ (D.counts store.old).taken + length ((D.view store.old).files 0)
-            + length ((D.view store.old).files (generation_file (generation_of (journal_of folder))))) }
+            + length ((D.view store.old).files (generation_file g)) }
         // Never are more bytes taken than those of the root and of the log that it names.
         ensures most_taken { IsTrue D.tells → (most : ℕ) → LogHasAtMost (D.view store.old).files most
             → (D.counts store.new).taken
             ≤ (D.counts store.old).taken + length ((D.view store.old).files 0) + most }
         ensures counts { Rises (D.counts store.old) (D.counts store.new) }
-        ensures removes { (D.counts store.new).removes ≡ (D.counts store.old).removes }
     {
-        let read = Journal::load(alloc, store);
-        Folder::over_read(alloc, read)
+        match Found::read(alloc, store) {
+            Ok(Found { folder, bodies }) => {
+                if bodies > MOST_BODIES {
+                    folder.replace_log(alloc, store)
+                } else {
+                    Ok(folder)
+                }
+            }
+            Err(refusal) => Err(refusal),
+        }
+    }
+
+    // Replaces the log by that of the next generation, whose one body is the checkpoint of the table. Each
+    // crash leaves the state as it was. `Fault` comes only where the store failed.
+    fn replace_log<D: Store>(self, alloc: Global, store: &mut D) -> Result<Folder, LoadRefusal>
+        requires spelled { IsSpelledTable (table_in self) }
+        requires room { generation_of (journal_of self) < 2 ^ 60 }
+        ensures table { IfOk result (λ folder. table_in folder ≡ table_in self) }
+        ensures stays { IsTrue D.tells → (care : Care) (s : State)
+            → FolderMeans care (D.view store.old) self s
+            → StaysSound care s (D.view store.old) (D.view store.new) }
+        ensures means { IsTrue D.tells → (care : Care) (s : State)
+            → FolderMeans care (D.view store.old) self s
+            → IfOk result (λ folder. FolderMeans care (D.view store.new) folder s) }
+        ensures stands { IsTrue D.tells → FolderStands (D.view store.old) self
+            → IfOk result (λ folder. FolderStands (D.view store.new) folder) }
+        ensures replaced { IsTrue D.tells → FolderStands (D.view store.old) self
+            → (g : ℕ) (bodies : List (List ℕ)) → Keeps (D.view store.old) (journal_of self) g bodies
+            → most_bodies < length bodies → IfOk result (λ folder. IsReplaced (D.view store.new) folder g bodies) }
+        ensures is_store { (file at : ℕ) → IsErrOf result (LoadRefusal.NotAStore file at) → ⊥ }
+        ensures cause { IsErrOf result LoadRefusal.Fault
+            → Rose (D.counts store.old).writes (D.counts store.new).writes }
+        ensures no_fault { OnOk result ((D.counts store.new).writes ≡ (D.counts store.old).writes) }
+        ensures reads { (D.counts store.new).reads ≡ (D.counts store.old).reads }
+        ensures taken { (D.counts store.new).taken ≡ (D.counts store.old).taken }
+        ensures counts { Rises (D.counts store.old) (D.counts store.new) }
+    {
+        let Folder { catalog, journal } = self;
+        let Ok(body) = spell_checkpoint(alloc, &catalog) else {
+            return Err(LoadRefusal::Memory);
+        };
+        match journal.checkpoint(store, &body) {
+            Ok(journal) => Ok(Folder { catalog, journal }),
+            Err(Failed) => Err(LoadRefusal::Fault),
+        }
     }
 
     /// The table.
@@ -100,8 +156,9 @@ impl Folder {
         &self.journal
     }
 
-    /// Takes all the memory that recording the change wants. Nothing changes but that.
+    /// Takes all the memory that recording the change wants, which is no checkpoint. Nothing changes but that.
     pub fn prepare(&mut self, change: &Change) -> Result<(), CatalogRefusal>
+        requires { is_checkpoint change.now ≡ false }
         ensures same { table_in self.new ≡ table_in self.old }
         ensures journal { journal_of self.new ≡ journal_of self.old }
         ensures ready { OnOk result (IsReady (catalog_of self.new) change.now) }
@@ -191,10 +248,14 @@ impl Folder {
 }
 
 impl Folder {
-    ghost use Rattle.folder.specs.Folders.{journal_of, table_in, Gives};
+    ghost use Rattle.folder.specs.Folders.{journal_of, table_in};
 
     // The folder over what was read of the journal.
-    fn over(alloc: Global, journal: Journal, bodies: &[Vec<u8>]) -> Result<Folder, LoadRefusal>
+    pub(crate) fn over(
+        alloc: Global,
+        journal: Journal,
+        bodies: &[Vec<u8>],
+    ) -> Result<Folder, LoadRefusal>
         requires end { end_of journal ≡ length (front (contents bodies.now)) + 1 }
         requires bound { end_of journal < 2 ^ 63 }
         ensures journal { IfOk result (λ folder. journal_of folder ≡ journal) }
@@ -208,21 +269,6 @@ impl Folder {
         match replay(alloc, journal.generation(), bodies) {
             Ok(catalog) => Ok(Folder { catalog, journal }),
             Err(refusal) => Err(of_replay(journal.file(), refusal)),
-        }
-    }
-
-    // The folder over the journal, if that was loaded.
-    fn over_read(
-        alloc: Global,
-        read: Result<(Journal, Vec<Vec<u8>>), JournalRefusal>,
-    ) -> Result<Folder, LoadRefusal>
-        requires end { IfOk read (λ r. end_of r.0 ≡ length (front (contents r.1.items)) + 1) }
-        requires bound { IfOk read (λ r. end_of r.0 < 2 ^ 63) }
-        ensures { Gives read result }
-    {
-        match read {
-            Ok((journal, bodies)) => Folder::over(alloc, journal, &bodies),
-            Err(refusal) => Err(of_journal(refusal)),
         }
     }
 }

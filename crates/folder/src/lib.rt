@@ -3,6 +3,7 @@
 
 mod files;
 pub mod folder;
+pub mod found;
 pub mod laws;
 pub mod refusal;
 mod removing;

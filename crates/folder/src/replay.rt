@@ -1,10 +1,10 @@
 //! The table to which the bodies of a log lead.
-ghost use Rattle.std.specs.Prelude.{◌≡◌, ℕ, ◌^◌, ◌<◌, length, IfOk, OnOk, IsErrOf, IfErr};
+ghost use Rattle.std.specs.Prelude.{◌≡◌, ℕ, ◌^◌, ◌<◌, true, false, length, IfOk, OnOk, IsErrOf, IfErr};
 ghost use Rattle.gated_log.specs.Logs.{front, contents};
 ghost use Rattle.catalog_types.specs.declared.change.Change.{Change};
-ghost use Rattle.catalog_core.specs.Table.{empty_table, after};
+ghost use Rattle.catalog_core.specs.Table.{empty_table, after, Fits};
 ghost use Rattle.catalog_core.specs.Catalogs.{table_of};
-ghost use Rattle.folder.specs.Refusals.{change_as, from_place, replay_as, FitsFrom, IsStop};
+ghost use Rattle.folder.specs.Refusals.{catalog_as, change_as, from_place, replay_as, FitsFrom, IsStop};
 ghost use Rattle.folder.specs.Replay.{IsBodyOf, MayBeMade, Replays, StopsReplay, due_in, is_checkpoint};
 
 use crate::refusal::LoadRefusal;
@@ -46,8 +46,48 @@ fn of_change(refusal: ChangeRefusal) -> ReplayRefusal
     }
 }
 
+// Why a body isn't replayed, where its change isn't made.
+fn of_catalog(refusal: CatalogRefusal) -> ReplayRefusal
+    ensures { result ≡ catalog_as refusal }
+{
+    match refusal {
+        CatalogRefusal::Misfit => ReplayRefusal::Stops { at: 0 },
+        CatalogRefusal::Memory => ReplayRefusal::Memory,
+    }
+}
+
+// Makes a change that is no checkpoint.
+fn apply(catalog: &mut Catalog, change: Change) -> Result<(), CatalogRefusal>
+    requires { is_checkpoint change ≡ false }
+    ensures fits { OnOk result (Fits change (table_of catalog.old)) }
+    ensures made { OnOk result (table_of catalog.new ≡ after change (table_of catalog.old)) }
+    ensures misfit { IsErrOf result CatalogRefusal.Misfit → Fits change (table_of catalog.old) → ⊥ }
+{
+    catalog.prepare(&change)?;
+    catalog.apply(change);
+    Ok(())
+}
+
+// Makes a checkpoint, the first change of its log.
+fn restore(alloc: Global, catalog: &mut Catalog, change: Change) -> Result<(), CatalogRefusal>
+    requires is { is_checkpoint change ≡ true }
+    requires first { table_of catalog.old ≡ empty_table }
+    ensures fits { OnOk result (Fits change (table_of catalog.old)) }
+    ensures made { OnOk result (table_of catalog.new ≡ after change (table_of catalog.old)) }
+    ensures misfit { IsErrOf result CatalogRefusal.Misfit → Fits change (table_of catalog.old) → ⊥ }
+{
+    match change {
+        Change::Checkpoint { whole } => {
+            *catalog = Catalog::restored(alloc, whole)?;
+            Ok(())
+        }
+        _ => unreachable!(),
+    }
+}
+
 // Makes the change that a body spells. `Stops` says at which byte of the body reading stops.
 fn make(alloc: Global, catalog: &mut Catalog, due: bool, body: &[u8]) -> Result<(), ReplayRefusal>
+    requires { due ≡ true → table_of catalog.old ≡ empty_table }
     ensures made { OnOk result ((c : Change) × IsBodyOf c body.now × MayBeMade due (table_of catalog.old) c
         × (table_of catalog.new ≡ after c (table_of catalog.old))) }
     ensures stops { IfErr result (IsStop due (table_of catalog.old) body.now) }
@@ -59,13 +99,14 @@ fn make(alloc: Global, catalog: &mut Catalog, due: bool, body: &[u8]) -> Result<
     if is_checkpoint(&change) != due {
         return Err(ReplayRefusal::Stops { at: 0 });
     }
-    match catalog.prepare(&change) {
-        Ok(()) => {
-            catalog.apply(change);
-            Ok(())
-        }
-        Err(CatalogRefusal::Misfit) => Err(ReplayRefusal::Stops { at: 0 }),
-        Err(CatalogRefusal::Memory) => Err(ReplayRefusal::Memory),
+    let made = if due {
+        restore(alloc, catalog, change)
+    } else {
+        apply(catalog, change)
+    };
+    match made {
+        Ok(()) => Ok(()),
+        Err(refusal) => Err(of_catalog(refusal)),
     }
 }
 

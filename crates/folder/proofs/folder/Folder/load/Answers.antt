@@ -1,57 +1,86 @@
-use Rattle.folder.proofs.Loading.{loading_since, reads_or_stops, stop_once}
-use Rattle.folder.proofs.LoadLemmas.{load_reading, load_stands, load_means, load_left, load_stops, load_exactly, load_unchanged, gave, load_ok, load_fault, load_taken}
+use Rattle.std.proofs.Common.{◌<◌, length, Err, ap, inl, inr, arith}
+use Rattle.folder.specs.Folders.{table_in}
+use Rattle.folder.specs.InUse.{most_bodies}
+use Rattle.folder.specs.declared.folder.Folder.{Folder}
+use Rattle.folder.specs.declared.refusal.LoadRefusal.TheVariants.{NotAStore}
+use Rattle.folder.proofs.Crash.{left_of_since, since_then_first}
+use Rattle.folder.proofs.Going.{err_same}
+use Rattle.folder.proofs.Loading.{reads_or_stops, stop_once}
+use Rattle.folder.proofs.LoadLemmas.{on_err, ok_map, taken_of}
 use Rattle.folder.proofs.folder.Folder.load.Goals as goal
 
-pub returns-clause-reading : goal.returns-clause-reading
-returns-clause-reading g c = λ told. load_reading (g.D.Store.view c.args.store.now) c.load-read.result c.over_read.result c.over_read.ensures (c.load-read.ensures.reading told)
+-- ---- a log that was replaced
 
-pub returns-clause-stands : goal.returns-clause-stands
-returns-clause-stands g c = λ told. load_stands (g.D.Store.view c.load-read.new.store) c.load-read.result c.over_read.result c.over_read.ensures (c.load-read.ensures.keeps told) (c.load-read.ensures.stable told)
+pub returns-then-bodies-gt-MOST_BODIES-clause-crash : goal.returns-then-bodies-gt-MOST_BODIES-clause-crash
+returns-then-bodies-gt-MOST_BODIES-clause-crash g c = λ told care a b left.
+    since_then_first care a b _ _ _ (c.read.ensures.crash told care a b left) (c.replace_log.ensures.stays told care a (c.in-Ok.ensures.means told care a b left))
 
-pub returns-clause-crash : goal.returns-clause-crash
-returns-clause-crash g c = λ told care a b left. loading_since care (g.D.Store.view c.args.store.now) (g.D.Store.view c.load-read.new.store) a b left (c.load-read.ensures.crash told)
+pub returns-then-bodies-gt-MOST_BODIES-clause-means : goal.returns-then-bodies-gt-MOST_BODIES-clause-means
+returns-then-bodies-gt-MOST_BODIES-clause-means g c = λ told care a b left. c.replace_log.ensures.means told care a (c.in-Ok.ensures.means told care a b left)
 
-pub returns-clause-means : goal.returns-clause-means
-returns-clause-means g c = λ told care a b left. load_means care (g.D.Store.view c.args.store.now) (g.D.Store.view c.load-read.new.store) a b left (c.load-read.ensures.crash told) c.over_read.result
-    (load_reading (g.D.Store.view c.args.store.now) c.load-read.result c.over_read.result c.over_read.ensures (c.load-read.ensures.reading told))
-    (load_stands (g.D.Store.view c.load-read.new.store) c.load-read.result c.over_read.result c.over_read.ensures (c.load-read.ensures.keeps told) (c.load-read.ensures.stable told))
+pub returns-then-bodies-gt-MOST_BODIES-clause-left : goal.returns-then-bodies-gt-MOST_BODIES-clause-left
+returns-then-bodies-gt-MOST_BODIES-clause-left g c = λ told care a b left.
+    on_err c.replace_log.result (left_of_since care (g.D.Store.view c.args.store.now) (g.D.Store.view c.replace_log.new.store) a b left.near (g.met.D.Store.reads_outcome c.replace_log.new.store)
+    (since_then_first care a b _ _ _ (c.read.ensures.crash told care a b left) (c.replace_log.ensures.stays told care a (c.in-Ok.ensures.means told care a b left))))
 
-pub returns-clause-left : goal.returns-clause-left
-returns-clause-left g c = λ told care a b left. load_left care (g.D.Store.view c.args.store.now) (g.D.Store.view c.load-read.new.store) a b left (c.load-read.ensures.crash told) c.over_read.result (g.met.D.Store.reads_outcome c.load-read.new.store)
+pub returns-then-bodies-gt-MOST_BODIES-clause-exactly : goal.returns-then-bodies-gt-MOST_BODIES-clause-exactly
+returns-then-bodies-gt-MOST_BODIES-clause-exactly g c = λ told file at stops.
+    absurd (reads_or_stops (g.D.Store.view c.args.store.now).files (table_in c.in-Ok.field-0.folder) file at (c.in-Ok.ensures.reading told) stops)
 
-pub returns-clause-not_a_store : goal.returns-clause-not_a_store
-returns-clause-not_a_store g c = λ told file at is.
-    load_stops (g.D.Store.view c.args.store.now) file at c.load-read.result (gave c.load-read.result c.over_read.result file at c.over_read.ensures is) (c.load-read.ensures.reading told) (c.load-read.ensures.not_a_store told)
+pub returns-then-bodies-gt-MOST_BODIES-clause-generation : goal.returns-then-bodies-gt-MOST_BODIES-clause-generation
+returns-then-bodies-gt-MOST_BODIES-clause-generation g c = λ told h bodies have.
+    let of_logs = c.in-Ok.ensures.bodies told h bodies have in
+    let long : most_bodies < length bodies = let more = c.if-bodies-gt-MOST_BODIES.true in let many = of_logs.2 in omega (arith, more, many) in
+    ok_map c.replace_log.result (c.replace_log.ensures.replaced told (c.in-Ok.ensures.stands told) h bodies of_logs.1 long)
+    (λ folder is. inr is)
 
-pub returns-clause-store : goal.returns-clause-store
-returns-clause-store g c = λ told t reads file at is.
-    reads_or_stops (g.D.Store.view c.args.store.now).files t file at reads
-    (load_stops (g.D.Store.view c.args.store.now) file at c.load-read.result (gave c.load-read.result c.over_read.result file at c.over_read.ensures is) (c.load-read.ensures.reading told) (c.load-read.ensures.not_a_store told))
+pub returns-then-bodies-gt-MOST_BODIES-clause-finished : goal.returns-then-bodies-gt-MOST_BODIES-clause-finished
+returns-then-bodies-gt-MOST_BODIES-clause-finished g c = λ told as_it_is.
+    let reading = c.in-Ok.ensures.reading told in
+    let short = as_it_is.1 reading.generation reading.bodies reading.logs in
+    let many = (c.in-Ok.ensures.bodies told reading.generation reading.bodies reading.logs).2 in
+    let more = c.if-bodies-gt-MOST_BODIES.true in
+    absurd (omega (arith, short, many, more))
 
-pub returns-clause-exactly : goal.returns-clause-exactly
-returns-clause-exactly g c = λ told. load_exactly (g.D.Store.view c.args.store.now) c.over_read.result (load_reading (g.D.Store.view c.args.store.now) c.load-read.result c.over_read.result c.over_read.ensures (c.load-read.ensures.reading told))
+pub returns-then-bodies-gt-MOST_BODIES-clause-taken : goal.returns-then-bodies-gt-MOST_BODIES-clause-taken
+returns-then-bodies-gt-MOST_BODIES-clause-taken g c = λ told h bodies have.
+    let most = taken_of (g.D.Store.view c.args.store.now) (g.D.Store.counts c.args.store.now).taken (g.D.Store.counts c.read.new.store).taken (c.in-Ok.ensures.most_taken told) h bodies have in
+    let same = c.replace_log.ensures.taken in
+    omega (arith, most, same)
 
-pub returns-clause-place : goal.returns-clause-place
-returns-clause-place g c = λ told file at h b stops is.
-    stop_once (g.D.Store.view c.args.store.now).files h b file at
-    (load_stops (g.D.Store.view c.args.store.now) h b c.load-read.result (gave c.load-read.result c.over_read.result h b c.over_read.ensures is) (c.load-read.ensures.reading told) (c.load-read.ensures.not_a_store told))
-    stops
+pub returns-then-bodies-gt-MOST_BODIES-clause-most_taken : goal.returns-then-bodies-gt-MOST_BODIES-clause-most_taken
+returns-then-bodies-gt-MOST_BODIES-clause-most_taken g c = λ told most at_most.
+    let few = c.in-Ok.ensures.most_taken told most at_most in
+    let same = c.replace_log.ensures.taken in
+    omega (arith, few, same)
 
-pub returns-clause-finished : goal.returns-clause-finished
-returns-clause-finished g c = c.load-read.ensures.finished
+-- ---- one that was left
 
-pub returns-clause-unchanged : goal.returns-clause-unchanged
-returns-clause-unchanged g c = λ told file at is.
-    load_unchanged (g.D.Store.view c.args.store.now) (g.D.Store.view c.load-read.new.store) file at c.load-read.result (gave c.load-read.result c.over_read.result file at c.over_read.ensures is) (c.load-read.ensures.reading told) (c.load-read.ensures.finished told) c.load-read.ensures.unchanged
+pub returns-else-bodies-gt-MOST_BODIES-clause-exactly : goal.returns-else-bodies-gt-MOST_BODIES-clause-exactly
+returns-else-bodies-gt-MOST_BODIES-clause-exactly g c = λ told file at stops.
+    absurd (reads_or_stops (g.D.Store.view c.args.store.now).files (table_in c.in-Ok.field-0.folder) file at (c.in-Ok.ensures.reading told) stops)
 
-pub returns-clause-cause : goal.returns-clause-cause
-returns-clause-cause g c = λ is. c.load-read.ensures.cause (load_fault c.load-read.result c.over_read.result c.over_read.ensures is)
+pub returns-else-bodies-gt-MOST_BODIES-clause-generation : goal.returns-else-bodies-gt-MOST_BODIES-clause-generation
+returns-else-bodies-gt-MOST_BODIES-clause-generation g c = λ told h bodies have.
+    let of_logs = c.in-Ok.ensures.bodies told h bodies have in
+    inl (record {
+      short = let few = c.if-bodies-gt-MOST_BODIES.false in let many = of_logs.2 in omega (arith, few, many);
+      generation = of_logs.0;
+      keeps = of_logs.1;
+    })
 
-pub returns-clause-no_fault : goal.returns-clause-no_fault
-returns-clause-no_fault g c = load_ok _ c.load-read.result c.over_read.result c.over_read.ensures c.load-read.ensures.no_fault
+pub returns-else-bodies-gt-MOST_BODIES-clause-taken : goal.returns-else-bodies-gt-MOST_BODIES-clause-taken
+returns-else-bodies-gt-MOST_BODIES-clause-taken g c = λ told. taken_of (g.D.Store.view c.args.store.now) (g.D.Store.counts c.args.store.now).taken (g.D.Store.counts c.read.new.store).taken (c.in-Ok.ensures.most_taken told)
 
-pub returns-clause-taken : goal.returns-clause-taken
-returns-clause-taken g c = λ told. load_taken (g.D.Store.view c.args.store.now) (g.D.Store.counts c.args.store.now).taken (g.D.Store.counts c.load-read.new.store).taken c.load-read.result c.over_read.result c.over_read.ensures (c.load-read.ensures.reading told) (c.load-read.ensures.most_taken told)
+-- ---- none was read
 
-pub returns-clause-most_taken : goal.returns-clause-most_taken
-returns-clause-most_taken g c = c.load-read.ensures.most_taken
+pub returns-in-Err-clause-store : goal.returns-in-Err-clause-store
+returns-in-Err-clause-store g c = λ told t reads file at is.
+    reads_or_stops (g.D.Store.view c.args.store.now).files t file at reads (c.in-Err.ensures.not_a_store told file at (ap Err (err_same {T = Folder} c.in-Err.refusal (NotAStore file at) is)))
+
+pub returns-in-Err-clause-place : goal.returns-in-Err-clause-place
+returns-in-Err-clause-place g c = λ told file at h b stops is.
+    stop_once (g.D.Store.view c.args.store.now).files h b file at (c.in-Err.ensures.not_a_store told h b (ap Err (err_same {T = Folder} c.in-Err.refusal (NotAStore h b) is))) stops
+
+pub returns-in-Err-clause-taken : goal.returns-in-Err-clause-taken
+returns-in-Err-clause-taken g c = λ told. taken_of (g.D.Store.view c.args.store.now) (g.D.Store.counts c.args.store.now).taken (g.D.Store.counts c.read.new.store).taken (c.in-Err.ensures.most_taken told)
