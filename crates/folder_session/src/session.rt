@@ -9,6 +9,7 @@ ghost use Rattle.catalog_types.specs.declared.change.Change.{Change};
 ghost use Rattle.catalog_core.specs.Catalogs.{IsReady, table_of};
 ghost use Rattle.catalog_core.specs.Table.{Fits, after};
 ghost use Rattle.folder.specs.Folders.{catalog_of, journal_of, table_in, FolderStands};
+ghost use Rattle.folder.specs.InUse.{IsInUse, IsLoadedAsItIs};
 ghost use Rattle.folder.specs.Left.{IsLeft, IsLeftWith, Since};
 ghost use Rattle.folder.specs.Replay.{ReadsAs, StopsReading, is_checkpoint};
 ghost use Rattle.folder.specs.Sound.{Care};
@@ -16,7 +17,7 @@ ghost use Rattle.folder.specs.Standing.{IsNext};
 ghost use Rattle.folder.specs.State.{State, table};
 ghost use Rattle.journal_store.specs.Journals.{generation_of};
 ghost use Rattle.later_states.specs.Later.{IsLater, SparesHeld};
-ghost use Rattle.journal_store.specs.Readings.{generation_file, IsUnfinished, LogHasAtMost};
+ghost use Rattle.journal_store.specs.Readings.{generation_file, HaveBodies, LogHasAtMost};
 ghost use Rattle.planning.specs.Appending.{Append, append_change, file_bytes};
 ghost use Rattle.planning.specs.Recorded.{IsRecordOf};
 ghost use Rattle.folder.specs.Next.{with_rows, AreRowsOf};
@@ -69,8 +70,13 @@ impl FolderSession {
             → OnErr result (IsLeftWith care (D.view store.new) a b) }
         ensures not_a_store { IsTrue D.tells → (file at : ℕ) → IsErrOf result (LoadRefusal.NotAStore file at)
             → StopsReading (D.view store.old).files file at × Narrows (D.view store.old) (D.view store.new) }
-        // Where the making is finished no file is changed.
-        ensures finished { IsTrue D.tells → (IsUnfinished ((D.view store.old).files 0) → ⊥)
+        // The generation in use is the one that was or is newly made, unless that has more than 1,024 bodies;
+        // then it is the next one, with the checkpoint of the table as its one body.
+        ensures generation { IsTrue D.tells → (g : ℕ) (bodies : List (List ℕ))
+            → HaveBodies (D.view store.old).files g bodies
+            → IfOk result (λ session. IsInUse (D.view store.new) (folder_of session) g bodies) }
+        // Where the making is finished and no log is long no file is changed.
+        ensures finished { IsTrue D.tells → IsLoadedAsItIs (D.view store.old).files
             → Narrows (D.view store.old) (D.view store.new) }
         ensures only { IsTrue D.tells → (file at : ℕ) → StopsReading (D.view store.old).files file at
             → IsErrOf result (LoadRefusal.NotAStore file at) ⊎ (IsErrOf result LoadRefusal.Fault
@@ -81,10 +87,10 @@ impl FolderSession {
         ensures no_fault { OnOk result
             (((D.counts store.new).reads ≡ (D.counts store.old).reads)
             × ((D.counts store.new).writes ≡ (D.counts store.old).writes)) }
-        ensures taken { IsTrue D.tells → IfOk result (λ session. (D.counts store.new).taken
+        ensures taken { IsTrue D.tells → (g : ℕ) (bodies : List (List ℕ))
+            → HaveBodies (D.view store.old).files g bodies → (D.counts store.new).taken
             ≤ (D.counts store.old).taken + length ((D.view store.old).files 0)
-            + length ((D.view store.old).files
-            (generation_file (generation_of (journal_of (folder_of session)))))) }
+            + length ((D.view store.old).files (generation_file g)) }
         // Never are more bytes taken than those of the root and of the log that it names.
         ensures most_taken { IsTrue D.tells → (most : ℕ) → LogHasAtMost (D.view store.old).files most
             → (D.counts store.new).taken
@@ -334,9 +340,10 @@ impl FolderSession {
         }
     }
 
-    /// Takes all the memory that recording the change wants.
+    /// Takes all the memory that recording the change wants, which is no checkpoint.
     pub fn prepare(&mut self, change: &Change) -> Result<(), Memory>
-        requires { Fits change.now (table_in (folder_of self.old)) }
+        requires fits { Fits change.now (table_in (folder_of self.old)) }
+        requires no_checkpoint { is_checkpoint change.now ≡ false }
         ensures table { table_in (folder_of self.new) ≡ table_in (folder_of self.old) }
         ensures journal { journal_of (folder_of self.new) ≡ journal_of (folder_of self.old) }
         ensures ready { OnOk result (IsReady (catalog_of (folder_of self.new)) change.now) }

@@ -11,7 +11,7 @@ use Rattle.catalog_types.specs.declared.extent.Extent.{Extent}
 use Rattle.catalog_types.specs.declared.snapshot.StreamState.{StreamState}
 use Rattle.entry_table.specs.Ids.{is_among, without}
 use Rattle.entry_table.specs.Work.{used, with_use, with_uses}
-use Rattle.catalog_core.specs.Table.{Table, Fits, after, updated, with_extent}
+use Rattle.catalog_core.specs.Table.{Table, Fits, after, keyed, updated, with_extent}
 use Rattle.later_states.specs.Later.{IsGrown, AreGrown, IsSameResult, StayKept, IsLater, AreHeld, AreFree, SparesHeld}
 
 -- ---- streams
@@ -118,7 +118,9 @@ later-changed held t (Stream name columns) fits spares = record { streams = adde
 later-changed held t (Append place extent) fits spares = record { streams = added-extent extent t.streams place; kept = same-kept held t.entries }
 later-changed held t (Work program reads dropped kept) fits spares = record { streams = same-streams t.streams; kept = kept-worked held _ reads dropped t.entries _ spares }
 later-changed held t (Collect ids) fits spares = record { streams = same-streams t.streams; kept = kept-without held ids t.entries spares }
-later-changed held t (Checkpoint whole) fits spares = absurd fits
+-- a checkpoint comes behind the empty table
+later-changed held t (Checkpoint whole) fits spares =
+    subst (λ (x : Table). IsLater held x (keyed whole)) (sym fits.first) (record { streams = tt; kept = λ e has is. absurd (Contains-none e has) })
 
 pub later-twice : (held : List ℕ) (t u v : Table) → IsLater held t u → IsLater held u v → IsLater held t v
 later-twice held t u v first second = record {

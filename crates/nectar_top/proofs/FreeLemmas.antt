@@ -15,12 +15,15 @@ use Rattle.entry_table.specs.Work.{new_entries, with_uses}
 use Rattle.entry_table.proofs.Growth.{all-append, all-used, all-without}
 use Rattle.admission.specs.Admitting.{MadeResult, Admits, entries_of, next_of}
 use Rattle.admission.specs.declared.new_result.NewResult.{NewResult}
-use Rattle.catalog_core.specs.OwnFiles.{IsOther}
 use Rattle.catalog_core.specs.Results.{digests_of}
 use Rattle.catalog_core.specs.Table.{updated}
 use Rattle.folder.specs.Next.{with_stream, with_rows, with_work, with_collection, grown, new_extent}
 use Rattle.folder.specs.Removing.{IsFree}
 use Rattle.folder.specs.State.{Extent, Stream, State, extent_of, stream_of, states_of, table}
+
+-- the file isn't that of this kept result
+abbrev IsOther : ℕ → PlainEntry → Type 0
+IsOther file e = ¬ (e.file.file ≡ file)
 
 -- ---- the files of extents
 

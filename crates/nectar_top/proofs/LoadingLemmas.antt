@@ -5,8 +5,8 @@ use Rattle.session.specs.declared.session.Session.{Session}
 use Rattle.outside_traits.specs.Calls.{Idles}
 use Rattle.outside_traits.specs.Runs.{Narrows}
 use Rattle.outside_traits.specs.View.{View}
-use Rattle.journal_store.specs.Readings.{IsUnfinished}
 use Rattle.outside_traits.proofs.RunLemmas.{idles_narrow, narrows_on, spans_on, spans_narrowed}
+use Rattle.folder.specs.InUse.{IsLoadedAsItIs}
 use Rattle.folder.specs.Left.{IsLeft, IsSoundForOneOf, Everything, Since}
 use Rattle.folder.specs.Replay.{StopsReading}
 use Rattle.folder.specs.declared.refusal.LoadRefusal.{LoadRefusal}
@@ -47,10 +47,10 @@ module _ (u v : View) (idle : Idles u v) where
   pub stops_behind : (file at : ℕ) → StopsReading u.files file at → StopsReading v.files file at
   stops_behind file at stops = subst (λ (f : ℕ → List ℕ). StopsReading f file at) (λ i g. sym (idle.same g) i) stops
 
-  -- where the making is finished no file is changed
-  pub finished_behind : (w : View) → ((IsUnfinished (v.files 0) → ⊥) → Narrows v w) → (IsUnfinished (u.files 0) → ⊥) → Narrows u w
-  finished_behind w loaded made =
-      narrows_on u v w (idles_narrow u v idle) (loaded (λ unmade. made (subst (λ (bytes : List ℕ). IsUnfinished bytes) (idle.same 0) unmade)))
+  -- where loading changes no file, none is changed
+  pub finished_behind : (w : View) → (IsLoadedAsItIs v.files → Narrows v w) → IsLoadedAsItIs u.files → Narrows u w
+  finished_behind w loaded as_it_is =
+      narrows_on u v w (idles_narrow u v idle) (loaded (subst IsLoadedAsItIs (λ i g. sym (idle.same g) i) as_it_is))
 
 -- the exit tells the refusal
 pub refusal_is : (r : LoadRefusal) (e : Exit) (file at : ℕ) → e ≡ exit_of r → IsErrOf {T = Session} (Err e) (exit.NotAStore file at) → IsErrOf {T = Session} (Err r) (refusal.NotAStore file at)

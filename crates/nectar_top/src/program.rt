@@ -8,13 +8,13 @@ ghost use Rattle.outside_traits.specs.Counts.{Rose};
 ghost use Rattle.outside_traits.specs.Calls.{Rises};
 ghost use Rattle.outside_traits.specs.Runs.{Narrows};
 ghost use Rattle.script_text.specs.Reader as reader;
+ghost use Rattle.folder.specs.InUse.{IsLoadedAsItIs};
 ghost use Rattle.folder.specs.Left.{IsLeft, Since};
 ghost use Rattle.folder.specs.Replay.{StopsReading};
 ghost use Rattle.folder.specs.Sound.{Whole};
 ghost use Rattle.folder.specs.State.{State};
 ghost use Rattle.session.specs.Machine.{without_jobs};
 ghost use Rattle.session.specs.Standing.{Stands, HoldsJobs};
-ghost use Rattle.journal_store.specs.Readings.{IsUnfinished};
 ghost use Rattle.nectar_top.specs.Crash.{Found};
 ghost use Rattle.nectar_top.specs.Exits.{EndsBy, EndsFor, EndsOfScript, EndsOfGenerated, Generates};
 ghost use Rattle.nectar_top.specs.Exits.{CompletesBy, CompletesFor, IsOfGenerated};
@@ -101,8 +101,9 @@ pub fn nectar<'a, S: Source, K: Sink, D: Store>(
         (λ quiet. shown quiet (S.left source.old) (K.written sink.old) (D.counts store.old))
         (λ quiet. shown quiet (S.left source.new) (K.written sink.new) (D.counts store.new)) }
 
-    // A run that takes no command changes no file of a folder whose making is finished.
-    ensures finished { IsTrue D.tells → (IsUnfinished ((D.view store.old).files 0) → ⊥)
+    // A run that takes no command changes no file of a folder whose making is finished and whose log isn't
+    // long.
+    ensures finished { IsTrue D.tells → IsLoadedAsItIs (D.view store.old).files
         → WereNotTaken result → Narrows (D.view store.old) (D.view store.new) }
 
     // Reading the log files stops there, and no file is changed; and where it stops the run ends so, but for
@@ -152,7 +153,7 @@ fn run<S: Source, K: Sink, D: Store>(
         → CompletesFor words.now.generate s (D.view store.old) (D.view store.new) result
         (shown words.now.quiet (S.left source.old) (K.written sink.old) (D.counts store.old))
         (shown words.now.quiet (S.left source.new) (K.written sink.new) (D.counts store.new)) }
-    ensures finished { IsTrue D.tells → (IsUnfinished ((D.view store.old).files 0) → ⊥)
+    ensures finished { IsTrue D.tells → IsLoadedAsItIs (D.view store.old).files
         → WereNotTaken result → Narrows (D.view store.old) (D.view store.new) }
     ensures not_a_store { IsTrue D.tells → (file at : ℕ) → result ≡ Exit.NotAStore file at
         → StopsReading (D.view store.old).files file at × Narrows (D.view store.old) (D.view store.new) }
@@ -198,7 +199,7 @@ fn run_generated<K: Sink, D: Store>(
         → CompletesFor (Some number) s (D.view store.old) (D.view store.new) result
         (shown quiet left (K.written sink.old) (D.counts store.old))
         (shown quiet left (K.written sink.new) (D.counts store.new)) }
-    ensures finished { IsTrue D.tells → (IsUnfinished ((D.view store.old).files 0) → ⊥)
+    ensures finished { IsTrue D.tells → IsLoadedAsItIs (D.view store.old).files
         → WereNotTaken result → Narrows (D.view store.old) (D.view store.new) }
     ensures not_a_store { IsTrue D.tells → (file at : ℕ) → result ≡ Exit.NotAStore file at
         → StopsReading (D.view store.old).files file at × Narrows (D.view store.old) (D.view store.new) }
@@ -252,7 +253,7 @@ fn answer_script<S: Source, K: Sink, D: Store>(
         → NoneFailed (faults (S.faults source.old) (K.faults sink.old) (D.counts store.old))
         (faults (S.faults source.new) (K.faults sink.new) (D.counts store.new))
         → IfErr result (λ exit. exit ≡ Exit.Memory) }
-    ensures finished { IsTrue D.tells → (IsUnfinished ((D.view store.old).files 0) → ⊥)
+    ensures finished { IsTrue D.tells → IsLoadedAsItIs (D.view store.old).files
         → IfErr result (λ exit. WereNotTaken exit → Narrows (D.view store.old) (D.view store.new)) }
     ensures not_a_store { IsTrue D.tells → (file at : ℕ) → IsErrOf result (Exit.NotAStore file at)
         → StopsReading (D.view store.old).files file at × Narrows (D.view store.old) (D.view store.new) }
@@ -283,7 +284,7 @@ fn begin<D: Store>(alloc: Global, folder: &str, store: &mut D) -> Result<(Server
     ensures stopped { IsTrue D.tells → (file at : ℕ) → StopsReading (D.view store.old).files file at
         → IsErrOf result (Exit.NotAStore file at) ⊎ (IsErrOf result Exit.StoreFault
         ⊎ IsErrOf result Exit.Memory) }
-    ensures finished { IsTrue D.tells → (IsUnfinished ((D.view store.old).files 0) → ⊥)
+    ensures finished { IsTrue D.tells → IsLoadedAsItIs (D.view store.old).files
         → Narrows (D.view store.old) (D.view store.new) }
     ensures cause { IfErr result (λ exit. HasLoadingCause exit (D.counts store.old) (D.counts store.new)) }
     ensures no_fault { OnOk result
@@ -328,7 +329,7 @@ fn load_folder<D: Store>(alloc: Global, folder: &str, store: &mut D) -> Result<S
     ensures stopped { IsTrue D.tells → (file at : ℕ) → StopsReading (D.view store.old).files file at
         → IsErrOf result (Exit.NotAStore file at) ⊎ (IsErrOf result Exit.StoreFault
         ⊎ IsErrOf result Exit.Memory) }
-    ensures finished { IsTrue D.tells → (IsUnfinished ((D.view store.old).files 0) → ⊥)
+    ensures finished { IsTrue D.tells → IsLoadedAsItIs (D.view store.old).files
         → Narrows (D.view store.old) (D.view store.new) }
     ensures cause { IfErr result (λ exit. HasLoadingCause exit (D.counts store.old) (D.counts store.new)) }
     ensures no_fault { OnOk result

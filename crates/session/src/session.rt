@@ -5,13 +5,13 @@ ghost use Rattle.outside_traits.specs.Counts.{Rose};
 ghost use Rattle.outside_traits.specs.View.{View, Counts};
 ghost use Rattle.outside_traits.specs.Calls.{Rises};
 ghost use Rattle.outside_traits.specs.Runs.{Narrows};
-ghost use Rattle.folder.specs.Folders.{journal_of, table_in, FolderStands};
+ghost use Rattle.folder.specs.Folders.{table_in, FolderStands};
+ghost use Rattle.folder.specs.InUse.{IsInUse, IsLoadedAsItIs};
 ghost use Rattle.folder.specs.Left.{IsLeft, IsLeftWith, Since};
 ghost use Rattle.folder.specs.Replay.{ReadsAs, StopsReading};
 ghost use Rattle.folder.specs.Sound.{Care};
 ghost use Rattle.folder.specs.State.{State};
-ghost use Rattle.journal_store.specs.Journals.{generation_of};
-ghost use Rattle.journal_store.specs.Readings.{generation_file, IsUnfinished, LogHasAtMost};
+ghost use Rattle.journal_store.specs.Readings.{generation_file, HaveBodies, LogHasAtMost};
 ghost use Rattle.script_text.specs.Answer.{IsNarrow};
 ghost use Rattle.script_text.specs.Script.{IsWhole};
 ghost use Rattle.script_text.specs.declared.answer.Refusal.{Refusal};
@@ -63,8 +63,13 @@ impl Session {
             → OnErr result (IsLeftWith care (D.view store.new) a b) }
         ensures not_a_store { IsTrue D.tells → (file at : ℕ) → IsErrOf result (LoadRefusal.NotAStore file at)
             → StopsReading (D.view store.old).files file at × Narrows (D.view store.old) (D.view store.new) }
-        // Where the making is finished no file is changed.
-        ensures finished { IsTrue D.tells → (IsUnfinished ((D.view store.old).files 0) → ⊥)
+        // The generation in use is the one that was or is newly made, unless that has more than 1,024 bodies;
+        // then it is the next one, with the checkpoint of the table as its one body.
+        ensures generation { IsTrue D.tells → (g : ℕ) (bodies : List (List ℕ))
+            → HaveBodies (D.view store.old).files g bodies
+            → IfOk result (λ session. IsInUse (D.view store.new) (folder_of session) g bodies) }
+        // Where the making is finished and no log is long no file is changed.
+        ensures finished { IsTrue D.tells → IsLoadedAsItIs (D.view store.old).files
             → Narrows (D.view store.old) (D.view store.new) }
         ensures only { IsTrue D.tells → (file at : ℕ) → StopsReading (D.view store.old).files file at
             → IsErrOf result (LoadRefusal.NotAStore file at) ⊎ (IsErrOf result LoadRefusal.Fault
@@ -75,10 +80,10 @@ impl Session {
         ensures no_fault { OnOk result
             (((D.counts store.new).reads ≡ (D.counts store.old).reads)
             × ((D.counts store.new).writes ≡ (D.counts store.old).writes)) }
-        ensures taken { IsTrue D.tells → IfOk result (λ session. (D.counts store.new).taken
+        ensures taken { IsTrue D.tells → (g : ℕ) (bodies : List (List ℕ))
+            → HaveBodies (D.view store.old).files g bodies → (D.counts store.new).taken
             ≤ (D.counts store.old).taken + length ((D.view store.old).files 0)
-            + length ((D.view store.old).files
-            (generation_file (generation_of (journal_of (folder_of session)))))) }
+            + length ((D.view store.old).files (generation_file g)) }
         // Never are more bytes taken than those of the root and of the log that it names.
         ensures most_taken { IsTrue D.tells → (most : ℕ) → LogHasAtMost (D.view store.old).files most
             → (D.counts store.new).taken

@@ -13,13 +13,16 @@ use Rattle.folder_session.specs.Causes.{SparesStore}
 use Rattle.folder_session.specs.Machine.{refused, IsEvent}
 use Rattle.folder_session.specs.Machine as machine
 use Rattle.folder_session.specs.Standing.{folder_of}
-use Rattle.folder_session.proofs.CollectLemmas.{collected_err, collected_ok, collection_spares, changes_prepared, left_as_told, gone_prepared}
+use Rattle.folder_session.proofs.CollectLemmas.{collected_err, collection_no_checkpoint, collected_ok, collection_spares, changes_prepared, left_as_told, gone_prepared}
 use Rattle.folder_session.proofs.LeavingLemmas.{changes_none, leaves_given}
 use Rattle.folder_session.proofs.StepLemmas.{refuses, stands_prepared, table_prepared, kept_performs, kept_breaks}
 use Rattle.folder_session.proofs.TakenLemmas.{of_no_file}
 use Rattle.later_states.proofs.Tables.{later-same}
 use Rattle.folder_session.proofs.LaterLemmas.{prepared_later, same_later, collection_spares_held}
 use Rattle.folder_session.proofs.session.FolderSession.collect.Goals as goal
+
+pub prepare-requires-clause-no_checkpoint : goal.prepare-requires-clause-no_checkpoint
+prepare-requires-clause-no_checkpoint g c = collection_no_checkpoint (table_of c.catalog.result.now) c.args.held.now c.args.reclaim c.in-Ok.plan c.in-Ok.ensures.ok
 
 -- ---- refused
 

@@ -20,7 +20,7 @@ pub returns-in-Ok-clause-crash : goal.returns-in-Ok-clause-crash
 returns-in-Ok-clause-crash g c = c.in-Ok.ensures.stands
 
 pub returns-in-Ok-clause-taken : goal.returns-in-Ok-clause-taken
-returns-in-Ok-clause-taken g c = c.in-Ok.ensures.taken
+returns-in-Ok-clause-taken g c = c.load.ensures.taken
 
 pub returns-in-Ok-clause-most_taken : goal.returns-in-Ok-clause-most_taken
 returns-in-Ok-clause-most_taken g c = c.load.ensures.most_taken
@@ -36,3 +36,6 @@ returns-in-Err-clause-finished g c = c.load.ensures.finished
 
 pub returns-in-Ok-clause-no_fault : goal.returns-in-Ok-clause-no_fault
 returns-in-Ok-clause-no_fault g c = c.in-Ok.ensures.no_fault
+
+pub returns-in-Ok-clause-generation : goal.returns-in-Ok-clause-generation
+returns-in-Ok-clause-generation g c = c.in-Ok.ensures.generation

@@ -24,7 +24,7 @@ use Rattle.folder_session.proofs.LeavingLemmas.{leaves_given, count_then, looked
 use Rattle.folder_session.proofs.RefusalLemmas.{work_found, result_found}
 use Rattle.folder_session.proofs.StepLemmas.{stands_prepared, table_prepared, records_behind, either_behind, kept_works, broken_works, refused_work}
 use Rattle.folder_session.proofs.TakenLemmas.{told_of_result, read_then, most_then}
-use Rattle.folder_session.proofs.WorkLemmas.{narrow_given, no_refusal}
+use Rattle.folder_session.proofs.WorkLemmas.{narrow_given, no_checkpoint, no_refusal}
 use Rattle.later_states.proofs.Tables.{later-same}
 use Rattle.folder_session.proofs.LaterLemmas.{prepared_later, same_later}
 use Rattle.folder_session.proofs.session.FolderSession.work.Goals as goal
@@ -36,8 +36,11 @@ run_work-requires-clause-chosen g c =
 pub run_work-requires-clause-program : goal.run_work-requires-clause-program
 run_work-requires-clause-program g c = subst (FitsProgram c.args.program) (sym (ap table_of c.catalog.ensures)) c.requires.program
 
-pub prepare-requires : goal.prepare-requires
-prepare-requires g c = subst (λ (t : Table). Fits c.in-Ok.work.plan.change t) (ap table_of c.catalog.ensures) c.in-Ok.ensures.recorded.1.fits
+pub prepare-requires-clause-fits : goal.prepare-requires-clause-fits
+prepare-requires-clause-fits g c = subst (λ (t : Table). Fits c.in-Ok.work.plan.change t) (ap table_of c.catalog.ensures) c.in-Ok.ensures.recorded.1.fits
+
+pub prepare-requires-clause-no_checkpoint : goal.prepare-requires-clause-no_checkpoint
+prepare-requires-clause-no_checkpoint g c = let recorded = c.in-Ok.ensures.recorded in no_checkpoint (table_of c.catalog.result.now) c.args.program c.in-Ok.work.used.items recorded.0 c.in-Ok.work.plan recorded.1
 
 pub record_work-requires-clause-planned : goal.record_work-requires-clause-planned
 record_work-requires-clause-planned g c =
