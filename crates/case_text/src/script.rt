@@ -1,6 +1,9 @@
 //! A script in one line: `\n`, `\r`, `\t` and `\\` stand for their bytes, and `\{FROM..TO:TEXT}` for the text
 //! once for each number from FROM on and below TO, which stands where the text has `#`.
 
+ghost use Rattle.std.specs.Prelude.{◌≡◌};
+ghost use Rattle.case_text.specs.Escapes.{escaped};
+
 use anyhow::{Context, Result};
 use std::alloc::Global;
 
@@ -54,7 +57,10 @@ fn push_plain(text: &str, to: &mut Vec<u8>) -> Result<()> {
     Ok(())
 }
 
-fn escaped(byte: u8) -> u8 {
+// What the byte behind a backslash stands for.
+fn escaped(byte: u8) -> u8
+    ensures { result ≡ escaped byte }
+{
     match byte {
         b'n' => b'\n',
         b'r' => b'\r',

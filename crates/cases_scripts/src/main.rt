@@ -5,6 +5,7 @@
 
 mod anew;
 mod faults;
+mod generations;
 mod runs;
 mod stops;
 
@@ -42,6 +43,8 @@ fn answer(alloc: Global, case: &str) -> Result<String> {
         "looks" => faults::looks(alloc, arguments),
         "anew" => anew::anew(alloc, arguments),
         "taken" => anew::taken(alloc, arguments),
+        "logs" => generations::logs(alloc, arguments),
+        "loading" => generations::loading(alloc, arguments),
         "stops" => stops::stops(alloc, arguments),
         _ => None.context("no such subject"),
     }
