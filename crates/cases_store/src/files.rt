@@ -29,7 +29,7 @@ pub fn front(alloc: Global, arguments: &str) -> Result<String> {
     };
     match read_file(alloc, &mut store, &at) {
         Ok(bytes) => words::shown(alloc, &bytes),
-        Err(FileRefusal::Damaged { kept, found }) => {
+        Err(FileRefusal::Damaged { kept, found, .. }) => {
             let kept = words::shown(alloc, &kept.bytes)?;
             let found = words::shown(alloc, &found.bytes)?;
             Ok(format!(in alloc; "damaged: {kept} was kept, {found} found")?)

@@ -3,7 +3,6 @@ use Rattle.std.proofs.Common.{◌≡◌, ◌≢◌, refl, sym, ap, ◌∙◌, su
 use Rattle.std.specs.List.{AllByRecursion}
 use Rattle.std.proofs.lemmas.List.{append-nil, length-take}
 use Rattle.std.proofs.lemmas.List.Sums.{sum_by-append, sum_by_push}
-use Rattle.rows_core.specs.declared.cut.Cut.{Cut}
 use Rattle.rows_core.specs.declared.file_ref.FileRef.{FileRef}
 use Rattle.row_blob.specs.Spelling.{kept_spelling}
 use Rattle.row_blob.specs.declared.kept.Kept.{Kept}
@@ -60,6 +59,24 @@ most_of_all places all names name others old half new split before now =
     let whole : kept_bytes places all ≡ kept_bytes places (names ++ name ∷ []) + kept_bytes places others =
     ap (kept_bytes places) regrouped ∙ sum_by-append len (names ++ name ∷ []) others in
     let front : new.taken ≤ old.taken + kept_bytes places (names ++ name ∷ []) = most_on places names name old half new before now in omega (arith, whole, front)
+
+-- so many bytes are counted before a file is read
+pub counted_yet : (places : FileName → FileRef) (all names : List FileName) (taken : ℕ) → taken < 2 ^ 64 → all ≡ names ++ all → taken ≡ capped (taken + kept_bytes places names)
+counted_yet places all names taken fits split =
+    let len : FileName → ℕ = λ (n : FileName). (places n).len in
+    let none : kept_bytes places all ≡ kept_bytes places names + kept_bytes places all = ap (kept_bytes places) split ∙ sum_by-append len names all in omega (arith, fits, none)
+
+-- and when one more is read
+pub counted_on : (places : FileName → FileRef) (all front names : List FileName) (name : FileName) (others : List FileName) (before half taken : ℕ) → all ≡ front ++ name ∷ others → all ≡ names ++ others
+    → half ≡ capped (before + kept_bytes places front) → taken ≡ capped (half + (places name).len) → taken ≡ capped (before + kept_bytes places names)
+counted_on places all front names name others before half taken split as_split first then =
+    let len : FileName → ℕ = λ (n : FileName). (places n).len in
+    let regrouped : all ≡ (front ++ name ∷ []) ++ others = split ∙ sym (append_assoc front (name ∷ []) others) in
+    let more : kept_bytes places (front ++ name ∷ []) ≡ kept_bytes places front + (places name).len = sum_by_push len front name in
+    let whole : kept_bytes places all ≡ kept_bytes places (front ++ name ∷ []) + kept_bytes places others =
+    ap (kept_bytes places) regrouped ∙ sum_by-append len (front ++ name ∷ []) others in
+    let as_whole : kept_bytes places all ≡ kept_bytes places names + kept_bytes places others = ap (kept_bytes places) as_split ∙ sum_by-append len names others in
+    omega (arith, more, whole, as_whole, first, then)
 
 pub most_at_end : (places : FileName → FileRef) (all names left : List FileName) (old new : Counts) → all ≡ names ++ left → left ≡ [] → TookAtMost (kept_bytes places names) old new → TookAtMost (kept_bytes places all) old new
 most_at_end places all names left old new split none most =

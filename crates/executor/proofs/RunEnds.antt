@@ -1,5 +1,5 @@
 -- A run: its files are read, and then it is finished.
-use Rattle.std.proofs.Common.{◌≡◌, refl, sym, ap, ◌∙◌, subst, List, [], ◌++◌, length, Ok, Err, Result}
+use Rattle.std.proofs.Common.{◌≡◌, sym, ap, ◌∙◌, subst, List, [], ◌++◌, length, Err, Result}
 use Rattle.std.proofs.lemmas.List.{append-nil}
 use Rattle.rows_core.specs.declared.file_ref.FileRef.{FileRef}
 use Rattle.outside_traits.specs.View.{Counts}
@@ -30,14 +30,14 @@ use Rattle.executor.specs.declared.part.Part.{Part}
 
 pub read_cause : (places : FileName → FileRef) (names : List FileName) (old new : Counts) (e : ReadRefusal) → EndsBy places names old new e → HasRunCause places names old new (of_reading e)
 read_cause places names old new read.Fault is = is
-read_cause places names old new (read.Damaged file kept found) is = is
-read_cause places names old new (read.Unreadable file at) is = is
+read_cause places names old new (read.Damaged file kept found taken) is = is
+read_cause places names old new (read.Unreadable file at taken) is = is
 read_cause places names old new read.Memory is = is
 
 pub read_found : (from : Sources) (pieces : List Piece) (names : List FileName) (e : ReadRefusal) → EndsOver from pieces names e → IsRunFound from pieces names (of_reading e)
 read_found from pieces names read.Fault is = is
-read_found from pieces names (read.Damaged file kept found) is = is
-read_found from pieces names (read.Unreadable file at) is = is
+read_found from pieces names (read.Damaged file kept found taken) is = is
+read_found from pieces names (read.Unreadable file at taken) is = is
 read_found from pieces names read.Memory is = is
 
 pub made_cause : (places : FileName → FileRef) (names : List FileName) (old new : Counts) (e : MakeRefusal) → new.reads ≡ old.reads → HasRunCause places names old new (of_making e)
@@ -53,8 +53,8 @@ made_found from pieces names made.Memory = tt
 module _ (extents : Extents) (results : KeptResults) (r : PlainRewriting) (old new : Counts) where
   pub read_runs : (e : ReadRefusal) → Runs extents results r old new (Err (of_reading e))
   read_runs read.Fault = tt
-  read_runs (read.Damaged file kept found) = tt
-  read_runs (read.Unreadable file at) = tt
+  read_runs (read.Damaged file kept found taken) = tt
+  read_runs (read.Unreadable file at taken) = tt
   read_runs read.Memory = tt
 
   pub made_runs : (e : MakeRefusal) → Ends extents results r old new (Err e) → Runs extents results r old new (Err (of_making e))

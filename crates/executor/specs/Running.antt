@@ -1,5 +1,5 @@
 -- Reading the files of a job, one after another: what was read, what was taken, and why it ended early.
-use Rattle.std.specs.Prelude.{◌≡◌, ◌≢◌, ℕ, ◌+◌, ◌≤◌, List, [], ◌∷◌, ◌++◌, length, take, sum_by, Contains, IsTrue, ⊤}
+use Rattle.std.specs.Prelude.{◌≡◌, ◌≢◌, ℕ, ◌+◌, ◌-◌, ◌^◌, ◌≤◌, min, List, [], ◌∷◌, ◌++◌, length, take, sum_by, Contains, IsTrue, ⊤}
 use Rattle.rows_core.specs.declared.file_ref.FileRef.{FileRef}
 use Rattle.row_blob.specs.Spelling.{kept_spelling}
 use Rattle.row_blob.specs.declared.shape.Shape.{Shape}
@@ -7,7 +7,7 @@ use Rattle.outside_traits.specs.Counts.{Rose}
 use Rattle.outside_traits.specs.View.{Counts}
 use Rattle.outside_traits.specs.Calls.{CountsTaken, MayRaiseReads}
 use Rattle.extent_files.specs.Files.{digest_of}
-use Rattle.kept_files.specs.Reads.{SpellsNone}
+use Rattle.kept_files.specs.Reads.{SpellsNone, HasCause}
 use Rattle.kept_files.specs.declared.refusal.ReadRefusal.{ReadRefusal}
 use Rattle.kept_files.specs.declared.refusal.ReadRefusal.TheVariants as read
 use Rattle.plan_core.specs.PlainPlan.{PlainPlan, Scan}
@@ -35,6 +35,9 @@ HaveTaken extents results (name ∷ names) old new = CountsTaken (sum_by (held_b
 abbrev pub TookAtMost : ℕ → Counts → Counts → Type 0
 TookAtMost most old new = new.taken ≤ old.taken + most
 
+abbrev pub TookAtLeast : ℕ → Counts → Counts → Type 0
+TookAtLeast least old new = min (old.taken + least) (2 ^ 64 - 1) ≤ new.taken
+
 -- how many bytes of these files count
 abbrev pub kept_bytes : (FileName → FileRef) → List FileName → ℕ
 kept_bytes places = sum_by (λ name. (places name).len)
@@ -55,16 +58,27 @@ pub record ReadsOn (from : Sources) (before after : List Part) (old new : Counts
 
 -- ---- why it ended early
 
+-- files were read, the first ones that were left, and then the next one wasn't
+pub record StopsAt (from : Sources) (before after : List Part) (old new : Counts) (why : ReadRefusal) : Type 0 where
+  pub half : Counts
+  pub read : ReadsOn from before after old half
+  pub name : FileName
+  pub others : List FileName
+  pub next : left_in after ≡ name ∷ others
+  pub cause : HasCause (from.places name) half new why
+
 -- one of these files, and this is its number
 abbrev pub IsFileAmong : (FileName → FileRef) → List FileName → ℕ → FileName → Type 0
 IsFileAmong places names file name = Contains names name × (file ≡ (places name).file)
 
--- on every store
+-- on every store; the bytes that are told were taken, and others only of files before
 abbrev pub EndsBy : (FileName → FileRef) → List FileName → Counts → Counts → ReadRefusal → Type 0
 EndsBy places names old new read.Fault = Rose old.reads new.reads
-EndsBy places names old new (read.Damaged file kept found) =
-    (name : FileName) × IsFileAmong places names file name × (kept ≡ (places name).digest) × (found ≢ (places name).digest) × (new.reads ≡ old.reads)
-EndsBy places names old new (read.Unreadable file at) = (name : FileName) × IsFileAmong places names file name × (new.reads ≡ old.reads)
+EndsBy places names old new (read.Damaged file kept found taken) =
+    (name : FileName) × IsFileAmong places names file name × (kept ≡ (places name).digest) × (found ≢ (places name).digest)
+    × (new.reads ≡ old.reads) × TookAtLeast taken old new
+EndsBy places names old new (read.Unreadable file at taken) =
+    (name : FileName) × IsFileAmong places names file name × (new.reads ≡ old.reads) × TookAtLeast taken old new
 EndsBy places names old new read.Memory = new.reads ≡ old.reads
 
 -- the shape of what a named file should hold: rows of a stream, or what is kept of the plan of a piece
@@ -79,9 +93,10 @@ bytes_of from name = take (from.places name).len (from.files (from.places name).
 -- where the store tells its files
 abbrev pub EndsOver : Sources → List Piece → List FileName → ReadRefusal → Type 0
 EndsOver from pieces names read.Fault = ⊤
-EndsOver from pieces names (read.Damaged file kept found) =
+EndsOver from pieces names (read.Damaged file kept found taken) =
     (name : FileName) × IsFileAmong from.places names file name × (kept ≡ (from.places name).digest) × (found ≡ digest_of (bytes_of from name))
-EndsOver from pieces names (read.Unreadable file at) =
+    × (taken ≡ length (bytes_of from name))
+EndsOver from pieces names (read.Unreadable file at taken) =
     (name : FileName) × (shape : Shape) × IsFileAmong from.places names file name × IsShapeOf from.schemas pieces name shape
-    × (digest_of (bytes_of from name) ≡ (from.places name).digest) × SpellsNone shape (bytes_of from name) at
+    × (digest_of (bytes_of from name) ≡ (from.places name).digest) × SpellsNone shape (bytes_of from name) at × (taken ≡ length (bytes_of from name))
 EndsOver from pieces names read.Memory = ⊤

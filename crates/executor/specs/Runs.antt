@@ -20,8 +20,8 @@ use Rattle.executor.specs.declared.refusal.RunRefusal.TheVariants as run
 
 abbrev pub of_reading : ReadRefusal → RunRefusal
 of_reading read.Fault = run.Fault
-of_reading (read.Damaged file kept found) = run.Damaged file kept found
-of_reading (read.Unreadable file at) = run.Unreadable file at
+of_reading (read.Damaged file kept found taken) = run.Damaged file kept found taken
+of_reading (read.Unreadable file at taken) = run.Unreadable file at taken
 of_reading read.Memory = run.Memory
 
 abbrev pub of_making : MakeRefusal → RunRefusal
@@ -32,14 +32,14 @@ of_making made.Memory = run.Memory
 -- the store failed, or one of these files isn't what was kept of it; nothing else is seen of the outside
 abbrev pub HasRunCause : (FileName → FileRef) → List FileName → Counts → Counts → RunRefusal → Type 0
 HasRunCause places names old new run.Fault = EndsBy places names old new read.Fault
-HasRunCause places names old new (run.Damaged file kept found) = EndsBy places names old new (read.Damaged file kept found)
-HasRunCause places names old new (run.Unreadable file at) = EndsBy places names old new (read.Unreadable file at)
+HasRunCause places names old new (run.Damaged file kept found taken) = EndsBy places names old new (read.Damaged file kept found taken)
+HasRunCause places names old new (run.Unreadable file at taken) = EndsBy places names old new (read.Unreadable file at taken)
 HasRunCause places names old new _ = new.reads ≡ old.reads
 
 -- where the store tells its files, by the bytes of that file
 abbrev pub IsRunFound : Sources → List Piece → List FileName → RunRefusal → Type 0
-IsRunFound from pieces names (run.Damaged file kept found) = EndsOver from pieces names (read.Damaged file kept found)
-IsRunFound from pieces names (run.Unreadable file at) = EndsOver from pieces names (read.Unreadable file at)
+IsRunFound from pieces names (run.Damaged file kept found taken) = EndsOver from pieces names (read.Damaged file kept found taken)
+IsRunFound from pieces names (run.Unreadable file at taken) = EndsOver from pieces names (read.Unreadable file at taken)
 IsRunFound from pieces names _ = ⊤
 
 -- it was finished, and what the rewriting's files hold was taken

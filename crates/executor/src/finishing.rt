@@ -41,7 +41,11 @@ pub fn into_result(alloc: Global, job: Job) -> Result<Made, MakeRefusal>
         → Makes (Passes extents results (rewriting_of job.rewriting)) (plan_of job.rewriting.plan)
         (made_by extents results (rewriting_of job.rewriting)) result }
 {
-    let Job { rewriting, parts } = job;
+    let Job {
+        rewriting,
+        parts,
+        ..
+    } = job;
     evaluated(alloc, &rewriting, parts)
 }
 
@@ -100,7 +104,11 @@ pub fn into_outcome(alloc: Global, job: Job) -> Result<Outcome, MakeRefusal>
     ensures places { IfOk result (λ outcome. AreKeptFrom (rewriting_of job.rewriting)
         outcome.made.items) }
 {
-    let Job { rewriting, parts } = job;
+    let Job {
+        rewriting,
+        parts,
+        ..
+    } = job;
     let pieces = loaded_pieces(alloc, parts)?;
     outcome_of(alloc, &rewriting, pieces)
 }

@@ -26,6 +26,8 @@ use std::alloc::Global;
 pub struct Job {
     pub rewriting: Rewriting,
     pub parts: Vec<Part>,
+    /// How many bytes of the files that were read whole count, cut at the greatest u64.
+    pub taken: u64,
 }
 
 impl Job {
@@ -34,6 +36,14 @@ impl Job {
         ensures { result ≡ capped (length (left_in self.now.parts.items)) }
     {
         left_of(self.parts.as_slice())
+    }
+
+    /// How many bytes of the files that were read whole count, each as often as it was read, cut at the
+    /// greatest u64. It takes no memory.
+    pub fn taken(&self) -> u64
+        ensures { result ≡ self.now.taken }
+    {
+        self.taken
     }
 
     /// How many rows and groups it keeps, cut at the greatest u64.
@@ -52,6 +62,7 @@ pub fn prepare(alloc: Global, rewriting: Rewriting) -> Result<Job, Memory>
     requires typed { (schemas : List Kinds) × HasTyping schemas (plan_of rewriting.plan) }
     ensures rewriting { IfOk result (λ job. rewriting_of job.rewriting ≡ rewriting_of rewriting) }
     ensures left { IfOk result (λ job. left_in job.parts.items ≡ files_of (rewriting_of rewriting)) }
+    ensures taken { IfOk result (λ job. job.taken ≡ 0) }
     ensures parts { IfOk result (λ job. (schemas : List Kinds) → HasTyping schemas (plan_of rewriting.plan)
         → ArePartsOf schemas (pieces_of (rewriting_of rewriting)) job.parts.items) }
     ensures read { IfOk result (λ job. (schemas : List Kinds) (extents : Extents) (results : KeptResults)
@@ -62,7 +73,11 @@ pub fn prepare(alloc: Global, rewriting: Rewriting) -> Result<Job, Memory>
     pieces_of_typed_rewritings();
     let pieces = pieces(alloc, &rewriting)?;
     let parts = parts_of(alloc, pieces)?;
-    Ok(Job { rewriting, parts })
+    Ok(Job {
+        rewriting,
+        parts,
+        taken: 0,
+    })
 }
 
 // How many files are still to be read of these parts.

@@ -1,7 +1,8 @@
 //! Reading the next file of a job.
-ghost use Rattle.std.specs.Prelude.{◌≡◌, ◌≢◌, List, [], ◌∷◌, take, IsTrue, IfErr, OnOk, OnErr};
+ghost use Rattle.std.specs.Prelude.{◌≡◌, ◌≢◌, ◌+◌, List, [], ◌∷◌, take, IsTrue, IfErr, OnOk, OnErr};
 ghost use Rattle.std.specs.List.{AllByRecursion};
 ghost use Rattle.rows_core.specs.declared.file_ref.FileRef.{FileRef};
+ghost use Rattle.estimator.specs.Bytes.{capped};
 ghost use Rattle.outside_traits.specs.View.{View, Counts};
 ghost use Rattle.outside_traits.specs.Calls.{Idles, MayRaiseReads};
 ghost use Rattle.rewrite_core.specs.Files.{FileName};
@@ -23,8 +24,8 @@ use outside_traits::Store;
 use rewrite_core::Places;
 use std::alloc::Global;
 
-/// Reads the next file of the job whole, and feeds what it holds at once. After a refusal the job is as
-/// before. The refusals are those of reading a kept form.
+/// Reads the next file of the job whole, feeds what it holds at once, and counts as many of its bytes as
+/// count. After a refusal the job is as before. The refusals are those of reading a kept form.
 pub fn read_next<D: Store, P: Places>(
     alloc: Global,
     job: &mut Job,
@@ -37,6 +38,9 @@ pub fn read_next<D: Store, P: Places>(
         × ArePartsOf (P.stream_kinds places.now) pieces job.old.parts.items }
     ensures rewriting { job.new.rewriting ≡ job.old.rewriting }
     ensures refused { OnErr result (job.new.parts.items ≡ job.old.parts.items) }
+    ensures uncounted { OnErr result (job.new.taken ≡ job.old.taken) }
+    ensures counted { (name : FileName) (others : List FileName) → left_in job.old.parts.items ≡ name ∷ others
+        → OnOk result (job.new.taken ≡ capped (job.old.taken + (P.files places.now name).len)) }
     ensures next { OnOk result ((name : FileName)
         × (left_in job.old.parts.items ≡ name ∷ left_in job.new.parts.items)) }
     ensures parts { OnOk result ((pieces : List Piece)
@@ -66,7 +70,10 @@ pub fn read_next<D: Store, P: Places>(
     ensures counts { MayRaiseReads (D.counts store.old) (D.counts store.new) }
 {
     let next = next_of(job.parts.as_slice());
-    read_part(alloc, &mut job.parts[next], store, places)?;
+    let part = &mut job.parts[next];
+    let len = next_len(part, places);
+    read_part(alloc, part, store, places)?;
+    job.taken = job.taken.saturating_add(len);
     Ok(())
 }
 
@@ -86,6 +93,19 @@ fn next_of(parts: &[Part]) -> usize
                 next_of(rest) + 1
             }
         }
+    }
+}
+
+// How many bytes of the next file of a part count.
+fn next_len<P: Places>(part: &Part, places: &P) -> u64
+    requires left { files_left part.now ≢ [] }
+    requires there { AllByRecursion (P.has places.now) (files_left part.now) }
+    ensures { (name : FileName) (others : List FileName) → files_left part.now ≡ name ∷ others
+        → result ≡ (P.files places.now name).len }
+{
+    match part {
+        Part::Entry { id, .. } => places.result(*id).len,
+        Part::Gathered { stream, next, .. } => places.extent(*stream, *next).len,
     }
 }
 

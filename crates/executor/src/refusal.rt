@@ -20,18 +20,21 @@ pub enum RunRefusal {
     /// The store failed.
     #[error("the store failed")]
     Fault,
-    /// The file's bytes have the digest `found` where `kept` was kept.
+    /// The file's bytes have the digest `found` where `kept` was kept; so many of them were taken.
     #[error("file {file} is damaged")]
     Damaged {
         file: u64,
         kept: Digest,
         found: Digest,
+        taken: u64,
     },
-    /// The file's bytes are the kept ones, and spell no form of its shape: reading stops at byte `at`.
+    /// The file's bytes are the kept ones, and spell no form of its shape: reading stops at byte `at`. So many
+    /// of them were taken.
     #[error("file {file} is unreadable: byte {at}")]
     Unreadable {
         file: u64,
         at: u64,
+        taken: u64,
     },
     /// Memory was refused.
     #[error("out of memory")]
@@ -52,8 +55,22 @@ impl From<ReadRefusal> for RunRefusal {
     fn from(refusal: ReadRefusal) -> RunRefusal {
         match refusal {
             ReadRefusal::Fault => RunRefusal::Fault,
-            ReadRefusal::Damaged { file, kept, found } => RunRefusal::Damaged { file, kept, found },
-            ReadRefusal::Unreadable { file, at } => RunRefusal::Unreadable { file, at },
+            ReadRefusal::Damaged {
+                file,
+                kept,
+                found,
+                taken,
+            } => RunRefusal::Damaged {
+                file,
+                kept,
+                found,
+                taken,
+            },
+            ReadRefusal::Unreadable { file, at, taken } => RunRefusal::Unreadable {
+                file,
+                at,
+                taken,
+            },
             ReadRefusal::Memory => RunRefusal::Memory,
         }
     }

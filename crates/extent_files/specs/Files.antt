@@ -20,14 +20,16 @@ unread_as unread.Fault = Fault
 unread_as unread.Memory = Memory
 
 -- On every store: a fault comes only where the count of failed looks rose, and nothing else raises it; damage comes only
--- where the digests differ, and the kept one is that of the reference; after a fault or want of memory nothing was taken.
+-- where the digests differ, the kept one is that of the reference, and what was taken is told; after a fault or want of
+-- memory nothing was taken.
 abbrev pub HasCause : Digest → Counts → Counts → FileRefusal → Type 0
 HasCause digest old new Fault = Rose old.reads new.reads × (new.taken ≡ old.taken)
-HasCause digest old new (Damaged kept found) = (kept ≡ digest) × (found ≢ digest) × (new.reads ≡ old.reads)
+HasCause digest old new (Damaged kept found taken) = (kept ≡ digest) × (found ≢ digest) × (new.reads ≡ old.reads) × CountsTaken taken old new
 HasCause digest old new Memory = (new.reads ≡ old.reads) × (new.taken ≡ old.taken)
 
--- where the store tells its files: the bytes found are the first ones of the file, as many as count, and these were taken
-abbrev pub FoundIn : List ℕ → Counts → Counts → FileRefusal → Type 0
-FoundIn bytes old new Fault = ⊤
-FoundIn bytes old new (Damaged kept found) = (found ≡ digest_of bytes) × CountsTaken (length bytes) old new
-FoundIn bytes old new Memory = ⊤
+-- where the store tells its files: the bytes found are the first ones of the file, as many as count, and all of these were
+-- taken
+abbrev pub FoundIn : List ℕ → FileRefusal → Type 0
+FoundIn bytes Fault = ⊤
+FoundIn bytes (Damaged kept found taken) = (found ≡ digest_of bytes) × (taken ≡ length bytes)
+FoundIn bytes Memory = ⊤

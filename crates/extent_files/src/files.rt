@@ -49,7 +49,8 @@ pub fn drop_file<D: Store>(store: &mut D, file: u64) -> Result<(), Failed>
 
 /// The file's first bytes, as many as count, or all where it is shorter, if their digest is the kept one.
 /// `Fault` comes only where the store failed in a size or read, and `Damaged` exactly where the digests
-/// differ. The bytes are taken once, and none where `Fault` or `Memory` is the answer.
+/// differ; it tells how many bytes were read. The bytes are taken once, and none where `Fault` or `Memory` is
+/// the answer.
 pub fn read_file<D: Store>(
     alloc: Global,
     store: &mut D,
@@ -62,8 +63,7 @@ pub fn read_file<D: Store>(
     ensures cause { IfErr result (HasCause at.now.digest (D.counts store.old) (D.counts store.new)) }
     ensures no_fault { OnOk result ((D.counts store.new).reads ≡ (D.counts store.old).reads) }
     ensures found { IsTrue D.tells
-        → IfErr result (FoundIn (take at.now.len ((D.view store.old).files at.now.file)) (D.counts store.old)
-        (D.counts store.new)) }
+        → IfErr result (FoundIn (take at.now.len ((D.view store.old).files at.now.file))) }
     ensures idles { Idles (D.view store.old) (D.view store.new) }
     ensures counts { MayRaiseReads (D.counts store.old) (D.counts store.new) }
     ensures taken { IfOk result
@@ -77,6 +77,7 @@ pub fn read_file<D: Store>(
         Err(FileRefusal::Damaged {
             kept: at.digest,
             found,
+            taken: bytes.len() as u64,
         })
     }
 }

@@ -13,9 +13,13 @@ pub enum FileRefusal {
     /// The store failed.
     #[error("the store failed")]
     Fault,
-    /// The file's bytes have the digest `found` where `kept` was kept.
+    /// The file's bytes have the digest `found` where `kept` was kept; so many of them were taken.
     #[error("the file is damaged")]
-    Damaged { kept: Digest, found: Digest },
+    Damaged {
+        kept: Digest,
+        found: Digest,
+        taken: u64,
+    },
     /// Memory was refused.
     #[error("out of memory")]
     Memory,

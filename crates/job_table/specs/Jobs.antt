@@ -1,5 +1,5 @@
 -- The jobs of a table: where one stands, and how it is taken out.
-use Rattle.std.specs.Prelude.{◌≡◌, ℕ, Bool, ◌==◌, List, position, slice_get, bytes_eq, Option, Some}
+use Rattle.std.specs.Prelude.{◌≡◌, ℕ, Bool, ◌==◌, List, position, slice_get, slice_set, bytes_eq, Option, Some}
 use Rattle.std.specs.List.{list_any, remove}
 use Rattle.job_table.specs.declared.table.OpenJob.{OpenJob}
 
@@ -19,3 +19,11 @@ pub record IsTakenOut {J : Type 0} (name : List ℕ) (job : J) (old new : List (
   pub stood : slice_get old at ≡ Some taken
   pub is : taken.job ≡ job
   pub stand : new ≡ remove old at
+
+-- this job stands at the place
+abbrev pub IsJobAt : {J : Type 0} → List (OpenJob J) → ℕ → J → Type 0
+IsJobAt {J} jobs place job = (there : OpenJob J) × (slice_get jobs place ≡ Some there) × (there.job ≡ job)
+
+-- the one stood at the place, and the other stands there; the others stand as they stood
+abbrev pub IsReplaced : {J : Type 0} → ℕ → OpenJob J → OpenJob J → List (OpenJob J) → List (OpenJob J) → Type 0
+IsReplaced place before after old new = (slice_get old place ≡ Some before) × (new ≡ slice_set old place after)

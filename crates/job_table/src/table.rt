@@ -1,10 +1,11 @@
 //! The table.
-ghost use Rattle.std.specs.Prelude.{◌≡◌, [], ◌∷◌, ◌++◌, length, None};
+ghost use Rattle.std.specs.Prelude.{◌≡◌, ℕ, ◌<◌, List, [], ◌∷◌, ◌++◌, length, None};
 ghost use Rattle.std.specs.Prelude.{IfSome, IfNone, OnOk, IfErr, OnErr};
-ghost use Rattle.job_table.specs.Jobs.{place_of, is_held, IsTakenOut};
+ghost use Rattle.job_table.specs.Jobs.{place_of, is_held, IsTakenOut, IsJobAt, IsReplaced};
 
 use rows_core::Name;
 use std::alloc::{AllocFailed, Global};
+use std::mem;
 
 /// A job that is open: its name, and the ids of the kept results that it holds until it ends.
 #[derive(Drop)]
@@ -59,6 +60,29 @@ impl<J: Drop> JobTable<J> {
         self.jobs
             .iter()
             .position(|job| job.name.bytes() == name.bytes())
+    }
+
+    /// The job at this place, in the order of opening, from 0. It takes no memory.
+    pub fn at(&self, place: usize) -> &J
+        requires { place < length self.now.jobs.items }
+        ensures { IsJobAt self.now.jobs.items place result.now }
+    {
+        &self.jobs[place].job
+    }
+
+    /// Puts this job at the place, in the order of opening, from 0, with the ids of the kept results that it
+    /// holds, and gives back the job and the ids that were there. The name stays, and so do the other jobs. It
+    /// takes no memory.
+    pub fn put_at(&mut self, place: usize, job: J, holds: Vec<u32>) -> (J, Vec<u32>)
+        requires { place < length self.old.jobs.items }
+        ensures { (name : List ℕ)
+            × IsReplaced place (record { name = name; job = result.0; holds = result.1 })
+            (record { name = name; job = job; holds = holds }) self.old.jobs.items self.new.jobs.items }
+    {
+        let there = &mut self.jobs[place];
+        let job = mem::replace(&mut there.job, job);
+        let holds = mem::replace(&mut there.holds, holds);
+        (job, holds)
     }
 
     /// Takes the job of this name out, where it is open; the others stay in their order. It takes no memory.

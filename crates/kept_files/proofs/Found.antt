@@ -14,12 +14,13 @@ use Rattle.extent_files.specs.Files.{digest_of}
 use Rattle.kept_files.specs.Reads.{FoundIn}
 use Rattle.kept_files.specs.Refusals.{blob_as}
 
--- the bytes that were read are the file's first ones, and were taken
-pub undecoded : (shape : Shape) (at : FileRef) (bytes read : List ℕ) (old new : Counts) (r : BlobRefusal) → read ≡ bytes → digest_of read ≡ at.digest → CountsTaken (length read) old new
-    → IsPlace shape read r → ((kept : Kept) → IsKept shape kept → read ≡ kept_spelling kept → r ≡ of_blob.Memory) → FoundIn shape at bytes old new (blob_as at.file r)
-undecoded shape at bytes read old new (of_blob.NotBlob place) is digest taken stops only = (
+-- the bytes that were read are the file's first ones, and so many were taken
+pub undecoded : (shape : Shape) (at : FileRef) (bytes read : List ℕ) (taken : ℕ) (old new : Counts) (r : BlobRefusal) → taken ≡ length read → read ≡ bytes → digest_of read ≡ at.digest
+    → CountsTaken (length read) old new → IsPlace shape read r → ((kept : Kept) → IsKept shape kept → read ≡ kept_spelling kept → r ≡ of_blob.Memory)
+    → FoundIn shape at bytes old new (blob_as at.file taken r)
+undecoded shape at bytes read taken old new (of_blob.NotBlob place) count is digest now stops only = (
   ap digest_of (sym is) ∙ digest,
   (λ kept spells. absurd (let h = only kept spells.0 (is ∙ spells.1) in cc), subst (λ (l : List ℕ). StopsAt shape l place) is stops),
-  subst (λ (l : List ℕ). CountsTaken (length l) old new) is taken,
+  count ∙ ap length is,
 )
-undecoded shape at bytes read old new of_blob.Memory is digest taken stops only = inr (subst (λ (l : List ℕ). CountsTaken (length l) old new) is taken)
+undecoded shape at bytes read taken old new of_blob.Memory count is digest now stops only = inr (subst (λ (l : List ℕ). CountsTaken (length l) old new) is now)

@@ -23,23 +23,25 @@ SpellsNone shape bytes place = ((kept : Kept) → Spells shape bytes kept → �
 
 abbrev pub IsFaultOrMemory : ReadRefusal → Type 0
 IsFaultOrMemory Fault = ⊤
-IsFaultOrMemory (Damaged file kept found) = ⊥
-IsFaultOrMemory (Unreadable file place) = ⊥
+IsFaultOrMemory (Damaged file kept found taken) = ⊥
+IsFaultOrMemory (Unreadable file place taken) = ⊥
 IsFaultOrMemory Memory = ⊤
 
 -- On every store: a fault comes only where the count of failed looks rose, and nothing else raises it; each refusal names
--- the file; damage comes only where the digests differ; after a fault nothing was taken.
+-- the file; damage comes only where the digests differ; of damaged and unreadable bytes what was taken is told, and after a
+-- fault nothing was.
 abbrev pub HasCause : FileRef → Counts → Counts → ReadRefusal → Type 0
 HasCause at old new Fault = Rose old.reads new.reads × (new.taken ≡ old.taken)
-HasCause at old new (Damaged file kept found) = (file ≡ at.file) × (kept ≡ at.digest) × (found ≢ at.digest) × (new.reads ≡ old.reads)
-HasCause at old new (Unreadable file place) = (file ≡ at.file) × (new.reads ≡ old.reads)
+HasCause at old new (Damaged file kept found taken) =
+    (file ≡ at.file) × (kept ≡ at.digest) × (found ≢ at.digest) × (new.reads ≡ old.reads) × CountsTaken taken old new
+HasCause at old new (Unreadable file place taken) = (file ≡ at.file) × (new.reads ≡ old.reads) × CountsTaken taken old new
 HasCause at old new Memory = new.reads ≡ old.reads
 
 -- Where the store tells its files, and these are the first bytes of the one named: damage shows their digest; unreadable
--- bytes have the kept one, and where reading of them stops is told; and what was taken.
+-- bytes have the kept one, and where reading of them stops is told; and all of these were taken.
 abbrev pub FoundIn : Shape → FileRef → List ℕ → Counts → Counts → ReadRefusal → Type 0
 FoundIn shape at bytes old new Fault = ⊤
-FoundIn shape at bytes old new (Damaged file kept found) = (found ≡ digest_of bytes) × CountsTaken (length bytes) old new
-FoundIn shape at bytes old new (Unreadable file place) =
-    (digest_of bytes ≡ at.digest) × SpellsNone shape bytes place × CountsTaken (length bytes) old new
+FoundIn shape at bytes old new (Damaged file kept found taken) = (found ≡ digest_of bytes) × (taken ≡ length bytes)
+FoundIn shape at bytes old new (Unreadable file place taken) =
+    (digest_of bytes ≡ at.digest) × SpellsNone shape bytes place × (taken ≡ length bytes)
 FoundIn shape at bytes old new Memory = (new.taken ≡ old.taken) ⊎ CountsTaken (length bytes) old new

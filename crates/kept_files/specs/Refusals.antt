@@ -10,10 +10,10 @@ use Rattle.kept_files.specs.declared.refusal.ReadRefusal.TheVariants as read
 -- why this file's bytes aren't given
 abbrev pub file_as : ℕ → FileRefusal → ReadRefusal
 file_as file of_file.Fault = read.Fault
-file_as file (of_file.Damaged kept found) = read.Damaged file kept found
+file_as file (of_file.Damaged kept found taken) = read.Damaged file kept found taken
 file_as file of_file.Memory = read.Memory
 
--- why they spell no form
-abbrev pub blob_as : ℕ → BlobRefusal → ReadRefusal
-blob_as file (of_blob.NotBlob at) = read.Unreadable file at
-blob_as file of_blob.Memory = read.Memory
+-- why they spell no form, of which so many were taken
+abbrev pub blob_as : ℕ → ℕ → BlobRefusal → ReadRefusal
+blob_as file taken (of_blob.NotBlob at) = read.Unreadable file at taken
+blob_as file taken of_blob.Memory = read.Memory

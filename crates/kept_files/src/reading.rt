@@ -17,8 +17,8 @@ use std::alloc::Global;
 
 /// The kept form of this shape that the first bytes of the file spell, as many as count. `Damaged` comes
 /// exactly where these haven't the kept digest, `Unreadable` exactly where they have it and no form of the
-/// shape is spelled so, and `Fault` only where the store failed. The bytes are taken once, and none before a
-/// fault.
+/// shape is spelled so, both with how many bytes were read, and `Fault` only where the store failed. The bytes
+/// are taken once, and none before a fault.
 pub fn read_kept<D: Store>(
     alloc: Global,
     store: &mut D,
@@ -48,7 +48,7 @@ pub fn read_kept<D: Store>(
     match read_file(alloc, store, at) {
         Ok(bytes) => match decode(alloc, &bytes, shape) {
             Ok(kept) => Ok(kept),
-            Err(refusal) => Err(of_blob(file, refusal)),
+            Err(refusal) => Err(of_blob(file, bytes.len() as u64, refusal)),
         },
         Err(refusal) => Err(of_file(file, refusal)),
     }

@@ -14,18 +14,21 @@ pub enum ReadRefusal {
     /// The store failed.
     #[error("the store failed")]
     Fault,
-    /// The file's bytes have the digest `found` where `kept` was kept.
+    /// The file's bytes have the digest `found` where `kept` was kept; so many of them were taken.
     #[error("file {file} is damaged")]
     Damaged {
         file: u64,
         kept: Digest,
         found: Digest,
+        taken: u64,
     },
-    /// The file's bytes are the kept ones, and spell no form of the shape: reading stops at byte `at`.
+    /// The file's bytes are the kept ones, and spell no form of the shape: reading stops at byte `at`. So many
+    /// of them were taken.
     #[error("file {file} is unreadable: byte {at}")]
     Unreadable {
         file: u64,
         at: u64,
+        taken: u64,
     },
     /// Memory was refused.
     #[error("out of memory")]
@@ -46,17 +49,22 @@ pub(crate) fn of_file(file: u64, refusal: FileRefusal) -> ReadRefusal
 {
     match refusal {
         FileRefusal::Fault => ReadRefusal::Fault,
-        FileRefusal::Damaged { kept, found } => ReadRefusal::Damaged { file, kept, found },
+        FileRefusal::Damaged { kept, found, taken } => ReadRefusal::Damaged {
+            file,
+            kept,
+            found,
+            taken,
+        },
         FileRefusal::Memory => ReadRefusal::Memory,
     }
 }
 
-// Why a form isn't read, where its file's bytes spell none.
-pub(crate) fn of_blob(file: u64, refusal: BlobRefusal) -> ReadRefusal
-    ensures { result ≡ blob_as file refusal }
+// Why a form isn't read, where the bytes that were taken of its file spell none.
+pub(crate) fn of_blob(file: u64, taken: u64, refusal: BlobRefusal) -> ReadRefusal
+    ensures { result ≡ blob_as file taken refusal }
 {
     match refusal {
-        BlobRefusal::NotBlob { at } => ReadRefusal::Unreadable { file, at },
+        BlobRefusal::NotBlob { at } => ReadRefusal::Unreadable { file, at, taken },
         BlobRefusal::Memory => ReadRefusal::Memory,
     }
 }

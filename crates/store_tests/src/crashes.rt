@@ -62,7 +62,8 @@ pub fn file_after_a_crash(
         (λ read. CountsTaken (length read.items) none (⟦<MemStore as Store>⟧.counts left.image))) }
     ensures bytes { IfOk result (λ left. IfOk left.read (λ read. read.items ≡ bytes.now)) }
     ensures damaged { IfOk result
-        (λ left. (kept found : Digest) → IsErrOf left.read (FileRefusal.Damaged kept found) → ⊥) }
+        (λ left. (kept found : Digest) (taken : ℕ)
+        → IsErrOf left.read (FileRefusal.Damaged kept found taken) → ⊥) }
     ensures image_fault { IfOk result
         (λ left. IsErrOf left.read FileRefusal.Fault
         → Rose 0 (⟦<MemStore as Store>⟧.counts left.image).reads) }
