@@ -1,5 +1,5 @@
 -- How a journal stands to its files, and what a crash may leave of them.
-use Rattle.std.specs.Prelude.{◌≡◌, ◌⊎◌, ℕ, ◌+◌, List, [], ◌∷◌, ◌++◌, length}
+use Rattle.std.specs.Prelude.{◌≡◌, ◌⊎◌, ℕ, ◌+◌, Bool, List, [], ◌∷◌, ◌++◌, length}
 use Rattle.outside_traits.specs.View.{View, Now}
 use Rattle.gated_log.specs.Logs.{front, Reads}
 use Rattle.gated_log.specs.Stands.{end_of as end_of_log}
@@ -9,6 +9,10 @@ use Rattle.journal_store.specs.Readings.{generation_file, generations, HaveBodie
 -- the generation in use
 abbrev pub generation_of : Journal → ℕ
 generation_of journal = journal.generation
+
+-- whether the root named a generation when loading began
+abbrev pub had_root_of : Journal → Bool
+had_root_of journal = journal.had_root
 
 -- the place after the last gate of its log
 abbrev pub end_of : Journal → ℕ

@@ -1,6 +1,6 @@
 //! Journals in a store.
-ghost use Rattle.std.specs.Prelude.{◌≡◌, ◌⊎◌, ℕ, ◌+◌, ◌^◌, ◌<◌, ◌≤◌, List, [], ◌∷◌, ◌++◌, length, take};
-ghost use Rattle.std.specs.Prelude.{drop, false, ◌*◌, IsTrue, IfOk, IsErrOf, OnOk, OnErr};
+ghost use Rattle.std.specs.Prelude.{◌≡◌, ◌⊎◌, ◌↔◌, ℕ, ◌+◌, ◌^◌, ◌<◌, ◌≤◌, List, [], ◌∷◌, ◌++◌, length, take};
+ghost use Rattle.std.specs.Prelude.{drop, true, false, ◌*◌, IsTrue, IfOk, IsErrOf, OnOk, OnErr};
 ghost use Rattle.std.specs.List.{All};
 ghost use Rattle.outside_traits.specs.Counts.{Rose};
 ghost use Rattle.outside_traits.specs.View.{Now, Only};
@@ -32,6 +32,8 @@ use std::alloc::Global;
 #[derive(Drop)]
 pub struct Journal {
     generation: u64,
+    /// Whether the root named a generation when loading began.
+    had_root: bool,
     root: Log,
     log: Log,
     ghost in_range: { generation < 2 ^ 63 },
@@ -43,6 +45,7 @@ pub struct Journal {
 impl Journal {
     ghost use Rattle.journal_store.specs.Journals.{
       generation_of,
+      had_root_of,
       end_of,
       Keeps,
       HaveBeforeOrAfter,
@@ -67,6 +70,9 @@ impl Journal {
             → IfOk result (λ r. Keeps (D.view store.new) r.0 (generation_of r.0) (contents r.1.items)) }
         ensures stable { IsTrue D.tells
             → IfOk result (λ r. AreStable (D.view store.new) (generation_of r.0)) }
+        // It had a root exactly where that named a generation.
+        ensures had_root { IsTrue D.tells → IfOk result
+            (λ r. IsTrue (had_root_of r.0) ↔ (IsUnfinished ((D.view store.old).files 0) → ⊥)) }
         ensures crash { IsTrue D.tells
             → Spans IsJournalFile (IsLoading (D.view store.old)) (D.view store.old) (D.view store.new) }
         // Where the making is finished no file is changed, nor before `NotAStore`.
@@ -115,6 +121,7 @@ impl Journal {
             let Made { root, log } = make_short(store)?;
             let journal = Journal {
                 generation: 0,
+                had_root: false,
                 root,
                 log,
             };
@@ -138,6 +145,8 @@ impl Journal {
             → IfOk result (λ r. Keeps (D.view store.new) r.0 (generation_of r.0) (contents r.1.items)) }
         ensures stable { IsTrue D.tells
             → IfOk result (λ r. AreStable (D.view store.new) (generation_of r.0)) }
+        ensures had_root { IsTrue D.tells → 9 < length ((D.view store.old).files 0) → IfOk result
+            (λ r. IsTrue (had_root_of r.0) ↔ (IsUnfinished ((D.view store.old).files 0) → ⊥)) }
         ensures crash { IsTrue D.tells
             → Spans IsJournalFile (IsLoading (D.view store.old)) (D.view store.old) (D.view store.new) }
         ensures finished { IsTrue D.tells → (IsUnfinished ((D.view store.old).files 0) → ⊥)
@@ -175,6 +184,7 @@ impl Journal {
             let Made { root, log } = make_behind(store, root)?;
             let journal = Journal {
                 generation: 0,
+                had_root: false,
                 root,
                 log,
             };
@@ -195,6 +205,7 @@ impl Journal {
         requires root_end { end_of_log root ≡ 13 * (generation + 1) + 9 }
         requires bound { end_of_log root < 2 ^ 63 }
         ensures generation { IfOk result (λ r. generation_of r.0 ≡ generation) }
+        ensures had_root { IfOk result (λ r. had_root_of r.0 ≡ true) }
         ensures end { IfOk result (λ r. end_of r.0 ≡ length (front (contents r.1.items)) + 1) }
         ensures bound { IfOk result (λ r. end_of r.0 < 2 ^ 63) }
         ensures named { IfOk result (λ r. generation_of r.0 < 2 ^ 60) }
@@ -231,6 +242,7 @@ impl Journal {
         };
         let journal = Journal {
             generation,
+            had_root: true,
             root,
             log,
         };
@@ -244,6 +256,7 @@ impl Journal {
         requires size { IsBody body.now }
         requires room { end_of self + length body.now + 5 < 2 ^ 64 }
         ensures generation { IfOk result (λ journal. generation_of journal ≡ generation_of self) }
+        ensures had_root { IfOk result (λ journal. had_root_of journal ≡ had_root_of self) }
         ensures end { IfOk result (λ journal. end_of journal ≡ end_of self + length body.now + 5) }
         ensures committed { IsTrue D.tells → (g : ℕ) (bodies : List (List ℕ))
             → Keeps (D.view store.old) self g bodies
@@ -273,6 +286,7 @@ impl Journal {
         let log = self.log.commit(store, body)?;
         Ok(Journal {
             generation: self.generation,
+            had_root: self.had_root,
             root: self.root,
             log,
         })
@@ -286,6 +300,7 @@ impl Journal {
         requires size { IsBody body.now }
         requires room { generation_of self < 2 ^ 60 }
         ensures generation { IfOk result (λ journal. generation_of journal ≡ generation_of self + 1) }
+        ensures had_root { IfOk result (λ journal. had_root_of journal ≡ had_root_of self) }
         ensures end { IfOk result (λ journal. end_of journal ≡ length body.now + 14) }
         ensures committed { IsTrue D.tells → (g : ℕ) (bodies : List (List ℕ))
             → Keeps (D.view store.old) self g bodies
@@ -326,6 +341,7 @@ impl Journal {
         requires size { IsBody body.now }
         requires room { generation_of self < 2 ^ 60 }
         ensures generation { IfOk result (λ journal. generation_of journal ≡ generation_of self + 1) }
+        ensures had_root { IfOk result (λ journal. had_root_of journal ≡ had_root_of self) }
         ensures end { IfOk result (λ journal. end_of journal ≡ length body.now + 14) }
         ensures committed { IsTrue D.tells → (g : ℕ) (bodies : List (List ℕ))
             → Keeps (D.view store.old) self g bodies
@@ -353,6 +369,7 @@ impl Journal {
         let root = self.root.commit(store, &number_bytes(generation))?;
         Ok(Journal {
             generation,
+            had_root: self.had_root,
             root,
             log,
         })
@@ -372,6 +389,13 @@ impl Journal {
         ensures { result ≡ generation_of self.now }
     {
         self.generation
+    }
+
+    /// Whether the root named a generation when loading began: where it named none, the journal was made then.
+    pub fn had_root(&self) -> bool
+        ensures { result ≡ had_root_of self.now }
+    {
+        self.had_root
     }
 
     /// The file of the generation in use.
