@@ -7,6 +7,7 @@ ghost use Rattle.catalog_core.specs.Streams.{name_of, states_of};
 ghost use Rattle.catalog_core.specs.Table.{table_with, extent_count};
 
 use crate::columns::are_schema;
+use crate::own_files::files_in;
 use crate::program::is_program;
 use crate::programs::{has_room_for, make_room_to_store, program_named, store_any};
 use crate::refusal::CatalogRefusal;
@@ -86,6 +87,7 @@ impl Catalog {
     ghost use Rattle.catalog_types.specs.declared.change.Change.TheVariants as change;
     ghost use Rattle.catalog_core.specs.Catalogs.{table_of, HasRoom, HasRoomForStream, HasRoomAt};
     ghost use Rattle.catalog_core.specs.Catalogs.{HasRoomForWork, AreSpelled, IsReady};
+    ghost use Rattle.catalog_core.specs.OwnFiles.{files_in};
     ghost use Rattle.catalog_core.specs.Programs.{names_of, columns_of};
     ghost use Rattle.catalog_core.specs.Stored.{GoesBy};
     ghost use Rattle.catalog_core.specs.Streams as stream;
@@ -226,6 +228,14 @@ impl Catalog {
         ensures table { IsTable (table_of self.now) }
     {
         self.kept.entries()
+    }
+
+    /// The numbers of the files of all extents and kept results, those of extents first.
+    pub fn files(&self, alloc: Global) -> Result<Vec<u64>, Memory>
+        ensures { IfOk result (λ files. files.items
+            ≡ files_in (table_of self.now).streams (table_of self.now).entries) }
+    {
+        files_in(alloc, self.streams.as_slice(), self.kept.entries())
     }
 
     /// The kept result with this id, which is found by a binary search.

@@ -2,7 +2,7 @@
 ghost use Rattle.std.specs.Prelude.{◌≡◌, ◌↔◌, ◌++◌, map, IsTrue, IfOk, OnOk};
 ghost use Rattle.std.specs.List.{AllByRecursion};
 ghost use Rattle.std.specs.List.Sorted.{IsStrictlyIncreasing};
-ghost use Rattle.catalog_core.specs.OwnFiles.{HaveOwnFiles, IsGiven, extent_files, result_files};
+ghost use Rattle.catalog_core.specs.OwnFiles.{HaveOwnFiles, IsGiven, extent_files, result_files, files_in};
 ghost use Rattle.catalog_core.specs.Streams.{states_of};
 
 use crate::stream::CatalogStream;
@@ -21,10 +21,22 @@ pub(crate) fn have_own_files(
     ensures { IfOk result (λ have. IsTrue have
         ↔ HaveOwnFiles next_file (states_of streams.now) entries.now) }
 {
-    let mut files = files_of_streams(alloc, streams)?;
-    push_result_files(&mut files, entries)?;
+    let mut files = files_in(alloc, streams, entries)?;
     files.sort_unstable();
     Ok(rise_below(next_file, files.as_slice()))
+}
+
+// The files of these extents and kept results, those of extents first.
+pub(crate) fn files_in(
+    alloc: Global,
+    streams: &[CatalogStream],
+    entries: &[Entry],
+) -> Result<Vec<u64>, Memory>
+    ensures { IfOk result (λ files. files.items ≡ files_in (states_of streams.now) entries.now) }
+{
+    let mut files = files_of_streams(alloc, streams)?;
+    push_result_files(&mut files, entries)?;
+    Ok(files)
 }
 
 // The files of all extents.
