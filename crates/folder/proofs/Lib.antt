@@ -23,3 +23,5 @@ pub mod Collecting
 pub mod Unread
 pub mod SpelledLogs
 pub mod Replacing
+pub mod Strays
+pub mod Freed

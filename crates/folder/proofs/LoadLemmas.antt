@@ -1,6 +1,6 @@
 -- From what was read of the journal to the folder.
 use Rattle.std.proofs.Common.{◌≡◌, inl, inr, ℕ, ◌+◌, ◌^◌, ◌<◌, ◌≤◌, false, List, [], length, Result, Ok, Err, OnErr, OnOk, IfOk, IsErrOf, refl, sym, ap, ◌∙◌, subst, arith}
-use Rattle.std.specs.Prelude.{Vec}
+use Rattle.std.specs.Prelude.{Vec, IsTrue, ◌↔◌}
 use Rattle.std.proofs.lemmas.Bool.{false≢true}
 use Rattle.std.proofs.lemmas.List.{length-map}
 use Rattle.std.specs.declared.alloc.Global.{Global}
@@ -11,7 +11,7 @@ use Rattle.catalog_core.specs.Table.{Table, empty_table}
 use Rattle.journal_store.specs.Readings.{generation_file, generations, IsJournalFile, IsUnfinished, HaveBodies, LogHasAtMost}
 use Rattle.journal_store.specs.Readings as of_journal
 use Rattle.journal_store.specs.Making.{IsLoading, AreStable}
-use Rattle.journal_store.specs.Journals.{generation_of, Keeps}
+use Rattle.journal_store.specs.Journals.{generation_of, had_root_of, Keeps}
 use Rattle.journal_store.specs.declared.journal.Journal.{Journal}
 use Rattle.journal_store.specs.declared.refusal.JournalRefusal.{JournalRefusal}
 use Rattle.journal_store.specs.declared.refusal.JournalRefusal.TheVariants as journal_refusal
@@ -20,6 +20,7 @@ use Rattle.folder.specs.Replay.{ReadsAs, StopsReading, StopsReplay, due_in}
 use Rattle.folder.specs.Sound.{Care}
 use Rattle.folder.specs.Left.{IsLeft, IsLeftWith}
 use Rattle.folder.specs.Folders.{Gives, table_in, journal_of, FolderStands, FolderMeans}
+use Rattle.folder.specs.Unnamed.{HasRoot}
 use Rattle.folder.specs.declared.folder.Folder.{Folder}
 use Rattle.folder.specs.declared.found.Found.{Found}
 use Rattle.folder.specs.declared.refusal.LoadRefusal.{LoadRefusal}
@@ -148,6 +149,12 @@ pub load_named : (read : Read) (r : Loaded) → Gives read r → IfOk read (λ p
 load_named read (Err e) gives named = tt
 load_named (Err e) (Ok found) gives named = absurd gives
 load_named (Ok p) (Ok found) gives named = subst (λ (j : Journal). generation_of j < 2 ^ 60) (sym gives.0) named
+
+pub load_had_root : (u : View) (read : Read) (r : Loaded) → Gives read r → IfOk read (λ p. IsTrue (had_root_of p.0) ↔ HasRoot u.files)
+    → IfOk r (λ found. IsTrue (had_root_of (journal_of found.folder)) ↔ HasRoot u.files)
+load_had_root u read (Err e) gives had = tt
+load_had_root u (Err e) (Ok found) gives had = absurd gives
+load_had_root u (Ok p) (Ok found) gives had = subst (λ (j : Journal). IsTrue (had_root_of j) ↔ HasRoot u.files) (sym gives.0) had
 
 pub load_spelled : (read : Read) (r : Loaded) → Gives read r → IfOk r (λ found. IsSpelledTable (table_in found.folder))
 load_spelled read (Err e) gives = tt

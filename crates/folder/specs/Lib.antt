@@ -11,3 +11,4 @@ pub mod Refusals
 pub mod Folders
 pub mod Damage
 pub mod InUse
+pub mod Unnamed

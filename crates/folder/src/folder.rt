@@ -1,17 +1,17 @@
 //! Folders in a store.
-ghost use Rattle.std.specs.Prelude.{◌≡◌, ◌≢◌, ◌⊎◌, ℕ, ◌+◌, ◌*◌, ◌^◌, ◌<◌, ◌≤◌, true, false, List, length};
+ghost use Rattle.std.specs.Prelude.{◌≡◌, ◌≢◌, ◌⊎◌, ◌↔◌, ℕ, ◌+◌, ◌*◌, ◌^◌, ◌<◌, ◌≤◌, true, false, List, length};
 ghost use Rattle.std.specs.Prelude.{IsTrue, IsOk, IfOk, OnOk, OnErr, IsErrOf};
 ghost use Rattle.outside_traits.specs.Counts.{Rose};
 ghost use Rattle.outside_traits.specs.View.{View, Counts, Now, Only};
 ghost use Rattle.outside_traits.specs.Calls.{MayRaiseWrites, Rises};
-ghost use Rattle.outside_traits.specs.Runs.{ChangesOnly, Narrows};
+ghost use Rattle.outside_traits.specs.Runs.{ChangesOnly, Narrows, Spans};
 ghost use Rattle.gated_log.specs.Logs.{front, contents};
 ghost use Rattle.record_codec.specs.Spelling.{change_spelling, HasChangeSpelling};
 ghost use Rattle.catalog_core.specs.Table.{Table, empty_table, after, Fits};
 ghost use Rattle.catalog_core.specs.Catalogs.{table_of, IsReady};
 ghost use Rattle.checkpoints.specs.Spelled.{IsSpelledTable};
-ghost use Rattle.journal_store.specs.Readings.{generation_file, HaveBodies, LogHasAtMost};
-ghost use Rattle.journal_store.specs.Journals.{end_of, generation_of, Keeps};
+ghost use Rattle.journal_store.specs.Readings.{generation_file, IsJournalFile, HaveBodies, LogHasAtMost};
+ghost use Rattle.journal_store.specs.Journals.{end_of, generation_of, had_root_of, Keeps};
 ghost use Rattle.folder.specs.State.{State, table, file_bytes};
 ghost use Rattle.folder.specs.Replay.{Replays, ReadsAs, StopsReading, StopsReplay, due_in, is_checkpoint};
 ghost use Rattle.folder.specs.Sound.{Care};
@@ -42,39 +42,28 @@ pub struct Folder {
 
 impl Folder {
     ghost use Rattle.folder.specs.Folders.{catalog_of, journal_of, table_in, FolderStands, FolderMeans};
-    ghost use Rattle.folder.specs.InUse.{most_bodies, IsInUse, IsLoadedAsItIs, IsReplaced};
+    ghost use Rattle.folder.specs.InUse.{most_bodies, HaveShortLog, IsInUse, IsLoadedAsItIs, IsReplaced};
+    ghost use Rattle.folder.specs.Unnamed.{HasRoot};
 
-    /// Loads a folder, which is made where its making isn't finished. The table is what the logs read as.
-    /// `NotAStore` comes exactly where they read as none, with the first byte where reading stops, and leaves
-    /// each file as it was. `Fault` comes only where the store failed. No file is read but the logs, each
-    /// once. A log of more than 1,024 bodies is replaced by that of the next generation, which begins with a
-    /// checkpoint of the table.
-    pub fn load<D: Store>(alloc: Global, store: &mut D) -> Result<Folder, LoadRefusal>
+    // Loads a folder but for the files that nothing names. A log of more than 1,024 bodies is replaced by that
+    // of the next generation, which begins with a checkpoint of the table.
+    pub(crate) fn load_logs<D: Store>(alloc: Global, store: &mut D) -> Result<Folder, LoadRefusal>
         ensures reading { IsTrue D.tells
             → IfOk result (λ folder. ReadsAs (D.view store.old).files (table_in folder)) }
         ensures stands { IsTrue D.tells → IfOk result (λ folder. FolderStands (D.view store.new) folder) }
-        // From a store that is left: each crash since leaves one of its states, and after `Ok` the first
-        // alone. It is never `NotAStore`, by `store`.
         ensures crash { IsTrue D.tells → (care : Care) (a b : State) → IsLeft care (D.view store.old) a b
             → Since care a b (D.view store.old) (D.view store.new) }
         ensures means { IsTrue D.tells → (care : Care) (a b : State) → IsLeft care (D.view store.old) a b
             → IfOk result (λ folder. FolderMeans care (D.view store.new) folder a) }
-        ensures left { IsTrue D.tells → (care : Care) (a b : State) → IsLeft care (D.view store.old) a b
-            → OnErr result (IsLeftWith care (D.view store.new) a b) }
         ensures not_a_store { IsTrue D.tells → (file at : ℕ)
             → IsErrOf result (LoadRefusal.NotAStore file at) → StopsReading (D.view store.old).files file at }
-        ensures store { IsTrue D.tells → (t : Table) → ReadsAs (D.view store.old).files t
-            → (file at : ℕ) → IsErrOf result (LoadRefusal.NotAStore file at) → ⊥ }
-        ensures exactly { IsTrue D.tells → (file at : ℕ) → StopsReading (D.view store.old).files file at
-            → OnOk result ⊥ }
-        ensures place { IsTrue D.tells → (file at g b : ℕ) → StopsReading (D.view store.old).files file at
-            → IsErrOf result (LoadRefusal.NotAStore g b) → (g ≡ file) × (b ≡ at) }
-        // The generation in use is the one that was or is newly made, unless that has more than 1,024 bodies;
-        // then it is the next one, with the checkpoint as its one body.
         ensures generation { IsTrue D.tells → (g : ℕ) (bodies : List (List ℕ))
             → HaveBodies (D.view store.old).files g bodies
             → IfOk result (λ folder. IsInUse (D.view store.new) folder g bodies) }
-        // Where the making is finished and no log is long no file is changed, nor before `NotAStore`.
+        ensures had_root { IsTrue D.tells → IfOk result
+            (λ folder. IsTrue (had_root_of (journal_of folder)) ↔ HasRoot (D.view store.old).files) }
+        ensures alone { IsTrue D.tells
+            → Spans IsJournalFile (λ image. Unit {0}) (D.view store.old) (D.view store.new) }
         ensures finished { IsTrue D.tells → IsLoadedAsItIs (D.view store.old).files
             → Narrows (D.view store.old) (D.view store.new) }
         ensures unchanged { IsTrue D.tells → (file at : ℕ) → IsErrOf result (LoadRefusal.NotAStore file at)
@@ -85,11 +74,8 @@ impl Folder {
         ensures no_fault { OnOk result
             (((D.counts store.new).reads ≡ (D.counts store.old).reads)
             × ((D.counts store.new).writes ≡ (D.counts store.old).writes)) }
-        ensures taken { IsTrue D.tells → (g : ℕ) (bodies : List (List ℕ))
-            → HaveBodies (D.view store.old).files g bodies → (D.counts store.new).taken
-            ≤ (D.counts store.old).taken + length ((D.view store.old).files 0)
-            + length ((D.view store.old).files (generation_file g)) }
-        // Never are more bytes taken than those of the root and of the log that it names.
+        ensures no_removal { IsTrue D.tells → HaveShortLog (D.view store.old).files
+            → (D.counts store.new).removes ≡ (D.counts store.old).removes }
         ensures most_taken { IsTrue D.tells → (most : ℕ) → LogHasAtMost (D.view store.old).files most
             → (D.counts store.new).taken
             ≤ (D.counts store.old).taken + length ((D.view store.old).files 0) + most }
@@ -121,6 +107,10 @@ impl Folder {
             → IfOk result (λ folder. FolderMeans care (D.view store.new) folder s) }
         ensures stands { IsTrue D.tells → FolderStands (D.view store.old) self
             → IfOk result (λ folder. FolderStands (D.view store.new) folder) }
+        ensures had_root { IfOk result
+            (λ folder. had_root_of (journal_of folder) ≡ had_root_of (journal_of self)) }
+        ensures alone { IsTrue D.tells → FolderStands (D.view store.old) self
+            → Spans IsJournalFile (λ image. Unit {0}) (D.view store.old) (D.view store.new) }
         ensures replaced { IsTrue D.tells → FolderStands (D.view store.old) self
             → (g : ℕ) (bodies : List (List ℕ)) → Keeps (D.view store.old) (journal_of self) g bodies
             → most_bodies < length bodies → IfOk result (λ folder. IsReplaced (D.view store.new) folder g bodies) }

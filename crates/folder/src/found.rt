@@ -1,19 +1,20 @@
 //! What reading the logs of a folder gives.
 ghost use Rattle.std.specs.Prelude.{◌≡◌, ℕ, ◌+◌, ◌^◌, ◌<◌, ◌≤◌, List, length, IsTrue, IfOk, OnOk, OnErr};
-ghost use Rattle.std.specs.Prelude.{IsErrOf, ◌⊎◌};
+ghost use Rattle.std.specs.Prelude.{IsErrOf, ◌⊎◌, ◌↔◌};
 ghost use Rattle.outside_traits.specs.Counts.{Rose};
 ghost use Rattle.outside_traits.specs.Calls.{Rises};
-ghost use Rattle.outside_traits.specs.Runs.{Narrows};
+ghost use Rattle.outside_traits.specs.Runs.{Narrows, Spans};
 ghost use Rattle.gated_log.specs.Logs.{front, contents};
 ghost use Rattle.catalog_core.specs.Table.{Table};
 ghost use Rattle.checkpoints.specs.Spelled.{IsSpelledTable};
-ghost use Rattle.journal_store.specs.Journals.{generation_of, end_of, Keeps};
-ghost use Rattle.journal_store.specs.Readings.{HaveBodies, IsUnfinished, LogHasAtMost};
+ghost use Rattle.journal_store.specs.Journals.{generation_of, had_root_of, end_of, Keeps};
+ghost use Rattle.journal_store.specs.Readings.{HaveBodies, IsJournalFile, IsUnfinished, LogHasAtMost};
 ghost use Rattle.folder.specs.Folders.{journal_of, table_in, FolderMeans, FolderStands, Gives};
 ghost use Rattle.folder.specs.Left.{IsLeft, IsLeftWith, Since};
 ghost use Rattle.folder.specs.Replay.{ReadsAs, StopsReading};
 ghost use Rattle.folder.specs.Sound.{Care};
 ghost use Rattle.folder.specs.State.{State};
+ghost use Rattle.folder.specs.Unnamed.{HasRoot};
 
 use crate::folder::Folder;
 use crate::refusal::{LoadRefusal, of_journal};
@@ -50,6 +51,10 @@ impl Found {
             → IfOk result (λ found. (generation_of (journal_of found.folder) ≡ g)
             × Keeps (D.view store.new) (journal_of found.folder) g bodies × (found.bodies ≡ length bodies)) }
         ensures named { IfOk result (λ found. generation_of (journal_of found.folder) < 2 ^ 60) }
+        ensures had_root { IsTrue D.tells → IfOk result (λ found.
+            IsTrue (had_root_of (journal_of found.folder)) ↔ HasRoot (D.view store.old).files) }
+        ensures alone { IsTrue D.tells
+            → Spans IsJournalFile (λ image. Unit {0}) (D.view store.old) (D.view store.new) }
         ensures spelled { IfOk result (λ found. IsSpelledTable (table_in found.folder)) }
         ensures not_a_store { IsTrue D.tells → (file at : ℕ)
             → IsErrOf result (LoadRefusal.NotAStore file at) → StopsReading (D.view store.old).files file at }
@@ -67,6 +72,7 @@ impl Found {
         ensures most_taken { IsTrue D.tells → (most : ℕ) → LogHasAtMost (D.view store.old).files most
             → (D.counts store.new).taken
             ≤ (D.counts store.old).taken + length ((D.view store.old).files 0) + most }
+        ensures removes { (D.counts store.new).removes ≡ (D.counts store.old).removes }
         ensures counts { Rises (D.counts store.old) (D.counts store.new) }
     {
         let read = Journal::load(alloc, store);

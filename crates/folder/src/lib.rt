@@ -4,6 +4,7 @@
 mod files;
 pub mod folder;
 pub mod found;
+mod freeing;
 pub mod laws;
 pub mod refusal;
 mod removing;

@@ -1,5 +1,6 @@
 use Rattle.std.proofs.Common.{◌∙◌, ◌+◌, ap}
-use Rattle.outside_traits.proofs.RunLemmas.{narrows_none, spans_narrowed}
+use Rattle.outside_traits.proofs.RunLemmas.{narrows_none, spans_narrowed, spans_wider}
+use Rattle.journal_store.specs.Readings.{IsJournalFile}
 use Rattle.folder.specs.Folders.{table_in}
 use Rattle.folder.specs.Left.{Everything}
 use Rattle.folder.specs.Sound.{IsSound}
@@ -43,3 +44,14 @@ returns-in-Ok-checkpoint-clause-replaced g c = λ told stands h bodies keeps lon
       (c.deref.ensures.value ∙ c.in-Ok.ensures.bytes);
   keeps = c.in-Ok-checkpoint.ensures.committed told h bodies keeps;
 }
+
+pub returns-in_default-clause-alone : goal.returns-in_default-clause-alone
+returns-in_default-clause-alone g c = λ told stands. spans_narrowed IsJournalFile (λ image. Unit {0}) _ _ (narrows_none _) (λ image is. tt)
+
+pub returns-in-Ok-checkpoint-clause-alone : goal.returns-in-Ok-checkpoint-clause-alone
+returns-in-Ok-checkpoint-clause-alone g c = λ told stands.
+    spans_wider IsJournalFile IsJournalFile _ (λ image. Unit {0}) _ _ (c.checkpoint.ensures.images told stands.generation stands.bodies stands.keeps) (λ file log. log) (λ image is others. tt)
+
+pub returns-in-Err-clause-alone : goal.returns-in-Err-clause-alone
+returns-in-Err-clause-alone g c = λ told stands.
+    spans_wider IsJournalFile IsJournalFile _ (λ image. Unit {0}) _ _ (c.checkpoint.ensures.images told stands.generation stands.bodies stands.keeps) (λ file log. log) (λ image is others. tt)

@@ -1,5 +1,8 @@
+use Rattle.outside_traits.proofs.RunLemmas.{spans_wider}
+use Rattle.journal_store.specs.Making.{IsLoading}
+use Rattle.journal_store.specs.Readings.{IsJournalFile}
 use Rattle.folder.proofs.Loading.{loading_since}
-use Rattle.folder.proofs.LoadLemmas.{load_reading, load_stands, load_means, load_left, load_stops, load_unchanged, gave, load_ok, load_fault, load_bodies, load_named, load_spelled}
+use Rattle.folder.proofs.LoadLemmas.{load_reading, load_stands, load_means, load_left, load_stops, load_unchanged, gave, load_ok, load_fault, load_bodies, load_named, load_had_root, load_spelled}
 use Rattle.folder.proofs.found.Found.read.Goals as goal
 
 pub returns-clause-reading : goal.returns-clause-reading
@@ -47,3 +50,9 @@ returns-clause-named g c = load_named c.load-read.result c.over_read.result c.ov
 
 pub returns-clause-spelled : goal.returns-clause-spelled
 returns-clause-spelled g c = load_spelled c.load-read.result c.over_read.result c.over_read.ensures
+
+pub returns-clause-had_root : goal.returns-clause-had_root
+returns-clause-had_root g c = λ told. load_had_root (g.D.Store.view c.args.store.now) c.load-read.result c.over_read.result c.over_read.ensures (c.load-read.ensures.had_root told)
+
+pub returns-clause-alone : goal.returns-clause-alone
+returns-clause-alone g c = λ told. spans_wider IsJournalFile IsJournalFile (IsLoading (g.D.Store.view c.args.store.now)) (λ image. Unit {0}) _ _ (c.load-read.ensures.crash told) (λ file log. log) (λ image is others. tt)
