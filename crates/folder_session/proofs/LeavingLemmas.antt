@@ -122,16 +122,16 @@ refused_after (Err why) a b same = λ other. same
 
 pub unread_counts : (places : FileName → FileRef) (names : List FileName) (old new : Counts) (why : RunRefusal) → HasRunCause places names old new why → (refusal_of why ≡ refusal.Fault → ⊥) → new.reads ≡ old.reads
 unread_counts places names old new run.Fault cause other = absurd (other refl)
-unread_counts places names old new (run.Damaged file kept found) cause other = cause.4
-unread_counts places names old new (run.Unreadable file at) cause other = cause.2
+unread_counts places names old new (run.Damaged file kept found taken) cause other = cause.4
+unread_counts places names old new (run.Unreadable file at taken) cause other = cause.2
 unread_counts places names old new run.Overflow cause other = cause
 unread_counts places names old new run.Machine cause other = cause
 unread_counts places names old new run.Memory cause other = cause
 
 pub fault_rose : (places : FileName → FileRef) (names : List FileName) (old new : Counts) (why : RunRefusal) → HasRunCause places names old new why → answer.Refused (refusal_of why) ≡ answer.Refused refusal.Fault → Rose old.reads new.reads
 fault_rose places names old new run.Fault cause is = cause
-fault_rose places names old new (run.Damaged file kept found) cause is = absurd (cc)
-fault_rose places names old new (run.Unreadable file at) cause is = absurd (cc)
+fault_rose places names old new (run.Damaged file kept found taken) cause is = absurd (cc)
+fault_rose places names old new (run.Unreadable file at taken) cause is = absurd (cc)
 fault_rose places names old new run.Overflow cause is = absurd (cc)
 fault_rose places names old new run.Machine cause is = absurd (cc)
 fault_rose places names old new run.Memory cause is = absurd (cc)

@@ -284,8 +284,8 @@ module _ (t : Table) (files : ℕ → List ℕ) where
   -- why it isn't done
   pub work_found : (r : PlainRewriting) (places : FileName → FileRef) (old new : Counts) (why : RunRefusal) → HasRunCause places (files_of r) old new why → IsRunFound (sources_of t files) (pieces_of r) (files_of r) why
       → IsOfFiles t r files (refusal_of why)
-  work_found r places old new (run.Damaged file kept found) cause is = (is, λ (same : found ≡ kept). cause.3 (same ∙ cause.2))
-  work_found r places old new (run.Unreadable file at) cause is = is
+  work_found r places old new (run.Damaged file kept found taken) cause is = (taken, is, λ (same : found ≡ kept). cause.3 (same ∙ cause.2))
+  work_found r places old new (run.Unreadable file at taken) cause is = (taken, is)
   work_found r places old new run.Overflow cause is = tt
   work_found r places old new run.Machine cause is = tt
   work_found r places old new run.Fault cause is = tt

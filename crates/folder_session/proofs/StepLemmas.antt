@@ -24,7 +24,7 @@ use Rattle.planning.specs.Making.{making}
 use Rattle.planning.specs.Fetching.{IsFetching}
 use Rattle.planning.specs.Running.{Run, Target, running}
 use Rattle.folder.specs.Folders.{table_in, journal_of, FolderStands}
-use Rattle.folder.specs.Left.{IsLeft, Since, StaysSound, Everything, IsSoundForOneOf}
+use Rattle.folder.specs.Left.{Follows, IsLeft, Since, StaysSound, Everything, IsSoundForOneOf}
 use Rattle.folder.specs.Next.{with_stream, with_rows}
 use Rattle.folder.specs.Sound.{Care, IsSound}
 use Rattle.folder.specs.Standing.{Means}
@@ -142,12 +142,7 @@ module _ (care : Care) (held : List ℕ) (u v : View) (s new : State) (c : Comma
 
   pub kept_breaks : (result : Result (FolderSession × Answer) Failed) → OnErr result (KeepsNot care u v s new) → OnErr result (Breaks care u v held s c)
   kept_breaks (Ok next) broke = tt
-  kept_breaks (Err failed) broke = record { answer = given; new = new; step = inl performs; since = broke.since; left = broke.left }
-
-  pub either_breaks : (result : Result (FolderSession × Answer) Failed) → OnErr result (KeepsNot care u v s new ⊎ KeepsNot care u v s s) → OnErr result (Breaks care u v held s c)
-  either_breaks (Ok next) broke = tt
-  either_breaks (Err failed) (inl broke) = record { answer = given; new = new; step = inl performs; since = broke.since; left = broke.left }
-  either_breaks (Err failed) (inr broke) = record { answer = answer.Refused refusal.Memory; new = s; step = inr (refusal.Memory, want_event care s c, refl); since = broke.since; left = broke.left }
+  kept_breaks (Err failed) broke = record { answer = given; new = new; step = inl performs; recorded = broke.recorded; since = broke.since; left = broke.left }
 
 -- ---- a run before what is recorded, in which nothing changes
 
@@ -159,21 +154,20 @@ module _ (care : Care) (t u v : View) (s new : State) (before : StaysSound care 
   records_behind (Ok next) recorded = record { stands = recorded.stands; since = spans_on Everything (IsSoundForOneOf care s new) t u v (since_stays new) recorded.since }
   records_behind (Err failed) recorded = tt
 
-  pub breaks_behind : (result : Result (FolderSession × Answer) Failed) → OnErr result (KeepsNot care u v s new) → OnErr result (KeepsNot care t v s new ⊎ KeepsNot care t v s s)
+  pub kept_not_behind : KeepsNot care u v s new → KeepsNot care t v s new
+  kept_not_behind broke = record { recorded = broke.recorded; since = spans_on Everything (IsSoundForOneOf care s new) t u v (since_stays new) broke.since; left = broke.left }
+
+  pub breaks_behind : (result : Result (FolderSession × Answer) Failed) → OnErr result (KeepsNot care u v s new) → OnErr result (KeepsNot care t v s new)
   breaks_behind (Ok next) broke = tt
-  breaks_behind (Err failed) broke = inl (record { since = spans_on Everything (IsSoundForOneOf care s new) t u v (since_stays new) broke.since; left = broke.left })
-
-  keeps_not_behind : (other : State) → KeepsNot care u v s other → KeepsNot care t v s other
-  keeps_not_behind other broke = record { since = spans_on Everything (IsSoundForOneOf care s other) t u v (since_stays other) broke.since; left = broke.left }
-
-  pub either_behind : (result : Result (FolderSession × Answer) Failed) → OnErr result (KeepsNot care u v s new ⊎ KeepsNot care u v s s) → OnErr result (KeepsNot care t v s new ⊎ KeepsNot care t v s s)
-  either_behind (Ok next) broke = tt
-  either_behind (Err failed) (inl broke) = inl (keeps_not_behind new broke)
-  either_behind (Err failed) (inr broke) = inr (keeps_not_behind s broke)
+  breaks_behind (Err failed) broke = kept_not_behind broke
 
   -- the store failed in it
-  pub breaks_before : IsLeft care u s s → KeepsNot care t u s s
-  breaks_before left = record { since = since_stays s; left = inl left }
+  pub breaks_before : Follows s new → IsLeft care u s s → KeepsNot care t u s new
+  breaks_before recorded left = record {
+    recorded = recorded;
+    since = since_stays new;
+    left = inl (record { near = inr (inl recorded); read = left.read; images = λ image is. inl (elim (left.images image is) [ inl sound ↦ sound | inr sound ↦ sound ]) });
+  }
 
 -- ---- work
 
@@ -182,18 +176,17 @@ module _ (care : Care) (u v : View) (s new : State) (program : Option Program) (
   kept_works (Ok next) recorded same = record { new = new; step = inl (subst (λ a. IsWorkOn s program plan cuts a new) (sym same) works); stands = recorded.stands; since = recorded.since }
   kept_works (Err failed) recorded same = tt
 
-  pub broken_works : (result : Result (FolderSession × Answer) Failed) → OnErr result (KeepsNot care u v s new ⊎ KeepsNot care u v s s) → OnErr result (BreaksOff care u v s program plan cuts)
+  pub broken_works : (result : Result (FolderSession × Answer) Failed) → OnErr result (KeepsNot care u v s new) → OnErr result (BreaksOff care u v s program plan cuts)
   broken_works (Ok next) broke = tt
-  broken_works (Err failed) (inl broke) = record { answer = given; new = new; step = inl works; since = broke.since; left = broke.left }
-  broken_works (Err failed) (inr broke) = record { answer = answer.Refused refusal.Memory; new = s; step = inr (refusal.Memory, tt, refl); since = broke.since; left = broke.left }
+  broken_works (Err failed) broke = record { answer = given; new = new; step = inl works; recorded = broke.recorded; since = broke.since; left = broke.left }
 
 -- work that isn't done, as a step
 pub refused_work : (care : Care) (s : State) (program : Option Program) (plan : PlainPlan) (cuts : Cuts) (why : RunRefusal) → IsRefusedWork care s plan cuts why → WorkStep care s program plan cuts (answer.Refused (refusal_of why)) s
 refused_work care s program plan cuts run.Overflow is = inl (is, refl)
 refused_work care s program plan cuts run.Machine is = inl (is, refl)
 refused_work care s program plan cuts run.Fault is = inr (refusal.Fault, tt, refl)
-refused_work care s program plan cuts (run.Damaged file kept found) is = inr (refusal.Damaged file kept found, is, refl)
-refused_work care s program plan cuts (run.Unreadable file at) is = absurd is
+refused_work care s program plan cuts (run.Damaged file kept found taken) is = inr (refusal.Damaged file kept found, is, refl)
+refused_work care s program plan cuts (run.Unreadable file at taken) is = absurd is
 refused_work care s program plan cuts run.Memory is = inr (refusal.Memory, tt, refl)
 
 -- a run whose work is done, or breaks off
@@ -204,7 +197,7 @@ module _ (care : Care) (held : List ℕ) (u v : View) (s : State) (t : Table) (s
 
   pub ran_breaks : (result : Result (FolderSession × Answer) Failed) → OnErr result (BreaksOff care u v s (Some program) r.plan program.cuts) → OnErr result (Breaks care u v held s (command.Run name tree))
   ran_breaks (Ok next) broke = tt
-  ran_breaks (Err failed) broke = record { answer = broke.answer; new = broke.new; step = ran_step care held t s same name tree r program is program_is broke.answer broke.new broke.step; since = broke.since; left = broke.left }
+  ran_breaks (Err failed) broke = record { answer = broke.answer; new = broke.new; step = ran_step care held t s same name tree r program is program_is broke.answer broke.new broke.step; recorded = broke.recorded; since = broke.since; left = broke.left }
 
 -- and a fetch
 module _ (care : Care) (held : List ℕ) (u v : View) (s : State) (t : Table) (same : t ≡ table s) (name : List ℕ) (as_run : Bool) (target : Target) (cuts : Cuts) (is : IsFetching t name as_run (Ok target)) (cuts_are : cuts ≡ target.cuts) where
@@ -214,4 +207,4 @@ module _ (care : Care) (held : List ℕ) (u v : View) (s : State) (t : Table) (s
 
   pub fetched_breaks : (result : Result (FolderSession × Answer) Failed) → OnErr result (BreaksOff care u v s None target.plan cuts) → OnErr result (Breaks care u v held s (command.Fetch name as_run))
   fetched_breaks (Ok next) broke = tt
-  fetched_breaks (Err failed) broke = record { answer = broke.answer; new = broke.new; step = fetched_step care held t s same name as_run target cuts is cuts_are broke.answer broke.new broke.step; since = broke.since; left = broke.left }
+  fetched_breaks (Err failed) broke = record { answer = broke.answer; new = broke.new; step = fetched_step care held t s same name as_run target cuts is cuts_are broke.answer broke.new broke.step; recorded = broke.recorded; since = broke.since; left = broke.left }

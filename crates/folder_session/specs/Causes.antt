@@ -39,8 +39,8 @@ EndsReading t r files why = EndsOver (sources_of t files) (pieces_of r) (files_o
 
 -- damage and unreadable bytes are those of a file of this rewriting, and damage shows another digest than the kept one
 abbrev pub IsOfFiles : Table → PlainRewriting → (ℕ → List ℕ) → Refusal → Type 0
-IsOfFiles t r files (refusal.Damaged file kept found) = EndsReading t r files (reading.Damaged file kept found) × (found ≢ kept)
-IsOfFiles t r files (refusal.Unreadable file at) = EndsReading t r files (reading.Unreadable file at)
+IsOfFiles t r files (refusal.Damaged file kept found) = (taken : ℕ) × EndsReading t r files (reading.Damaged file kept found taken) × (found ≢ kept)
+IsOfFiles t r files (refusal.Unreadable file at) = (taken : ℕ) × EndsReading t r files (reading.Unreadable file at taken)
 IsOfFiles t r files _ = ⊤
 
 -- they are those of the rewriting that is taken of a plan at a cut

@@ -14,7 +14,7 @@ use Rattle.script_text.specs.declared.answer.Answer.TheVariants.{Evicted, Refuse
 use Rattle.script_text.specs.declared.item.Command.{Command}
 use Rattle.script_text.specs.declared.item.Command.TheVariants as command
 use Rattle.folder.specs.Folders.{FolderMeans, journal_of, table_in}
-use Rattle.folder.specs.Left.{IsLeft, IsLeftWith, Since}
+use Rattle.folder.specs.Left.{Follows, IsLeft, IsLeftWith, Since}
 use Rattle.folder.specs.Sound.{Care}
 use Rattle.folder.specs.State.{State}
 use Rattle.folder.specs.declared.folder.Folder.{Folder}
@@ -38,11 +38,13 @@ pub record Performs (care : Care) (u v : View) (held : List ℕ) (session : Fold
   pub stands : Stands care v session new
   pub since : Since care s new u v
 
--- the store failed in the command: each crash since leaves the state before or after it, and so the store is left
+-- The store failed in the command, which would have been recorded: each crash since leaves the state before or after it, and so
+-- the store is left.
 pub record Breaks (care : Care) (u v : View) (held : List ℕ) (s : State) (command : Command) : Type 0 where
   pub answer : Answer
   pub new : State
   pub step : Step care held s command answer new
+  pub recorded : Follows s new
   pub since : Since care s new u v
   pub left : IsLeftWith care v s new
 
@@ -63,11 +65,13 @@ pub record BreaksOff (care : Care) (u v : View) (s : State) (program : Option Pr
   pub answer : Answer
   pub new : State
   pub step : WorkStep care s program plan cuts answer new
+  pub recorded : Follows s new
   pub since : Since care s new u v
   pub left : IsLeftWith care v s new
 
--- the store failed while it was recorded
+-- the store failed while it was recorded, or before
 pub record KeepsNot (care : Care) (u v : View) (s new : State) : Type 0 where
+  pub recorded : Follows s new
   pub since : Since care s new u v
   pub left : IsLeftWith care v s new
 

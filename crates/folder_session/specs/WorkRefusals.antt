@@ -11,8 +11,8 @@ abbrev pub refusal_of : RunRefusal → Refusal
 refusal_of run.Overflow = refusal.Overflow
 refusal_of run.Machine = refusal.Limit limit.Machine
 refusal_of run.Fault = refusal.Fault
-refusal_of (run.Damaged file kept found) = refusal.Damaged file kept found
-refusal_of (run.Unreadable file at) = refusal.Unreadable file at
+refusal_of (run.Damaged file kept found taken) = refusal.Damaged file kept found
+refusal_of (run.Unreadable file at taken) = refusal.Unreadable file at
 refusal_of run.Memory = refusal.Memory
 
 abbrev pub collection_refusal : CollectionRefusal → Refusal

@@ -14,8 +14,13 @@ pub fn refusal_of(refusal: RunRefusal) -> Refusal
         RunRefusal::Overflow => Refusal::Overflow,
         RunRefusal::Machine => Refusal::Limit(LimitKind::Machine),
         RunRefusal::Fault => Refusal::Fault,
-        RunRefusal::Damaged { file, kept, found } => Refusal::Damaged { file, kept, found },
-        RunRefusal::Unreadable { file, at } => Refusal::Unreadable { file, at },
+        RunRefusal::Damaged {
+            file,
+            kept,
+            found,
+            ..
+        } => Refusal::Damaged { file, kept, found },
+        RunRefusal::Unreadable { file, at, .. } => Refusal::Unreadable { file, at },
         RunRefusal::Memory => Refusal::Memory,
     }
 }

@@ -10,6 +10,7 @@ ghost use Rattle.catalog_core.specs.Catalogs.{IsReady, table_of};
 ghost use Rattle.catalog_core.specs.Table.{Fits, after};
 ghost use Rattle.folder.specs.Folders.{catalog_of, journal_of, table_in, FolderStands};
 ghost use Rattle.folder.specs.InUse.{IsInUse, IsLoadedAsItIs};
+ghost use Rattle.folder.specs.Unnamed.{HasRoot, HasOnlyNamed, ChangesUnnamed, ChangesLogsOrUnnamed};
 ghost use Rattle.folder.specs.Left.{IsLeft, IsLeftWith, Since};
 ghost use Rattle.folder.specs.Replay.{ReadsAs, StopsReading, is_checkpoint};
 ghost use Rattle.folder.specs.Sound.{Care};
@@ -17,7 +18,7 @@ ghost use Rattle.folder.specs.Standing.{IsNext};
 ghost use Rattle.folder.specs.State.{State, table};
 ghost use Rattle.journal_store.specs.Journals.{generation_of};
 ghost use Rattle.later_states.specs.Later.{IsLater, SparesHeld};
-ghost use Rattle.journal_store.specs.Readings.{generation_file, HaveBodies, LogHasAtMost};
+ghost use Rattle.journal_store.specs.Readings.{generation_file, HaveBodies, IsUnfinished, LogHasAtMost};
 ghost use Rattle.planning.specs.Appending.{Append, append_change, file_bytes};
 ghost use Rattle.planning.specs.Recorded.{IsRecordOf};
 ghost use Rattle.folder.specs.Next.{with_rows, AreRowsOf};
@@ -54,7 +55,8 @@ impl FolderSession {
     /// Loads a folder, which is made where its making isn't finished. `NotAStore` comes exactly where its log
     /// files have no reading, with the first byte where reading stops, unless the store fails or memory is
     /// refused first; `Fault` only where the store failed. No file is read but the logs, and no more is taken
-    /// than their bytes.
+    /// than their bytes. Where the root named a generation, each file that the folder doesn't name is removed;
+    /// a removal that fails is let pass.
     pub fn load<D: Store>(alloc: Global, store: &mut D) -> Result<FolderSession, LoadRefusal>
         ensures stands { IsTrue D.tells → (care : Care) (a b : State) → IsLeft care (D.view store.old) a b
             → IfOk result (λ session. Stands care (D.view store.new) session a) }
@@ -75,9 +77,18 @@ impl FolderSession {
         ensures generation { IsTrue D.tells → (g : ℕ) (bodies : List (List ℕ))
             → HaveBodies (D.view store.old).files g bodies
             → IfOk result (λ session. IsInUse (D.view store.new) (folder_of session) g bodies) }
-        // Where the making is finished and no log is long no file is changed.
+        // Only logs are changed, and files that the folder doesn't name; where the making is finished and no
+        // log is long these alone.
+        ensures alone { IsTrue D.tells → ChangesLogsOrUnnamed (D.view store.old) (D.view store.new) }
         ensures finished { IsTrue D.tells → IsLoadedAsItIs (D.view store.old).files
-            → Narrows (D.view store.old) (D.view store.new) }
+            → ChangesUnnamed (D.view store.old) (D.view store.new) }
+        // After `Ok` a folder that had a root has only named files, unless a removal failed. Where it had none
+        // no file is removed.
+        ensures only_named { IsTrue D.tells → HasRoot (D.view store.old).files → IfOk result
+            (λ session. Rose (D.counts store.old).removes (D.counts store.new).removes
+            ⊎ HasOnlyNamed (D.view store.new) (folder_of session)) }
+        ensures no_removal { IsTrue D.tells → IsUnfinished ((D.view store.old).files 0)
+            → (D.counts store.new).removes ≡ (D.counts store.old).removes }
         ensures only { IsTrue D.tells → (file at : ℕ) → StopsReading (D.view store.old).files file at
             → IsErrOf result (LoadRefusal.NotAStore file at) ⊎ (IsErrOf result LoadRefusal.Fault
             ⊎ IsErrOf result LoadRefusal.Memory) }
@@ -321,7 +332,7 @@ impl FolderSession {
             → Stands care (D.view store.old) self s → AreRowsOf s a.place a.rows
             → plan.recording.change ≡ append_change (table s) a → plan.bytes.items ≡ file_bytes a.rows
             → OnErr result (KeepsNot care (D.view store.old) (D.view store.new) s
-            (with_rows s a.place a.rows) ⊎ KeepsNot care (D.view store.old) (D.view store.new) s s) }
+            (with_rows s a.place a.rows)) }
         ensures answer { IfOk result (λ next. next.1 ≡ Answer.Held plan.held) }
         ensures later { (held : List ℕ) → IfOk result (λ next.
             IsLater held (table_in (folder_of self)) (table_in (folder_of next.0))) }

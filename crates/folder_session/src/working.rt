@@ -229,8 +229,7 @@ impl FolderSession {
             → work.plan.change ≡ change.Work program work.used.items [] news
             → AreNewFiles s.streams news work.plan.files.items
             → OnErr result (KeepsNot care (D.view store.old) (D.view store.new) s
-            (with_work s program work.used.items [] news)
-            ⊎ KeepsNot care (D.view store.old) (D.view store.new) s s) }
+            (with_work s program work.used.items [] news)) }
         ensures answer { IfOk result (λ next. next.1 ≡ answer_of work) }
         ensures alone { WritesAtMost (folder_of self) (D.view store.old) (D.view store.new) }
         ensures later { (held : List ℕ) → IfOk result (λ next.

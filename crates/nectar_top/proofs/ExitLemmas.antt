@@ -136,6 +136,7 @@ module _ (number : ℕ) (script : List ℕ) (generated : script ≡ generated_sc
     answer = b.answer;
     new = b.new;
     step = b.step;
+    recorded = b.recorded;
     left = b.left;
     since = b.since;
   }

@@ -3,7 +3,7 @@ use Rattle.std.proofs.Common.{◌≡◌, ◌⊎◌, ◌∙◌, ℕ, List, Result
 use Rattle.std.specs.Prelude.{IsErrOf}
 use Rattle.session.specs.declared.session.Session.{Session}
 use Rattle.outside_traits.specs.Calls.{Idles}
-use Rattle.outside_traits.specs.Runs.{Narrows}
+use Rattle.outside_traits.specs.Runs.{Narrows, Spans}
 use Rattle.outside_traits.specs.View.{View}
 use Rattle.outside_traits.proofs.RunLemmas.{idles_narrow, narrows_on, spans_on, spans_narrowed}
 use Rattle.folder.specs.InUse.{IsLoadedAsItIs}
@@ -11,7 +11,9 @@ use Rattle.folder.specs.Left.{IsLeft, IsSoundForOneOf, Everything, Since}
 use Rattle.folder.specs.Replay.{StopsReading}
 use Rattle.folder.specs.declared.refusal.LoadRefusal.{LoadRefusal}
 use Rattle.folder.specs.declared.refusal.LoadRefusal.TheVariants as refusal
+use Rattle.folder.specs.Unnamed.{IsUnnamed, ChangesUnnamed}
 use Rattle.folder.proofs.Narrowing.{left_narrowed}
+use Rattle.folder.proofs.Strays.{unnamed_narrowed}
 use Rattle.nectar_top.specs.Crash.{Found}
 use Rattle.nectar_top.specs.Loading.{exit_of}
 use Rattle.nectar_top.specs.Run.{IsUnloaded}
@@ -47,10 +49,12 @@ module _ (u v : View) (idle : Idles u v) where
   pub stops_behind : (file at : ℕ) → StopsReading u.files file at → StopsReading v.files file at
   stops_behind file at stops = subst (λ (f : ℕ → List ℕ). StopsReading f file at) (λ i g. sym (idle.same g) i) stops
 
-  -- where loading changes no file, none is changed
-  pub finished_behind : (w : View) → (IsLoadedAsItIs v.files → Narrows v w) → IsLoadedAsItIs u.files → Narrows u w
+  -- where loading changes only files that the folder doesn't name, no others are changed
+  pub finished_behind : (w : View) → (IsLoadedAsItIs v.files → ChangesUnnamed v w) → IsLoadedAsItIs u.files → ChangesUnnamed u w
   finished_behind w loaded as_it_is =
-      narrows_on u v w (idles_narrow u v idle) (loaded (subst IsLoadedAsItIs (λ i g. sym (idle.same g) i) as_it_is))
+      spans_on (IsUnnamed u.files) (λ image. Unit {0}) u v w (unnamed_narrowed u v (idles_narrow u v idle))
+      (subst (λ (f : ℕ → List ℕ). Spans (IsUnnamed f) (λ image. Unit {0}) v w) (λ i g. idle.same g i)
+      (loaded (subst IsLoadedAsItIs (λ i g. sym (idle.same g) i) as_it_is)))
 
 -- the exit tells the refusal
 pub refusal_is : (r : LoadRefusal) (e : Exit) (file at : ℕ) → e ≡ exit_of r → IsErrOf {T = Session} (Err e) (exit.NotAStore file at) → IsErrOf {T = Session} (Err r) (refusal.NotAStore file at)

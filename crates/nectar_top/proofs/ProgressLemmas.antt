@@ -94,6 +94,7 @@ breaks_item care u v session old i command before now (Err failed) is stands cha
   answer = p.answer;
   new = p.new;
   step = subst (λ j. Step care old j p.answer p.new) (sym is) (inl p.step);
+  recorded = p.recorded;
   left = p.left;
   since = p.since;
   leaves = changes_leave care u v session old command stands changes;
@@ -274,6 +275,7 @@ module _ (found : Found) (u v : View) (reader : Lines) (session : Session) (summ
       answer = broke.breaks.answer;
       new = broke.breaks.new;
       step = Step-spelled found.care at.machine broke.breaks.new ended.spelled given broke.breaks.answer ended.is_given broke.breaks.step;
+      recorded = broke.breaks.recorded;
       left = broke.breaks.left;
       since = since_next ended.spelled given ended.is_given w broke.breaks.new broke.breaks.answer broke.breaks.step broke.breaks.since;
     }
@@ -355,6 +357,7 @@ module _ (found : Found) (u v : View) (reader : Lines) (session : Session) (summ
           answer = broke.breaks.answer;
           new = broke.breaks.new;
           step = Step-spelled found.care at.machine broke.breaks.new one.0 given broke.breaks.answer one.1 broke.breaks.step;
+          recorded = broke.breaks.recorded;
           left = broke.breaks.left;
           since = since_next (last at.part at.reads).0 given (last at.part at.reads).1 w broke.breaks.new broke.breaks.answer broke.breaks.step broke.breaks.since;
         }

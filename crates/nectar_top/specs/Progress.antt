@@ -9,7 +9,7 @@ use Rattle.script_text.specs.declared.answer.Answer.{Answer}
 use Rattle.script_text.specs.declared.item.Item.{Item}
 use Rattle.script_text.specs.declared.lines.Lines.{Lines}
 use Rattle.folder.specs.Sound.{Care}
-use Rattle.folder.specs.Left.{IsLeft, Since}
+use Rattle.folder.specs.Left.{Follows, IsLeft, Since}
 use Rattle.folder.specs.Removing.{IsFree}
 use Rattle.folder.specs.State.{State, table}
 use Rattle.session.specs.Machine.{Machine, without_jobs}
@@ -69,6 +69,7 @@ pub record Breaks (care : Care) (u v : View) (old : Machine) (command : Item) (b
   pub answer : Answer
   pub new : Machine
   pub step : Step care old command answer new
+  pub recorded : Follows old.state new.state
   pub left : IsLeft care v old.state new.state ⊎ IsLeft care v new.state old.state
   pub since : Since care old.state new.state u v
   pub leaves : LeavesFree old.state u v

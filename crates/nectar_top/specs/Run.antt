@@ -11,7 +11,7 @@ use Rattle.script_text.specs.Script.{items, all_items}
 use Rattle.script_text.specs.declared.answer.Answer.{Answer}
 use Rattle.script_text.specs.declared.item.Item.{Item}
 use Rattle.folder.specs.State.{State}
-use Rattle.folder.specs.Left.{IsLeft, Since}
+use Rattle.folder.specs.Left.{Follows, IsLeft, Since}
 use Rattle.session.specs.Machine.{Machine, without_jobs}
 use Rattle.nectar_top.specs.Crash.{Found, Reaches, intact}
 use Rattle.nectar_top.specs.Eviction.{EvictsIn, AreGone}
@@ -89,8 +89,9 @@ pub record AnsweredInPart (found : Found) (u v : View) (commands : List Item) (b
   pub left : IsLeft found.care v machine.state machine.state
   pub since : Reaches found performed (answers ++ last ∷ []) u v
 
--- The first of these commands were performed from the first state on, and their answers written whole. In the next one the
--- store failed: nothing was written of its answer, and the store is left with the state before it and the one after it.
+-- The first of these commands were performed from the first state on, and their answers written whole. In the next one, which
+-- would have been recorded, the store failed: nothing was written of its answer, and the store is left with the state before it and
+-- the one after it.
 pub record BrokenOff (found : Found) (u v : View) (commands : List Item) (begun now : Outside) : Type 0 where
   pub performed : List Item
   pub broken : Item
@@ -105,6 +106,7 @@ pub record BrokenOff (found : Found) (u v : View) (commands : List Item) (begun 
   pub answer : Answer
   pub new : Machine
   pub step : Step found.care machine broken answer new
+  pub recorded : Follows machine.state new.state
   pub left : IsLeft found.care v machine.state new.state ⊎ IsLeft found.care v new.state machine.state
   pub since : Reaches found (performed ++ broken ∷ []) (answers ++ answer ∷ []) u v
 

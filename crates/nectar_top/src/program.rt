@@ -9,6 +9,7 @@ ghost use Rattle.outside_traits.specs.Calls.{Rises};
 ghost use Rattle.outside_traits.specs.Runs.{Narrows};
 ghost use Rattle.script_text.specs.Reader as reader;
 ghost use Rattle.folder.specs.InUse.{IsLoadedAsItIs};
+ghost use Rattle.folder.specs.Unnamed.{ChangesUnnamed};
 ghost use Rattle.folder.specs.Left.{IsLeft, Since};
 ghost use Rattle.folder.specs.Replay.{StopsReading};
 ghost use Rattle.folder.specs.Sound.{Whole};
@@ -101,10 +102,10 @@ pub fn nectar<'a, S: Source, K: Sink, D: Store>(
         (λ quiet. shown quiet (S.left source.old) (K.written sink.old) (D.counts store.old))
         (λ quiet. shown quiet (S.left source.new) (K.written sink.new) (D.counts store.new)) }
 
-    // A run that takes no command changes no file of a folder whose making is finished and whose log isn't
-    // long.
+    // A run that takes no command changes only files that the folder doesn't name, where its making is finished
+    // and its log isn't long.
     ensures finished { IsTrue D.tells → IsLoadedAsItIs (D.view store.old).files
-        → WereNotTaken result → Narrows (D.view store.old) (D.view store.new) }
+        → WereNotTaken result → ChangesUnnamed (D.view store.old) (D.view store.new) }
 
     // Reading the log files stops there, and no file is changed; and where it stops the run ends so, but for
     // a fault of the store or want of memory.
@@ -154,7 +155,7 @@ fn run<S: Source, K: Sink, D: Store>(
         (shown words.now.quiet (S.left source.old) (K.written sink.old) (D.counts store.old))
         (shown words.now.quiet (S.left source.new) (K.written sink.new) (D.counts store.new)) }
     ensures finished { IsTrue D.tells → IsLoadedAsItIs (D.view store.old).files
-        → WereNotTaken result → Narrows (D.view store.old) (D.view store.new) }
+        → WereNotTaken result → ChangesUnnamed (D.view store.old) (D.view store.new) }
     ensures not_a_store { IsTrue D.tells → (file at : ℕ) → result ≡ Exit.NotAStore file at
         → StopsReading (D.view store.old).files file at × Narrows (D.view store.old) (D.view store.new) }
     ensures stopped { IsTrue D.tells → (file at : ℕ) → StopsReading (D.view store.old).files file at
@@ -200,7 +201,7 @@ fn run_generated<K: Sink, D: Store>(
         (shown quiet left (K.written sink.old) (D.counts store.old))
         (shown quiet left (K.written sink.new) (D.counts store.new)) }
     ensures finished { IsTrue D.tells → IsLoadedAsItIs (D.view store.old).files
-        → WereNotTaken result → Narrows (D.view store.old) (D.view store.new) }
+        → WereNotTaken result → ChangesUnnamed (D.view store.old) (D.view store.new) }
     ensures not_a_store { IsTrue D.tells → (file at : ℕ) → result ≡ Exit.NotAStore file at
         → StopsReading (D.view store.old).files file at × Narrows (D.view store.old) (D.view store.new) }
     ensures stopped { IsTrue D.tells → (file at : ℕ) → StopsReading (D.view store.old).files file at
@@ -254,7 +255,7 @@ fn answer_script<S: Source, K: Sink, D: Store>(
         (faults (S.faults source.new) (K.faults sink.new) (D.counts store.new))
         → IfErr result (λ exit. exit ≡ Exit.Memory) }
     ensures finished { IsTrue D.tells → IsLoadedAsItIs (D.view store.old).files
-        → IfErr result (λ exit. WereNotTaken exit → Narrows (D.view store.old) (D.view store.new)) }
+        → IfErr result (λ exit. WereNotTaken exit → ChangesUnnamed (D.view store.old) (D.view store.new)) }
     ensures not_a_store { IsTrue D.tells → (file at : ℕ) → IsErrOf result (Exit.NotAStore file at)
         → StopsReading (D.view store.old).files file at × Narrows (D.view store.old) (D.view store.new) }
     ensures stopped { IsTrue D.tells → (file at : ℕ) → StopsReading (D.view store.old).files file at
@@ -285,7 +286,7 @@ fn begin<D: Store>(alloc: Global, folder: &str, store: &mut D) -> Result<(Server
         → IsErrOf result (Exit.NotAStore file at) ⊎ (IsErrOf result Exit.StoreFault
         ⊎ IsErrOf result Exit.Memory) }
     ensures finished { IsTrue D.tells → IsLoadedAsItIs (D.view store.old).files
-        → Narrows (D.view store.old) (D.view store.new) }
+        → ChangesUnnamed (D.view store.old) (D.view store.new) }
     ensures cause { IfErr result (λ exit. HasLoadingCause exit (D.counts store.old) (D.counts store.new)) }
     ensures no_fault { OnOk result
         (((D.counts store.new).reads ≡ (D.counts store.old).reads)
@@ -330,7 +331,7 @@ fn load_folder<D: Store>(alloc: Global, folder: &str, store: &mut D) -> Result<S
         → IsErrOf result (Exit.NotAStore file at) ⊎ (IsErrOf result Exit.StoreFault
         ⊎ IsErrOf result Exit.Memory) }
     ensures finished { IsTrue D.tells → IsLoadedAsItIs (D.view store.old).files
-        → Narrows (D.view store.old) (D.view store.new) }
+        → ChangesUnnamed (D.view store.old) (D.view store.new) }
     ensures cause { IfErr result (λ exit. HasLoadingCause exit (D.counts store.old) (D.counts store.new)) }
     ensures no_fault { OnOk result
         (((D.counts store.new).reads ≡ (D.counts store.old).reads)

@@ -22,7 +22,7 @@ use Rattle.folder.specs.State.{State, table}
 use Rattle.folder_session.specs.Machine.{IsFileEvent}
 use Rattle.folder_session.specs.Standing as folder
 use Rattle.folder_session.specs.Working.{answer_of}
-use Rattle.folder_session.proofs.StepLemmas.{either_behind, records_behind}
+use Rattle.folder_session.proofs.StepLemmas.{breaks_behind, records_behind}
 use Rattle.job_table.specs.Jobs.{place_of}
 use Rattle.job_table.specs.declared.table.OpenJob.{OpenJob}
 use Rattle.later_states.specs.Later.{IsLater}
@@ -169,15 +169,19 @@ module _ (care : Care) (u : View) (session : Session) (m : Machine) (stands : St
           since = kept.since;
         }
 
-    breaks : folder.KeepsNot care u v m.state after ⊎ folder.KeepsNot care u v m.state m.state → Breaks care u v m (command.Close name)
-    breaks (inl broke) = record { answer = answer_of closed; new = closed_machine; step = closed_step care m name found.job found.named o found.is closed is_closed; since = broke.since; left = broke.left }
-    breaks (inr broke) =
-        let r = by_event refusal.Memory tt in
-        record { answer = answer.Refused refusal.Memory; new = with_jobs m r.jobs; step = r.step; since = broke.since; left = broke.left }
+    breaks : folder.KeepsNot care u v m.state after → Breaks care u v m (command.Close name)
+    breaks broke = record {
+      answer = answer_of closed;
+      new = closed_machine;
+      step = closed_step care m name found.job found.named o found.is closed is_closed;
+      recorded = broke.recorded;
+      since = broke.since;
+      left = broke.left;
+    }
 
-    pub closed_breaks : (result : Result (Session × Answer) Failed) → OnErr result (folder.KeepsNot care w v m.state after ⊎ folder.KeepsNot care w v m.state m.state) → OnErr result (Breaks care u v m (command.Close name))
+    pub closed_breaks : (result : Result (Session × Answer) Failed) → OnErr result (folder.KeepsNot care w v m.state after) → OnErr result (Breaks care u v m (command.Close name))
     closed_breaks (Ok next) broke = tt
-    closed_breaks (Err failed) broke = breaks (either_behind care u w v m.state after before (Err failed) broke)
+    closed_breaks (Err failed) broke = breaks (breaks_behind care u w v m.state after before (Err failed) broke)
 
     pub closed_result : StaysOpen → StaysRead → IsTable (table_in (folder_of session)) → (result : Result (Session × Answer) Failed) → IfOk result (λ next. IsTable (table_in (folder_of next.0)))
         → ((held : List ℕ) → IfOk result (λ next. IsLater held (table_in (folder_of session)) (table_in (folder_of next.0)))) → IfOk result (λ next. IsEnded closed at now_open (jobs_of next.0) next.1)

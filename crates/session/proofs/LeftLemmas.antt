@@ -46,8 +46,8 @@ module _ (t : Table) (plan : PlainPlan) (work : OpenWork) (is : IsOpen t plan wo
 -- what reading met is such an event
 pub reading_event : (care : Care) (s : State) (plan : PlainPlan) (cuts : Cuts) (why : ReadRefusal) → IsRefusedWork care s plan cuts (of_reading why) → IsFileEvent care s (refusal_of (of_reading why))
 reading_event care s plan cuts reading.Fault is = tt
-reading_event care s plan cuts (reading.Damaged file kept found) is = is
-reading_event care s plan cuts (reading.Unreadable file at) is = absurd is
+reading_event care s plan cuts (reading.Damaged file kept found taken) is = is
+reading_event care s plan cuts (reading.Unreadable file at taken) is = absurd is
 reading_event care s plan cuts reading.Memory is = tt
 
 -- why it isn't closed, where no limit is passed
@@ -56,6 +56,6 @@ pub not_closed : (care : Care) (s : State) (plan : PlainPlan) (old new : OpenWor
 not_closed care s plan old new run.Overflow within is whole = (record { within = within; left = whole }, is)
 not_closed care s plan old new run.Machine within is whole = (record { within = within; left = whole }, is)
 not_closed care s plan old new run.Fault within is whole = tt
-not_closed care s plan old new (run.Damaged file kept found) within is whole = is
-not_closed care s plan old new (run.Unreadable file at) within is whole = absurd is
+not_closed care s plan old new (run.Damaged file kept found taken) within is whole = is
+not_closed care s plan old new (run.Unreadable file at taken) within is whole = absurd is
 not_closed care s plan old new run.Memory within is whole = tt

@@ -61,6 +61,7 @@ module _ (stays : StaysOpen) (reads : StaysRead) (care : Care) (u v : View) (ses
     answer = broke.answer;
     new = record { state = broke.new; jobs = m.jobs };
     step = step_beside care m broke.new c broke.answer other (subst (λ (ids : List ℕ). machine.Step care ids m.state c broke.answer broke.new) by_machine broke.step);
+    recorded = broke.recorded;
     since = broke.since;
     left = broke.left;
   }

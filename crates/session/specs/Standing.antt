@@ -4,7 +4,7 @@ use Rattle.outside_traits.specs.View.{View}
 use Rattle.script_text.specs.declared.answer.Answer.{Answer}
 use Rattle.script_text.specs.declared.item.Command.{Command}
 use Rattle.folder.specs.Folders.{table_in}
-use Rattle.folder.specs.Left.{IsLeftWith, Since}
+use Rattle.folder.specs.Left.{Follows, IsLeftWith, Since}
 use Rattle.folder.specs.Sound.{Care}
 use Rattle.folder.specs.declared.folder.Folder.{Folder}
 use Rattle.folder_session.specs.Standing as folder
@@ -34,10 +34,12 @@ pub record Performs (care : Care) (u v : View) (session : Session) (m : Machine)
   pub stands : Stands care v session new
   pub since : Since care m.state new.state u v
 
--- the store failed in the command: each crash since leaves the state before or after it, and so the store is left
+-- The store failed in the command, which would have been recorded: each crash since leaves the state before or after it, and so
+-- the store is left.
 pub record Breaks (care : Care) (u v : View) (m : Machine) (command : Command) : Type 0 where
   pub answer : Answer
   pub new : Machine
   pub step : Step care m command answer new
+  pub recorded : Follows m.state new.state
   pub since : Since care m.state new.state u v
   pub left : IsLeftWith care v m.state new.state

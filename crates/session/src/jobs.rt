@@ -210,8 +210,7 @@ impl Session {
             → work.plan.change ≡ change.Work (Some program) work.used.items [] news
             → AreNewFiles s.streams news work.plan.files.items
             → OnErr result (folder.KeepsNot care (D.view store.old) (D.view store.new) s
-            (with_work s (Some program) work.used.items [] news)
-            ⊎ folder.KeepsNot care (D.view store.old) (D.view store.new) s s) }
+            (with_work s (Some program) work.used.items [] news)) }
         ensures later { (held : List ℕ) → IfOk result (λ next.
             IsLater held (table_in (folder_of self)) (table_in (folder_of next.0))) }
         ensures table { IfOk result (λ next. IsTable (table_in (folder_of next.0))) }

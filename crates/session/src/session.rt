@@ -7,11 +7,12 @@ ghost use Rattle.outside_traits.specs.Calls.{Rises};
 ghost use Rattle.outside_traits.specs.Runs.{Narrows};
 ghost use Rattle.folder.specs.Folders.{table_in, FolderStands};
 ghost use Rattle.folder.specs.InUse.{IsInUse, IsLoadedAsItIs};
+ghost use Rattle.folder.specs.Unnamed.{HasRoot, HasOnlyNamed, ChangesUnnamed, ChangesLogsOrUnnamed};
 ghost use Rattle.folder.specs.Left.{IsLeft, IsLeftWith, Since};
 ghost use Rattle.folder.specs.Replay.{ReadsAs, StopsReading};
 ghost use Rattle.folder.specs.Sound.{Care};
 ghost use Rattle.folder.specs.State.{State};
-ghost use Rattle.journal_store.specs.Readings.{generation_file, HaveBodies, LogHasAtMost};
+ghost use Rattle.journal_store.specs.Readings.{generation_file, HaveBodies, IsUnfinished, LogHasAtMost};
 ghost use Rattle.script_text.specs.Answer.{IsNarrow};
 ghost use Rattle.script_text.specs.Script.{IsWhole};
 ghost use Rattle.script_text.specs.declared.answer.Refusal.{Refusal};
@@ -47,7 +48,8 @@ impl Session {
     /// Loads a folder, which is made where its making isn't finished. `NotAStore` comes exactly where its log
     /// files have no reading, with the first byte where reading stops, unless the store fails or memory is
     /// refused first; `Fault` only where the store failed. No file is read but the logs, and no more is taken
-    /// than their bytes. No job is open.
+    /// than their bytes. Where the root named a generation, each file that the folder doesn't name is removed;
+    /// a removal that fails is let pass. No job is open.
     pub fn load<D: Store>(alloc: Global, store: &mut D) -> Result<Session, LoadRefusal>
         ensures stands { IsTrue D.tells → (care : Care) (a b : State) → IsLeft care (D.view store.old) a b
             → IfOk result (λ session. Stands care (D.view store.new) session (without_jobs a)) }
@@ -68,9 +70,18 @@ impl Session {
         ensures generation { IsTrue D.tells → (g : ℕ) (bodies : List (List ℕ))
             → HaveBodies (D.view store.old).files g bodies
             → IfOk result (λ session. IsInUse (D.view store.new) (folder_of session) g bodies) }
-        // Where the making is finished and no log is long no file is changed.
+        // Only logs are changed, and files that the folder doesn't name; where the making is finished and no
+        // log is long these alone.
+        ensures alone { IsTrue D.tells → ChangesLogsOrUnnamed (D.view store.old) (D.view store.new) }
         ensures finished { IsTrue D.tells → IsLoadedAsItIs (D.view store.old).files
-            → Narrows (D.view store.old) (D.view store.new) }
+            → ChangesUnnamed (D.view store.old) (D.view store.new) }
+        // After `Ok` a folder that had a root has only named files, unless a removal failed. Where it had none
+        // no file is removed.
+        ensures only_named { IsTrue D.tells → HasRoot (D.view store.old).files → IfOk result
+            (λ session. Rose (D.counts store.old).removes (D.counts store.new).removes
+            ⊎ HasOnlyNamed (D.view store.new) (folder_of session)) }
+        ensures no_removal { IsTrue D.tells → IsUnfinished ((D.view store.old).files 0)
+            → (D.counts store.new).removes ≡ (D.counts store.old).removes }
         ensures only { IsTrue D.tells → (file at : ℕ) → StopsReading (D.view store.old).files file at
             → IsErrOf result (LoadRefusal.NotAStore file at) ⊎ (IsErrOf result LoadRefusal.Fault
             ⊎ IsErrOf result LoadRefusal.Memory) }

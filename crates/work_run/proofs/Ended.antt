@@ -127,6 +127,6 @@ module _ (found : (t : Table) (e : PlainEntry) → IsTable t → Contains t.entr
     (names : List FileName) (there : AllByRecursion (HasFile (table s)) names) (pieces : List Piece) (in_state : AllByRecursion (IsPieceIn s) pieces) (old new : Counts) where
   pub not-read : (why : ReadRefusal) → EndsBy (file_at (table s)) names old new why → EndsOver (sources_of (table s) files) pieces names why → IsRefusedWork care s plan c (of_reading why)
   not-read read.Fault cause over = tt
-  not-read (read.Damaged file kept other) cause over = damage-shown found care files s sound is_table names there pieces old new file kept other cause over
-  not-read (read.Unreadable file at) cause over = none-unreadable found care files s sound is_table names there pieces in_state file at over
+  not-read (read.Damaged file kept other taken) cause over = damage-shown found care files s sound is_table names there pieces old new file kept other taken cause over
+  not-read (read.Unreadable file at taken) cause over = none-unreadable found care files s sound is_table names there pieces in_state file at taken over
   not-read read.Memory cause over = tt

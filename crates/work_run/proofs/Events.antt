@@ -71,9 +71,9 @@ module _ (found : (t : Table) (e : PlainEntry) → IsTable t → Contains t.entr
 
   -- ---- damage
 
-  pub damage-shown : (names : List FileName) → AllByRecursion (HasFile (table s)) names → (pieces : List Piece) (old new : Counts) (file : ℕ) (digest other : Digest)
-      → EndsBy (file_at (table s)) names old new (read.Damaged file digest other) → EndsOver (sources_of (table s) files) pieces names (read.Damaged file digest other) → ShowsDamage care s file digest other
-  damage-shown names all pieces old new file digest other (cause_name, cause_among, kept_is, differs, same) (name, among, digest_is, found_is) =
+  pub damage-shown : (names : List FileName) → AllByRecursion (HasFile (table s)) names → (pieces : List Piece) (old new : Counts) (file : ℕ) (digest other : Digest) (taken : ℕ)
+      → EndsBy (file_at (table s)) names old new (read.Damaged file digest other taken) → EndsOver (sources_of (table s) files) pieces names (read.Damaged file digest other taken) → ShowsDamage care s file digest other
+  damage-shown names all pieces old new file digest other taken (cause_name, cause_among, kept_is, differs, same, took) (name, among, digest_is, found_is, whole) =
       let at : FileRef = file_at (table s) name in
       let bytes = named-bytes name (all-at (HasFile (table s)) names name all among.0) in
       let apart : other ≢ digest = λ (e : other ≡ digest). differs (e ∙ kept_is) in
@@ -100,9 +100,9 @@ module _ (found : (t : Table) (e : PlainEntry) → IsTable t → Contains t.entr
       subst (λ (x : Shape). IsFileOf s (file_at (table s) (Result id)) x) (ap (plan_shape (kinds_in s.streams)) piece.2 ∙ sym is)
       (subst (λ (i : ℕ). IsFileOf s (file_at (table s) (Result i)) (plan_shape (kinds_in s.streams) piece.0.plan)) piece.3 (entry-is piece.0 piece.1))
 
-  pub none-unreadable : (names : List FileName) → AllByRecursion (HasFile (table s)) names → (pieces : List Piece) → AllByRecursion (IsPieceIn s) pieces → (file place : ℕ)
-      → EndsOver (sources_of (table s) files) pieces names (read.Unreadable file place) → ⊥
-  none-unreadable names all pieces in_state file place (name, of, among, shape_is, digest, spells_none) =
+  pub none-unreadable : (names : List FileName) → AllByRecursion (HasFile (table s)) names → (pieces : List Piece) → AllByRecursion (IsPieceIn s) pieces → (file place taken : ℕ)
+      → EndsOver (sources_of (table s) files) pieces names (read.Unreadable file place taken) → ⊥
+  none-unreadable names all pieces in_state file place taken (name, of, among, shape_is, digest, spells_none, whole) =
       let at : FileRef = file_at (table s) name in
       let is = shaped-file pieces in_state name of (all-at (HasFile (table s)) names name all among.0) shape_is in
       spells_none.0 is.form (is.of_shape, held-bytes care at (kept_spelling is.form) (files at.file) (sound.holds at (kept_spelling is.form) is.names) digest)

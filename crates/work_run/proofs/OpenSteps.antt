@@ -1,5 +1,5 @@
 -- Open work, one file on.
-use Rattle.std.proofs.Common.{◌≡◌, refl, sym, ap, ◌∙◌, subst, inl, inr, ℕ, ◌+◌, ◌^◌, ◌-◌, ◌≤◌, min, Bool, List, [], ◌∷◌, ◌++◌, take, Some, Err, IsOk, IsTrue, append_assoc, arith}
+use Rattle.std.proofs.Common.{◌≡◌, refl, sym, ap, ◌∙◌, subst, inl, inr, ℕ, ◌+◌, ◌^◌, ◌-◌, ◌≤◌, min, Bool, List, [], ◌∷◌, ◌++◌, length, take, Some, Err, IsOk, IsTrue, append_assoc, arith}
 use Rattle.std.proofs.lemmas.List.Sums.{sum_by-append, sum_by_push}
 use Rattle.outside_traits.specs.Counts.{Rose}
 use Rattle.outside_traits.specs.View.{View, Counts}
@@ -18,7 +18,7 @@ use Rattle.catalog_core.specs.Named.{file_at, bytes_named}
 use Rattle.catalog_core.specs.Programs.{AreCuts, IsProgram, kinds_of_streams}
 use Rattle.catalog_core.specs.Table.{Table}
 use Rattle.executor.specs.Progress.{ArePartsOf}
-use Rattle.executor.specs.Running.{TookAtMost}
+use Rattle.executor.specs.Running.{TookAtMost, TookAtLeast}
 use Rattle.kept_files.specs.declared.refusal.ReadRefusal.{ReadRefusal}
 use Rattle.kept_files.specs.declared.refusal.ReadRefusal.TheVariants as reading
 use Rattle.result_ops.specs.declared.refusal.MakeRefusal.{MakeRefusal}
@@ -172,11 +172,14 @@ goes-on tells t view later before half now old mid new on kept same opened name 
 
 -- ---- refusals, seen from an earlier moment
 
-module _ (t : Table) (names : List FileName) (old half new : Counts) (same : half.reads ≡ old.reads) where
+module _ (t : Table) (names : List FileName) (old half new : Counts) (same : half.reads ≡ old.reads) (before : old.taken ≤ half.taken) where
+  took-since : (taken : ℕ) → TookAtLeast taken half new → TookAtLeast taken old new
+  took-since taken took = let last : min (half.taken + taken) (2 ^ 64 - 1) ≤ new.taken = took in omega (arith, before, last)
+
   pub cause-since : (why : RunRefusal) → HasRunCause (file_at t) names half new why → HasRunCause (file_at t) names old new why
   cause-since run.Fault cause = subst (λ (n : ℕ). Rose n new.reads) same cause
-  cause-since (run.Damaged file kept found) (name, among, kept_is, differs, no_fault) = (name, among, kept_is, differs, no_fault ∙ same)
-  cause-since (run.Unreadable file at) (name, among, no_fault) = (name, among, no_fault ∙ same)
+  cause-since (run.Damaged file kept found taken) (name, among, kept_is, differs, no_fault, took) = (name, among, kept_is, differs, no_fault ∙ same, took-since taken took)
+  cause-since (run.Unreadable file at taken) (name, among, no_fault, took) = (name, among, no_fault ∙ same, took-since taken took)
   cause-since run.Overflow cause = cause ∙ same
   cause-since run.Machine cause = cause ∙ same
   cause-since run.Memory cause = cause ∙ same
@@ -187,14 +190,21 @@ module _ (t : Table) (pieces : List Piece) (names : List FileName) (files later 
 
   pub found-since : (why : RunRefusal) → IsRunFound (sources_of t later) pieces names why → IsRunFound (sources_of t files) pieces names why
   found-since run.Fault found = tt
-  found-since (run.Damaged file kept digest) (name, among, kept_is, digest_is) = (name, among, kept_is, digest_is ∙ ap (λ (f : List ℕ). digest_of (first-bytes name f)) (same (file_at t name).file))
-  found-since (run.Unreadable file at) (name, shape, among, is, digest, none) = (
+  found-since (run.Damaged file kept digest taken) (name, among, kept_is, digest_is, whole) = (
+    name,
+    among,
+    kept_is,
+    digest_is ∙ ap (λ (f : List ℕ). digest_of (first-bytes name f)) (same (file_at t name).file),
+    whole ∙ ap (λ (f : List ℕ). length (first-bytes name f)) (same (file_at t name).file),
+  )
+  found-since (run.Unreadable file at taken) (name, shape, among, is, digest, none, whole) = (
     name,
     shape,
     among,
     is,
     subst (λ (f : List ℕ). digest_of (first-bytes name f) ≡ (file_at t name).digest) (same (file_at t name).file) digest,
     subst (λ (f : List ℕ). SpellsNone shape (first-bytes name f) at) (same (file_at t name).file) none,
+    whole ∙ ap (λ (f : List ℕ). length (first-bytes name f)) (same (file_at t name).file),
   )
   found-since run.Overflow found = tt
   found-since run.Machine found = tt
@@ -205,8 +215,8 @@ module _ (t : Table) (pieces : List Piece) (names : List FileName) (files later 
 -- of a file that isn't read nothing is said
 pub whole-read : (why : ReadRefusal) (new : OpenWork) → IsReadWhole (Err (of_reading why)) new
 whole-read reading.Fault new = tt
-whole-read (reading.Damaged file kept found) new = tt
-whole-read (reading.Unreadable file at) new = tt
+whole-read (reading.Damaged file kept found taken) new = tt
+whole-read (reading.Unreadable file at taken) new = tt
 whole-read reading.Memory new = tt
 
 pub whole-made : (why : MakeRefusal) (new : OpenWork) → files_left new ≡ [] → IsReadWhole (Err (of_making why)) new

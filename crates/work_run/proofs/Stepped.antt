@@ -1,5 +1,5 @@
 -- The next file of open work is read, or isn't.
-use Rattle.std.proofs.Common.{◌≡◌, refl, sym, ap, ◌∙◌, subst, ℕ, Bool, true, List, ◌∷◌, ◌++◌, take}
+use Rattle.std.proofs.Common.{◌≡◌, refl, sym, ap, ◌∙◌, subst, ℕ, Bool, true, List, ◌∷◌, ◌++◌, take, arith}
 use Rattle.std.specs.List.{AllByRecursion}
 use Rattle.row_blob.specs.declared.shape.Shape.{Shape}
 use Rattle.outside_traits.specs.View.{Counts}
@@ -40,7 +40,7 @@ module _ (t : Table) (plan : PlainPlan) (work : OpenWork) (is : IsOpen t plan wo
   split = is.rest ∙ ap (λ (l : List FileName). is.names ++ l) left
 
   pub step-ends : (old new : Counts) (why : ReadRefusal) → HasCause (file_at t name) old new why → EndsBy (file_at t) (files_of r) old new why
-  step-ends old new why cause = ends_by (file_at t) (files_of r) is.names name others split old old new refl why cause
+  step-ends old new why cause = ends_by (file_at t) (files_of r) is.names name others split old old new refl (omega arith) why cause
 
   pub step-found : (files : ℕ → List ℕ) (shape : Shape) (old new : Counts) (why : ReadRefusal) → IsShapeOf (kinds_of_streams t.streams) (pieces_of r) name shape → HasCause (file_at t name) old new why
       → FoundIn shape (file_at t name) (take (file_at t name).len (files (file_at t name).file)) old new why → EndsOver (sources_of t files) (pieces_of r) (files_of r) why

@@ -154,6 +154,6 @@ module _ (laws : Laws) (file_laws : FileLaws) (care : Care) (files : ℕ → Lis
   refused old new run.Overflow cause over runs = unmade laws s sound.valid t same is_table plan normal cuts r root_is same_plan same_cuts care make.Overflow runs.0
   refused old new run.Machine cause over runs = unmade laws s sound.valid t same is_table plan normal cuts r root_is same_plan same_cuts care make.Machine runs.0
   refused old new run.Fault cause over runs = tt
-  refused old new (run.Damaged file kept found) cause over runs = unread file_laws care files s sound t same is_table plan r root_is plan cuts old new (read.Damaged file kept found) cause over
-  refused old new (run.Unreadable file at) cause over runs = unread file_laws care files s sound t same is_table plan r root_is plan cuts old new (read.Unreadable file at) cause over
+  refused old new (run.Damaged file kept found taken) cause over runs = unread file_laws care files s sound t same is_table plan r root_is plan cuts old new (read.Damaged file kept found taken) cause over
+  refused old new (run.Unreadable file at taken) cause over runs = unread file_laws care files s sound t same is_table plan r root_is plan cuts old new (read.Unreadable file at taken) cause over
   refused old new run.Memory cause over runs = tt

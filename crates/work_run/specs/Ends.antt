@@ -68,6 +68,6 @@ abbrev pub IsRefusedWork : Care → State → PlainPlan → Cuts → RunRefusal 
 IsRefusedWork care s plan cuts run.Overflow = Overflows s plan cuts
 IsRefusedWork care s plan cuts run.Machine = IsDear s plan cuts
 IsRefusedWork care s plan cuts run.Fault = ⊤
-IsRefusedWork care s plan cuts (run.Damaged file kept found) = ShowsDamage care s file kept found
-IsRefusedWork care s plan cuts (run.Unreadable file at) = ⊥
+IsRefusedWork care s plan cuts (run.Damaged file kept found taken) = ShowsDamage care s file kept found
+IsRefusedWork care s plan cuts (run.Unreadable file at taken) = ⊥
 IsRefusedWork care s plan cuts run.Memory = ⊤

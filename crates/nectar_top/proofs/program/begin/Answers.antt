@@ -5,6 +5,7 @@ use Rattle.session.specs.Standing.{Stands, HoldsJobs}
 use Rattle.nectar_top.proofs.LoadingLemmas.{goes_on, again, ends_again}
 use Rattle.nectar_top.proofs.ProgressLemmas.{Progress-new}
 use Rattle.nectar_top.proofs.TurnLemmas.{Serving-new}
+use Rattle.folder.proofs.Strays.{unnamed_narrowed}
 use Rattle.outside_traits.proofs.RunLemmas.{narrows_none}
 use Rattle.nectar_top.proofs.program.begin.Goals as goal
 
@@ -32,4 +33,4 @@ pub returns-in-Err-load_folder-clause-finished : goal.returns-in-Err-load_folder
 returns-in-Err-load_folder-clause-finished g c = c.load_folder.ensures.finished
 
 pub returns-in-Err-clause-finished : goal.returns-in-Err-clause-finished
-returns-in-Err-clause-finished g c = λ told made. narrows_none _
+returns-in-Err-clause-finished g c = λ told made. unnamed_narrowed _ _ (narrows_none _)

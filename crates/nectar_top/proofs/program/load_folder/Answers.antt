@@ -1,5 +1,6 @@
 use Rattle.std.proofs.Common.{◌∙◌}
 use Rattle.outside_traits.proofs.RunLemmas.{idles_narrow, narrows_on}
+use Rattle.folder.proofs.Strays.{unnamed_narrowed}
 use Rattle.nectar_top.proofs.LoadingLemmas.{finished_behind, left_attached, since_attached, unloaded_attached, unloaded_since, stops_before, stops_behind, refusal_is, exit_is, loaded_not_stopped}
 use Rattle.nectar_top.proofs.program.load_folder.Goals as goal
 
@@ -38,7 +39,7 @@ pub returns-in-Err-load-clause-finished : goal.returns-in-Err-load-clause-finish
 returns-in-Err-load-clause-finished g c = λ told. finished_behind _ _ c.attach.ensures.idles _ (c.load.ensures.finished told)
 
 pub returns-in-Err-clause-finished : goal.returns-in-Err-clause-finished
-returns-in-Err-clause-finished g c = λ told made. idles_narrow _ _ c.attach.ensures.idles
+returns-in-Err-clause-finished g c = λ told made. unnamed_narrowed _ _ (idles_narrow _ _ c.attach.ensures.idles)
 
 pub returns-in-Ok-load-clause-no_fault : goal.returns-in-Ok-load-clause-no_fault
 returns-in-Ok-load-clause-no_fault g c = (c.in-Ok-load.ensures.no_fault.0 ∙ c.in-Ok.ensures.no_fault, c.in-Ok-load.ensures.no_fault.1 ∙ c.attach.ensures.counts.writes)

@@ -3,7 +3,11 @@ use Rattle.catalog_core.specs.Catalogs.{table_of}
 use Rattle.catalog_core.specs.Programs.{kinds_of_streams}
 use Rattle.catalog_core.specs.Table.{Table}
 use Rattle.plan_canon.specs.Normal.{IsNormalFormOf}
+use Rattle.catalog_core.specs.Named.{file_at}
+use Rattle.folder_session.specs.Causes.{IsOfFiles}
+use Rattle.folder_session.proofs.RefusalLemmas.{work_found}
 use Rattle.planning.specs.Running.{storing}
+use Rattle.work_run.specs.Opened.{opened_rewriting}
 use Rattle.script_text.specs.declared.answer.Refusal.{Refusal}
 use Rattle.session.specs.Work.{IsNotClosed, run_of}
 use Rattle.session.proofs.LeftLemmas.{most_left, not_closed}
@@ -43,3 +47,11 @@ returns-in-Ok-clause-most g c = λ told.
 pub returns-in-Err-clause-most : goal.returns-in-Err-clause-most
 returns-in-Err-clause-most g c = λ told.
     most_left (table_of c.args.catalog.now) c.requires.0 c.args.work.now c.requires.1 (g.D.Store.counts c.args.store.now) (g.D.Store.counts c.close.new.store) (c.close.ensures.most told)
+
+pub returns-in-Err-clause-found : goal.returns-in-Err-clause-found
+returns-in-Err-clause-found g c = λ told.
+    let t = table_of c.args.catalog.now in
+    let files = (g.D.Store.view c.args.store.now).files in
+    let r = opened_rewriting c.args.work.now in
+    subst (IsOfFiles t r files) (sym c.refusal_of.ensures)
+    (work_found t files r (file_at t) (g.D.Store.counts c.args.store.now) (g.D.Store.counts c.close.new.store) c.in-Err.refusal c.in-Err.ensures.cause (c.in-Err.ensures.found told))

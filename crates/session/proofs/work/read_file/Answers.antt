@@ -5,10 +5,13 @@ use Rattle.executor.specs.Progress.{left_in}
 use Rattle.executor.specs.Runs.{of_reading}
 use Rattle.executor.specs.declared.refusal.RunRefusal.{RunRefusal}
 use Rattle.script_text.specs.declared.answer.Refusal.{Refusal}
+use Rattle.catalog_core.specs.Named.{file_at}
+use Rattle.folder_session.specs.Causes.{IsOfFiles}
 use Rattle.folder_session.specs.Machine.{IsFileEvent}
+use Rattle.folder_session.proofs.RefusalLemmas.{work_found}
 use Rattle.folder_session.specs.WorkRefusals.{refusal_of}
 use Rattle.catalog_core.specs.Catalogs.{table_of}
-use Rattle.work_run.specs.Opened.{files_left}
+use Rattle.work_run.specs.Opened.{files_left, opened_rewriting}
 use Rattle.session.specs.Taken.{TakesFirst}
 use Rattle.session.proofs.LeftLemmas.{first_left, most_first, reading_event}
 use Rattle.session.proofs.work.read_file.Goals as goal
@@ -48,3 +51,11 @@ returns-in-Err-clause-most g c = λ told.
     let is = c.requires in
     most_first (table_of c.args.catalog.now) is.0 c.args.work.now is.1 (g.D.Store.counts c.args.store.now) (g.D.Store.counts c.step.new.store) first.0 first.1 first.2
     (c.step.ensures.most first.0 first.1 first.2 told)
+
+pub returns-in-Err-clause-found : goal.returns-in-Err-clause-found
+returns-in-Err-clause-found g c = λ told.
+    let t = table_of c.args.catalog.now in
+    let files = (g.D.Store.view c.args.store.now).files in
+    let r = opened_rewriting c.args.work.now in
+    subst (IsOfFiles t r files) (sym (c.refusal_of.ensures ∙ ap refusal_of c.from.ensures))
+    (work_found t files r (file_at t) (g.D.Store.counts c.args.store.now) (g.D.Store.counts c.step.new.store) (of_reading c.in-Err.refusal) c.in-Err.ensures.cause (c.in-Err.ensures.found told))

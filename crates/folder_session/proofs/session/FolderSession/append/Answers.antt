@@ -7,7 +7,7 @@ use Rattle.catalog_core.specs.Table.{Table}
 use Rattle.folder.specs.Next.{with_rows}
 use Rattle.planning.specs.Appending.{append_change}
 use Rattle.folder_session.proofs.RowLemmas.{are_rows_of}
-use Rattle.folder_session.proofs.StepLemmas.{refuses, stands_prepared, table_prepared, appended_ok, appended_err, kept_performs, either_breaks}
+use Rattle.folder_session.proofs.StepLemmas.{refuses, stands_prepared, table_prepared, appended_ok, appended_err, kept_performs, kept_breaks}
 use Rattle.folder_session.proofs.RefusalLemmas.{appending_refuses}
 use Rattle.folder_session.proofs.TakenLemmas.{of_no_file}
 use Rattle.outside_traits.proofs.RunLemmas.{narrows_none}
@@ -34,7 +34,7 @@ pub returns-in-Ok-prepare-clause-err : goal.returns-in-Ok-prepare-clause-err
 returns-in-Ok-prepare-clause-err g c = λ told care held s stands.
     let ok = c.in-Ok.ensures.ok in
     let same = ap table_of c.catalog.ensures ∙ stands.means.table_is in
-    either_breaks care held _ _ s (with_rows s ok.0.place ok.0.rows) (command.Append c.args.name c.args.lines) (answer.Held c.in-Ok.plan.held) (appended_ok care held _ s same c.args.name c.args.lines ok.0 c.in-Ok.plan.held ok.1 ok.5) _
+    kept_breaks care held _ _ s (with_rows s ok.0.place ok.0.rows) (command.Append c.args.name c.args.lines) (answer.Held c.in-Ok.plan.held) (appended_ok care held _ s same c.args.name c.args.lines ok.0 c.in-Ok.plan.held ok.1 ok.5) _
     (c.record_file.ensures.err told care s ok.0 (stands_prepared care _ _ _ s c.prepare.ensures.table c.prepare.ensures.journal stands) (are_rows_of s _ same ok.0.place ok.0.rows ok.6) (ok.2 ∙ ap (λ (t : Table). append_change t ok.0) same) ok.4)
 
 pub returns-in-Err-clause-ok : goal.returns-in-Err-clause-ok

@@ -1,10 +1,12 @@
-use Rattle.std.proofs.Common.{◌∙◌, ◌+◌, sym, ap, subst, inr}
+use Rattle.std.proofs.Common.{◌∙◌, ◌+◌, refl, sym, ap, subst}
 use Rattle.outside_traits.specs.View.{Now, Only}
 use Rattle.catalog_core.specs.Table.{Fits, Table}
 use Rattle.folder.specs.Folders.{table_in}
-use Rattle.folder.specs.Next.{with_rows}
+use Rattle.catalog_types.specs.declared.change.Change.TheVariants as change
+use Rattle.folder.specs.Next.{new_extent, with_rows}
 use Rattle.folder.specs.Standing.{IsNext}
-use Rattle.folder.specs.State.{table, file_bytes}
+use Rattle.folder.specs.State.{extent_of, table, file_bytes}
+use Rattle.folder.proofs.NextStates.{table-with_rows}
 use Rattle.folder_session.specs.Standing.{Stands, folder_of}
 use Rattle.folder_session.proofs.FileLemmas.{file_is, change_of, next_number, none_ahead}
 use Rattle.folder_session.proofs.StepLemmas.{records_behind, breaks_behind, breaks_before}
@@ -46,7 +48,10 @@ returns-in-Ok-clause-err g c = λ told care s a stands are change_is bytes_is.
 pub returns-in-Err-clause-err : goal.returns-in-Err-clause-err
 returns-in-Err-clause-err g c = λ told care s a stands are change_is bytes_is.
     let means = c.write_next.ensures.means told care s stands.means in
-    inr (breaks_before care _ _ (g.D.Store.view c.write_next.new.store) s s (c.write_next.ensures.stays told care s stands.means) (c.left_stores.ensures.meant care c.write_next.new.store _ _ s means))
+    let is = change_is ∙ change_of s a in
+    let fits = subst (λ x. Fits x (table s)) is (subst (λ (t : Table). Fits c.args.plan.recording.change t) stands.means.table_is c.requires.record.fits) in
+    breaks_before care _ _ (g.D.Store.view c.write_next.new.store) s (with_rows s a.place a.rows) (c.write_next.ensures.stays told care s stands.means)
+    (change.Append a.place (extent_of (new_extent s.next_file a.rows)), ((refl, fits), table-with_rows s a.place a.rows)) (c.left_stores.ensures.meant care c.write_next.new.store _ _ s means)
 
 pub returns-in-Ok-clause-crash : goal.returns-in-Ok-clause-crash
 returns-in-Ok-clause-crash g c = λ told stands. c.record.ensures.crash told (c.write_next.ensures.stands stands)

@@ -1,10 +1,11 @@
-use Rattle.std.proofs.Common.{◌+◌, ◌^◌, ◌≤◌, ℕ, List, [], length, ap, sym, subst, inr}
+use Rattle.std.proofs.Common.{◌+◌, ◌^◌, ◌≤◌, ℕ, List, [], length, ap, refl, sym, subst}
 use Rattle.catalog_types.specs.declared.change.Change.{Change}
 use Rattle.catalog_types.specs.declared.change.Change.TheVariants as change
 use Rattle.catalog_core.specs.Catalogs.{table_of}
 use Rattle.catalog_core.specs.Table.{Fits, Table, file_end}
 use Rattle.folder.specs.Folders.{table_in}
 use Rattle.folder.specs.Next.{with_work}
+use Rattle.folder.proofs.NextStates.{table-with_work}
 use Rattle.folder.specs.Standing.{IsNext}
 use Rattle.folder.specs.Written.{AreWritten}
 use Rattle.folder_session.specs.Standing.{Stands, folder_of}
@@ -54,7 +55,10 @@ returns-in-Ok-clause-err g c = λ told care s program news stands change_is new_
 pub returns-in-Err-clause-err : goal.returns-in-Err-clause-err
 returns-in-Err-clause-err g c = λ told care s program news stands change_is new_files.
     let means = c.write_files.ensures.means told care s stands.means in
-    inr (breaks_before care _ _ (g.D.Store.view c.write_files.new.store) s s (c.write_files.ensures.stays told care s stands.means) (c.left_stores.ensures.meant care c.write_files.new.store _ _ s means))
+    let fits_here = subst (λ (x : Change). Fits x (table_in (folder_of c.args.self))) change_is c.requires.planned.2.fits in
+    let fits = subst (λ (t : Table). Fits (change.Work program c.args.work.used.items [] news) t) stands.means.table_is fits_here in
+    breaks_before care _ _ (g.D.Store.view c.write_files.new.store) s (with_work s program c.args.work.used.items [] news) (c.write_files.ensures.stays told care s stands.means)
+    (change.Work program c.args.work.used.items [] news, ((refl, fits), table-with_work s program c.args.work.used.items [] news)) (c.left_stores.ensures.meant care c.write_files.new.store _ _ s means)
 
 pub returns-in-Ok-clause-crash : goal.returns-in-Ok-clause-crash
 returns-in-Ok-clause-crash g c = λ told stands. c.record.ensures.crash told (c.write_files.ensures.stands stands)

@@ -22,7 +22,7 @@ use Rattle.folder_session.specs.Working.{answer_of}
 use Rattle.folder_session.specs.WorkRefusals.{refusal_of}
 use Rattle.folder_session.proofs.LeavingLemmas.{leaves_given, count_then, looked_before, reads_only, writes_on, writes_prepared, failed_after, unread_counts, fault_rose}
 use Rattle.folder_session.proofs.RefusalLemmas.{work_found, result_found}
-use Rattle.folder_session.proofs.StepLemmas.{stands_prepared, table_prepared, records_behind, either_behind, kept_works, broken_works, refused_work}
+use Rattle.folder_session.proofs.StepLemmas.{stands_prepared, table_prepared, records_behind, breaks_behind, kept_works, broken_works, refused_work}
 use Rattle.folder_session.proofs.TakenLemmas.{told_of_result, read_then, most_then}
 use Rattle.folder_session.proofs.WorkLemmas.{narrow_given, no_checkpoint, no_refusal}
 use Rattle.later_states.proofs.Tables.{later-same}
@@ -68,7 +68,7 @@ returns-in-Ok-prepare-clause-err g c = λ told care s plan cuts stands chosen.
     let stands' : Stands care (g.D.Store.view c.run_work.new.store) c.args.self s = record { means = means; left = c.left_stores.ensures.meant care c.run_work.new.store _ _ s means } in
     let ready = stands_prepared care _ _ _ s c.prepare.ensures.table c.prepare.ensures.journal stands' in
     broken_works care (g.D.Store.view c.args.store.now) _ s new c.args.program plan cuts (answer_of c.in-Ok.work) (record { normal = comes.normal; rewriting = comes.rewriting; taken = comes.taken; by = comes.by.works }) _
-    (either_behind care (g.D.Store.view c.args.store.now) (g.D.Store.view c.run_work.new.store) _ s new (spans_narrowed Everything (λ image. IsSound care image s) _ _ c.run_work.ensures.narrows stands.means.settled) _
+    (breaks_behind care (g.D.Store.view c.args.store.now) (g.D.Store.view c.run_work.new.store) _ s new (spans_narrowed Everything (λ image. IsSound care image s) _ _ c.run_work.ensures.narrows stands.means.settled) _
     (c.record_work.ensures.err told care s c.args.program comes.by.news ready comes.by.change comes.by.files))
 
 pub returns-in-Err-prepare-clause-ok : goal.returns-in-Err-prepare-clause-ok

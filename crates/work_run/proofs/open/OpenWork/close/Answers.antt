@@ -96,7 +96,7 @@ returns-in_err-step-clause-cause g c =
     let new = g.D.Store.counts c.step.new.store in
     let why = of_reading c.in_err-step.field-0.0 in
     rw (p.1, p.2)
-    (cause-since t (files_of (opened_rewriting c.args.self.now)) old half new on.no_fault why
+    (cause-since t (files_of (opened_rewriting c.args.self.now)) old half new on.no_fault on.counts.taken why
     (subst (λ (r : PlainRewriting). HasRunCause (file_at t) (files_of r) half new why) (rewriting-same c.args.self.now c.loop-self.self on.same) c.in_err-step.ensures.cause))
 
 pub returns-in_err-step-clause-found : goal.returns-in_err-step-clause-found
