@@ -4,10 +4,8 @@
 #![tactic(auto)]
 
 mod anew;
-mod faults;
 mod generations;
 mod runs;
-mod stops;
 
 use anyhow::{Context, Result};
 use std::alloc::Global;
@@ -38,14 +36,10 @@ fn answer(alloc: Global, case: &str) -> Result<String> {
         "words" => runs::words(alloc, arguments),
         "quiet" => runs::quiet(alloc, arguments),
         "generate" => runs::generate(alloc, arguments),
-        "reads" => faults::reads(alloc, arguments),
-        "writes" => faults::writes(alloc, arguments),
-        "looks" => faults::looks(alloc, arguments),
         "anew" => anew::anew(alloc, arguments),
         "taken" => anew::taken(alloc, arguments),
         "logs" => generations::logs(alloc, arguments),
         "loading" => generations::loading(alloc, arguments),
-        "stops" => stops::stops(alloc, arguments),
         _ => None.context("no such subject"),
     }
 }

@@ -4,7 +4,7 @@ use anyhow::{Context, Result};
 use case_text::{script, shown};
 use mem_outside::{MemSink, MemSource, MemStore};
 use nectar_top::{Exit, nectar};
-use outside_traits::{ReaderSource, Sink, WriterSink};
+use outside_traits::{ReaderSource, WriterSink};
 use std::alloc::Global;
 use std::io;
 use std::io::Write;
@@ -101,26 +101,14 @@ pub fn words(alloc: Global, arguments: &str) -> Result<String> {
     Ok(format!(in alloc; "{exit:?}, {count} bytes")?)
 }
 
-// The exit and what is written where no call fails and a read gives at most `piece` bytes.
+// The exit and what is written where a read gives at most `piece` bytes.
 fn outcome(alloc: Global, script: &[u8], piece: usize) -> Result<(Exit, MemSink)> {
-    let mut sink = MemSink::new(alloc, Vec::new(alloc));
-    let exit = run_on(alloc, script, piece, &[], &mut sink)?;
-    Ok((exit, sink))
-}
-
-/// The exit where a read gives at most `piece` bytes, and the reads of these numbers fail.
-pub fn run_on<K: Sink>(
-    alloc: Global,
-    script: &[u8],
-    piece: usize,
-    fails: &[u64],
-    sink: &mut K,
-) -> Result<Exit> {
     let bytes = Vec::from_slice(alloc, script)?;
-    let fails = Vec::from_slice(alloc, fails)?;
-    let mut source = MemSource::new(bytes, piece.max(1), fails);
+    let mut source = MemSource::new(bytes, piece.max(1), Vec::new(alloc));
+    let mut sink = MemSink::new(alloc, Vec::new(alloc));
     let mut store = MemStore::new(alloc, Vec::new(alloc));
-    Ok(nectar(alloc, &["folder"], &mut source, sink, &mut store))
+    let exit = nectar(alloc, &["folder"], &mut source, &mut sink, &mut store);
+    Ok((exit, sink))
 }
 
 // Takes one byte a write.
