@@ -2,7 +2,6 @@
 use Rattle.std.proofs.Common.{◌≡◌, refl, ap, ◌∙◌, ℕ, zero, suc, ◌+◌, ◌<◌, List, [], ◌∷◌, ◌++◌, length, arith}
 use Rattle.std.specs.List.{AllByRecursion}
 use Rattle.catalog_types.specs.PlainEntry.{PlainEntry, PlainNewEntry}
-use Rattle.entry_table.specs.Ids.{without}
 use Rattle.entry_table.specs.Results.{file_end, IsOf, HaveNextFiles, Differ}
 
 pub all-behind : {A : Type 0} (P : A → Type 0) (xs : List A) (x : A) → AllByRecursion P xs → P x → AllByRecursion P (xs ++ x ∷ [])
@@ -18,8 +17,3 @@ pub files-behind : (file : ℕ) (news : List PlainNewEntry) (new : PlainNewEntry
     → HaveNextFiles file (news ++ new ∷ [])
 files-behind file [] new have is less = (omega (arith, is), omega (arith, less), tt)
 files-behind file (x ∷ news) new have is less = (have.0, have.1, files-behind (file + 1) news new have.2 (omega (arith, is)) (omega (arith, less)))
-
--- without no id they are all there
-pub without-none : (entries : List PlainEntry) → without [] entries ≡ entries
-without-none [] = refl
-without-none (e ∷ entries) = ap (λ (es : List PlainEntry). e ∷ es) (without-none entries)

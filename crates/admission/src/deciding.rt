@@ -1,9 +1,10 @@
 //! Whether a result may be kept.
-ghost use Rattle.std.specs.Prelude.{◌≡◌, ◌↔◌, ◌+◌, ◌<◌, ◌≤◌, length, IsTrue, IfOk, IfSome};
+ghost use Rattle.std.specs.Prelude.{◌≡◌, ◌↔◌, ◌+◌, ◌<◌, ◌≤◌, length, not, IsTrue, IfOk, IfSome};
 ghost use Rattle.std.specs.List.{AllByRecursion};
 ghost use Rattle.row_blob.specs.Spelling.{kept_spelling};
 ghost use Rattle.plan_core.specs.PlainPlan.{plan_of};
 ghost use Rattle.plan_spelling.specs.Spelling.{HasPlanSpelling, plan_spelling};
+ghost use Rattle.entry_table.specs.Ids.{is_among, without};
 ghost use Rattle.entry_table.specs.Results.{most_entries, most_result_bytes, most_plan_bytes, file_end};
 ghost use Rattle.admission.specs.declared.new_result.NewResult.{NewResult};
 ghost use Rattle.admission.specs.Admitting.{made_of, kept_in, IsOther, MayBeAdmitted, Decides};
@@ -31,10 +32,12 @@ const MAX_PLAN_BYTES: usize = 65_536;
 /// The number behind the last file's.
 const FILE_END: u64 = 4_294_967_296;
 
-/// The result as it is kept behind those before it, if it may be. It is written out only where it may.
+/// The result as it is kept behind those before it, if it may be, where these entries are dropped. It is written
+/// out only where it may.
 pub(crate) fn decide(
     alloc: Global,
     entries: &[Entry],
+    dropped: &[u32],
     file: u64,
     before: &[NewResult],
     made: KeptPlace,
@@ -43,9 +46,9 @@ pub(crate) fn decide(
     requires counted { length entries.now ≤ most_entries }
     requires few { length before.now ≤ most_entries }
     requires numbered { file ≤ file_end }
-    ensures { IfOk result (Decides entries.now file before.now (made_of made)) }
+    ensures { IfOk result (Decides (without dropped.now entries.now) file before.now (made_of made)) }
 {
-    if may_be_admitted(alloc, entries, file, before, &made)? {
+    if may_be_admitted(alloc, entries, dropped, file, before, &made)? {
         let new = written(alloc, file + before.len() as u64, made)?;
         Ok(Some(new))
     } else {
@@ -56,6 +59,7 @@ pub(crate) fn decide(
 fn may_be_admitted(
     alloc: Global,
     entries: &[Entry],
+    dropped: &[u32],
     file: u64,
     before: &[NewResult],
     made: &KeptPlace,
@@ -65,11 +69,11 @@ fn may_be_admitted(
     requires few { length before.now ≤ most_entries }
     requires numbered { file ≤ file_end }
     ensures { IfOk result (λ may. IsTrue may
-        ↔ MayBeAdmitted entries.now file before.now (made_of made.now)) }
+        ↔ MayBeAdmitted (without dropped.now entries.now) file before.now (made_of made.now)) }
 {
-    if has_place(entries, file, before)
+    if has_place(entries, dropped, file, before)
         && encoded_len(&made.kept) <= MAX_RESULT_BYTES
-        && is_new(entries, made)
+        && is_new(entries, dropped, made)
         && differs(before, made)
     {
         is_short(alloc, &made.plan)
@@ -79,25 +83,52 @@ fn may_be_admitted(
 }
 
 // Whether there is room for one more, and a number for its file.
-fn has_place(entries: &[Entry], file: u64, before: &[NewResult]) -> bool
+fn has_place(entries: &[Entry], dropped: &[u32], file: u64, before: &[NewResult]) -> bool
     requires counted { length entries.now ≤ most_entries }
     requires few { length before.now ≤ most_entries }
     requires numbered { file ≤ file_end }
-    ensures { IsTrue result ↔ ((length entries.now + length before.now < most_entries)
+    ensures { IsTrue result
+        ↔ ((length (without dropped.now entries.now) + length before.now < most_entries)
         × (file + length before.now < file_end)) }
 {
-    entries.len() + before.len() < MAX_ENTRIES && file + (before.len() as u64) < FILE_END
+    let stay = count_that_stay(entries, dropped);
+    stay + before.len() < MAX_ENTRIES && file + (before.len() as u64) < FILE_END
 }
 
-// Whether no entry has its plan and cut.
-fn is_new(entries: &[Entry], made: &KeptPlace) -> bool
-    ensures { IsTrue result
-        ↔ AllByRecursion (λ e. IsOther (made_of made.now) e.plan e.cuts) entries.now }
+// How many entries there are but those that are dropped.
+fn count_that_stay(entries: &[Entry], dropped: &[u32]) -> usize
+    ensures count { result ≡ length (without dropped.now entries.now) }
+    ensures most { result ≤ length entries.now }
+{
+    match entries {
+        [] => 0,
+        [entry, others @ ..] => {
+            let behind = count_that_stay(others, dropped);
+            if stays(entry, dropped) {
+                behind + 1
+            } else {
+                behind
+            }
+        }
+    }
+}
+
+fn stays(entry: &Entry, dropped: &[u32]) -> bool
+    ensures { result ≡ not (is_among dropped.now entry.now.id) }
+{
+    !dropped.contains(&entry.id)
+}
+
+// Whether no entry has its plan and cut but one that is dropped.
+fn is_new(entries: &[Entry], dropped: &[u32], made: &KeptPlace) -> bool
+    ensures { IsTrue result ↔ AllByRecursion (λ e. IsOther (made_of made.now) e.plan e.cuts)
+        (without dropped.now entries.now) }
 {
     match entries {
         [] => true,
         [entry, others @ ..] => {
-            is_other(made, &entry.plan, entry.cuts.items()) && is_new(others, made)
+            let differs = !stays(entry, dropped) || is_other(made, &entry.plan, entry.cuts.items());
+            differs && is_new(others, dropped, made)
         }
     }
 }

@@ -1,5 +1,5 @@
 -- What look-ups answer where one entry more is asked or left out.
-use Rattle.std.proofs.Common.{◌≡◌, ◌-◌, ◌≤◌, subst, Bool, true, false, cond, List, [], ◌∷◌, map, ℕ, length, get_or, take, drop, Option, arith}
+use Rattle.std.proofs.Common.{◌≡◌, ◌-◌, ◌≤◌, subst, Bool, true, false, cond, List, [], ◌∷◌, map, ℕ, sym, length, get_or, take, drop, Option, Some, None, IfSome, arith}
 use Rattle.std.specs.Bool.{IsTrue}
 use Rattle.std.specs.List.{filter}
 use Rattle.std.proofs.lemmas.List.{take_all}
@@ -10,7 +10,8 @@ use Rattle.rewrite_core.specs.declared.rewriting.Hit.{Hit}
 use Rattle.rewrite_core.specs.Entries.{entry_of, IsWhole, IsEarlier, AnswersWhole}
 use Rattle.rewrite_core.specs.Looking.{IsAt, ComesBefore, IsFurther, IsBestOf}
 use Rattle.rewrite_core.proofs.Looking.{whole_first, whole_behind, best_first, best_behind, never, holds}
-use Rattle.cache_index.specs.Asked.{entry, is_asked, asked}
+use Rattle.cache_index.specs.Asked.{entry, is_asked, asked, IsWholeAt, IsEarlierAt}
+use Rattle.cache_index.specs.Ids.{in_front}
 
 -- the entries behind the first one, as a slice
 abbrev pub behind : List PlainEntry → List PlainEntry
@@ -65,3 +66,25 @@ module _ (without : List ℕ) (plan : PlainPlan) (cuts : Cuts) where
   best_among (e ∷ es) first best some is not_both of =
       subst (λ x. IsBestOf (asked without (x ∷ es)) plan cuts best) is
       (best_past (is_asked without first) first es best not_both (subst (λ l. IsBestOf (asked without l) plan cuts best) (behind_is e es) of))
+
+  -- ---- one entry in front, if there is one
+
+  pub whole_front : (o : Option PlainEntry) (others : List PlainEntry) (e : PlainEntry) (hit : Hit) → o ≡ Some e → IsWholeAt without plan cuts e → entry_of e.plan hit ≡ entry e
+      → IsWhole (asked without (in_front o others)) plan cuts hit
+  whole_front o others e hit is at same =
+      subst (λ o. IsWhole (asked without (in_front o others)) plan cuts hit) (sym is) (whole_at (is_asked without e) e others hit at.0 at.1 same)
+
+  pub whole_past_front : (o : Option PlainEntry) (others : List PlainEntry) (found : Option Hit) → IfSome o (λ e. ¬ (IsWholeAt without plan cuts e)) → AnswersWhole (asked without others) plan cuts found
+      → AnswersWhole (asked without (in_front o others)) plan cuts found
+  whole_past_front None others found not_at answers = answers
+  whole_past_front (Some e) others found not_at answers = whole_past (is_asked without e) e others found not_at answers
+
+  pub best_front : (o : Option PlainEntry) (others : List PlainEntry) (e : PlainEntry) (best : Option Hit) (hit : Hit) → o ≡ Some e → IsEarlierAt without plan cuts e → IsFurther (entry e) best → entry_of e.plan hit ≡ entry e
+      → IsBestOf (asked without others) plan cuts best → IsEarlier (asked without (in_front o others)) plan cuts hit
+  best_front o others e best hit is comes further same of =
+      subst (λ o. IsEarlier (asked without (in_front o others)) plan cuts hit) (sym is) (best_at (is_asked without e) e others best hit comes.0 comes.1 further same of)
+
+  pub best_past_front : (o : Option PlainEntry) (others : List PlainEntry) (best : Option Hit) → IfSome o (λ e. IsEarlierAt without plan cuts e → ¬ (IsFurther (entry e) best)) → IsBestOf (asked without others) plan cuts best
+      → IsBestOf (asked without (in_front o others)) plan cuts best
+  best_past_front None others best not_both of = of
+  best_past_front (Some e) others best not_both of = best_past (is_asked without e) e others best not_both of

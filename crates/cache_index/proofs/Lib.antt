@@ -1,1 +1,9 @@
 pub mod Answering
+pub mod Digests
+pub mod Growing
+pub mod Indexing
+pub mod Listing
+pub mod Places
+pub mod Retained
+pub mod Rooms
+pub mod Searching

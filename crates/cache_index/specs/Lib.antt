@@ -1,1 +1,4 @@
 pub mod Asked
+pub mod Ids
+pub mod Lists
+pub mod Index

@@ -1,10 +1,13 @@
 //! What look-ups ask of each entry.
-ghost use Rattle.std.specs.Prelude.{◌≡◌, ◌↔◌, IsTrue, IfOk};
+ghost use Rattle.std.specs.Prelude.{◌≡◌, ◌↔◌, ◌==◌, Some, None, IsTrue, IfOk, IfSome};
+ghost use Rattle.std.specs.List.{find};
 ghost use Rattle.plan_core.specs.PlainPlan.{plan_of};
 ghost use Rattle.rewrite_core.specs.Entries.{AnswersWhole, entry_of};
 ghost use Rattle.rewrite_core.specs.Looking.{IsAt, ComesBefore, IsFurther, IsBestOf};
-ghost use Rattle.cache_index.specs.Asked.{entry as looked_at, is_asked, asked};
+ghost use Rattle.cache_index.specs.Asked.{entry as looked_at, is_asked, asked, IsWholeAt, IsEarlierAt};
+ghost use Rattle.cache_index.specs.Ids.{ids_of, ascend_above, listed};
 
+use crate::ids::entry_of;
 use catalog_types::Entry;
 use estimator::{are_at_or_before, are_same_cuts, reach};
 use plan_core::Plan;
@@ -54,6 +57,100 @@ pub fn best_in(
             }
             Ok(best)
         }
+    }
+}
+
+/// The entry of this plan and cut, of those with these ids but those whose ids are in `without`.
+pub fn whole_among(
+    alloc: Global,
+    entries: &[Entry],
+    ids: &[u32],
+    without: &[u32],
+    plan: &Plan,
+    cuts: &[Cut],
+) -> Result<Option<Hit>, Memory>
+    requires { IsTrue (ascend_above 0 (ids_of entries.now)) }
+    ensures { IfOk result (AnswersWhole (asked without.now (listed ids.now entries.now))
+        (plan_of plan.now) cuts.now) }
+{
+    let mut rest = ids;
+    while let [id, behind @ ..] = rest {
+        if let Some(entry) = whole_at(entries, *id, without, plan, cuts) {
+            return Ok(Some(hit_of(alloc, entry)?));
+        }
+        rest = behind;
+    }
+    Ok(None)
+}
+
+/// Of the entries of this plan at earlier cuts with these ids, but those whose ids are in `without`, the one that
+/// reaches furthest, and of those the one with the least id.
+pub fn best_among(
+    alloc: Global,
+    entries: &[Entry],
+    ids: &[u32],
+    without: &[u32],
+    plan: &Plan,
+    cuts: &[Cut],
+) -> Result<Option<Hit>, Memory>
+    requires { IsTrue (ascend_above 0 (ids_of entries.now)) }
+    ensures { IfOk result (IsBestOf (asked without.now (listed ids.now entries.now))
+        (plan_of plan.now) cuts.now) }
+{
+    match ids {
+        [] => Ok(None),
+        [id, others @ ..] => {
+            let best = best_among(alloc, entries, others, without, plan, cuts)?;
+            if let Some(entry) = further_at(entries, *id, without, plan, cuts, &best) {
+                return Ok(Some(hit_of(alloc, entry)?));
+            }
+            Ok(best)
+        }
+    }
+}
+
+// The entry with this id, where it is asked, and of this plan and cut.
+fn whole_at<'a>(
+    entries: &'a [Entry],
+    id: u32,
+    without: &[u32],
+    plan: &Plan,
+    cuts: &[Cut],
+) -> Option<&'a Entry>
+    requires { IsTrue (ascend_above 0 (ids_of entries.now)) }
+    ensures found { IfSome result (λ e. (find (λ x. x.id == id) entries.now ≡ Some e.now)
+        × IsWholeAt without.now (plan_of plan.now) cuts.now e.now) }
+    ensures none { result ≡ None → IfSome (find (λ x. x.id == id) entries.now)
+        (λ e. ¬ (IsWholeAt without.now (plan_of plan.now) cuts.now e)) }
+{
+    match entry_of(entries, id) {
+        Some(entry) if is_whole(entry, without, plan, cuts) => Some(entry),
+        _ => None,
+    }
+}
+
+// The entry with this id, where it is asked, of this plan at an earlier cut, and further than the best one.
+fn further_at<'a>(
+    entries: &'a [Entry],
+    id: u32,
+    without: &[u32],
+    plan: &Plan,
+    cuts: &[Cut],
+    best: &Option<Hit>,
+) -> Option<&'a Entry>
+    requires { IsTrue (ascend_above 0 (ids_of entries.now)) }
+    ensures found { IfSome result (λ e. (find (λ x. x.id == id) entries.now ≡ Some e.now)
+        × IsEarlierAt without.now (plan_of plan.now) cuts.now e.now
+        × IsFurther (looked_at e.now) best.now) }
+    ensures none { result ≡ None → IfSome (find (λ x. x.id == id) entries.now)
+        (λ e. IsEarlierAt without.now (plan_of plan.now) cuts.now e
+        → ¬ (IsFurther (looked_at e) best.now)) }
+{
+    match entry_of(entries, id) {
+        Some(entry) if comes_before(entry, without, plan, cuts) && is_further(entry, best) => {
+            Some(entry)
+        }
+        _ => None,
     }
 }
 

@@ -12,7 +12,7 @@ use crate::shelf::{Disk, Shelf};
 use crate::shown::numbers_shown;
 use crate::within::{all_filed, is_within};
 use anyhow::{Result, bail};
-use executor::{Outcome, RunRefusal, run};
+use executor::{EndedRun, Outcome, run};
 use growth_laws::named_files_are_there;
 use plan_core::Typed;
 use result_list::{are_in_streams, are_sound};
@@ -25,7 +25,7 @@ use std::alloc::Global;
 #[derive(Drop)]
 pub struct Ran {
     pub reads: String,
-    pub outcome: Result<Outcome, RunRefusal>,
+    pub outcome: Result<Outcome, EndedRun>,
 }
 
 /// Runs the plan at the cut over the files.

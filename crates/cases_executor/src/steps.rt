@@ -7,7 +7,7 @@ use crate::running::{Ran, run_at};
 use crate::shelf::{Disk, Shelf, keep, shelf_of};
 use crate::shown::{cuts_shown, put, rows_shown, word_of};
 use anyhow::Result;
-use executor::{KeptPlace, Outcome};
+use executor::{EndedRun, KeptPlace, Outcome};
 use postfix_plans::{plan_of, typed};
 use rows_core::Cut;
 use std::alloc::Global;
@@ -55,8 +55,8 @@ fn step(
             let kept = all_kept(alloc, made, shelf, disk)?;
             (rows_shown(alloc, &rows)?, kept)
         }
-        Err(refusal) => (
-            format!(in alloc; "{refusal}")?,
+        Err(EndedRun { why, .. }) => (
+            format!(in alloc; "{why}")?,
             String::from_str(alloc, "nothing")?,
         ),
     };

@@ -72,15 +72,25 @@ fn entry_of(alloc: Global, text: &str) -> Result<Entry> {
     let (len, others) = others.split_once(' ').context("no cut")?;
     let (cuts, plan) = others.split_once(' ').context("no plan")?;
     let key = Digest { bytes: [7; 32] };
+    let id = id.parse::<u32>().ok().context("no id")?;
+    let mut entry = entry_with(alloc, id, key, key)?;
+    entry.plan = plan_of(alloc, plan)?;
+    entry.cuts = cuts_of(alloc, cuts)?;
+    entry.file.len = len.parse::<u64>().ok().context("no length")?;
+    Ok(entry)
+}
+
+/// A kept result of the first stream's rows at no cut, with these keys.
+pub fn entry_with(alloc: Global, id: u32, program: Digest, key: Digest) -> Result<Entry> {
     Ok(Entry {
-        id: id.parse::<u32>().ok().context("no id")?,
-        plan: plan_of(alloc, plan)?,
-        cuts: cuts_of(alloc, cuts)?,
-        program: key,
+        id,
+        plan: plan_of(alloc, "s0")?,
+        cuts: Seq::new(Vec::new(alloc)),
+        program,
         key,
         file: FileRef {
             file: 1,
-            len: len.parse::<u64>().ok().context("no length")?,
+            len: 0,
             digest: key,
         },
         machine: 1,

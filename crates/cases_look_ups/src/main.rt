@@ -1,14 +1,17 @@
 //! Cases of look-ups: a case a line on standard input, and on standard output a line for each, what it gives.
 //! A case is a plan (`postfix_plans` says how plans are written), a cut, the ids that are left out, and the
 //! kept results, with ` | ` between them. The answer is the result of the plan and cut and the earlier one,
-//! each by its id and the length of its file. A line that is empty or begins with `#` is no case.
+//! each by its id and the length of its file. A case that begins with `index` tells steps of the index. A line
+//! that is empty or begins with `#` is no case.
 #![tactic(auto)]
 
 mod given;
+mod indexing;
 
 use anyhow::Result;
 use cache_index::View;
 use given::{Case, case_of};
+use indexing::indexed;
 use rewrite_core::{Hit, Lookup};
 use std::alloc::Global;
 use std::io;
@@ -29,7 +32,10 @@ fn main(rt: HostRuntime) -> io::Result<()> {
 }
 
 fn answer(alloc: Global, case: &str) -> Result<String> {
-    looked_up(alloc, &case_of(alloc, case)?)
+    match case.strip_prefix("index ") {
+        Some(steps) => indexed(alloc, steps),
+        None => looked_up(alloc, &case_of(alloc, case)?),
+    }
 }
 
 fn looked_up(alloc: Global, case: &Case) -> Result<String> {

@@ -15,6 +15,7 @@ pub mod ReadParts
 pub mod RestSteps
 pub mod RestEnds
 pub mod RestShapes
+pub mod LostResults
 pub mod RunEnds
 pub mod StreamTypes
 pub mod Updates

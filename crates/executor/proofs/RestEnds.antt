@@ -1,5 +1,5 @@
 -- Why reading of several files ended early: by the file that was read last.
-use Rattle.std.proofs.Common.{◌≡◌, sym, ap, ◌∙◌, subst, ℕ, ◌+◌, ◌^◌, ◌-◌, ◌≤◌, min, Bool, inl, inr, List, ◌∷◌, ◌++◌, length, take, arith}
+use Rattle.std.proofs.Common.{◌≡◌, sym, ap, ◌∙◌, subst, ℕ, ◌+◌, ◌^◌, ◌-◌, ◌≤◌, min, Bool, inl, inr, List, ◌∷◌, ◌++◌, length, take, IsTrue, arith}
 use Rattle.std.specs.List.{Contains}
 use Rattle.std.proofs.lemmas.List.{length-take}
 use Rattle.rows_core.specs.declared.file_ref.FileRef.{FileRef}
@@ -14,7 +14,7 @@ use Rattle.plan_core.specs.PlanTyping.{Kinds}
 use Rattle.rewrite_core.specs.Files.{FileName}
 use Rattle.growth_laws.specs.Pieces.{Piece}
 use Rattle.executor.specs.Progress.{left_in}
-use Rattle.executor.specs.Running.{TookAtMost, TookAtLeast, ReadsOn, StopsAt, EndsBy, EndsOver, IsShapeOf}
+use Rattle.executor.specs.Running.{TookAtMost, TookAtLeast, bytes_of, ReadsOn, StopsAt, EndsBy, EndsOver, IsShapeOf}
 use Rattle.executor.specs.Sources.{Sources, sources}
 use Rattle.executor.specs.declared.part.Part.{Part}
 use Rattle.executor.proofs.RestShapes.{contains_middle}
@@ -51,7 +51,7 @@ module _ (places : FileName → FileRef) (all names : List FileName) (name : Fil
     first_bytes file = take (places name).len file
 
     -- the file still reads as it did
-    found_first : (e : ReadRefusal) → FoundIn shape (places name) (first_bytes (later (places name).file)) half new e → FoundIn shape (places name) (first_bytes (files (places name).file)) half new e
+    pub found_first : (e : ReadRefusal) → FoundIn shape (places name) (first_bytes (later (places name).file)) half new e → FoundIn shape (places name) (first_bytes (files (places name).file)) half new e
     found_first e found = subst (λ (file : List ℕ). FoundIn shape (places name) (first_bytes file) half new e) (same (places name).file) found
 
     ends_of : (e : ReadRefusal) → IsShapeOf schemas pieces name shape → HasCause (places name) half new e → FoundIn shape (places name) (first_bytes (files (places name).file)) half new e
@@ -67,12 +67,14 @@ module _ (places : FileName → FileRef) (all names : List FileName) (name : Fil
 
 -- the parts are those of which the next file wasn't read
 pub stops_at : (from : Sources) (before mid after : List Part) (old half new : Counts) (e : ReadRefusal) → after ≡ mid → ReadsOn from before mid old half
-    → (name : FileName) (others : List FileName) → left_in mid ≡ name ∷ others → HasCause (from.places name) half new e → StopsAt from before after old new e
-stops_at from before mid after old half new e same read name others next cause = record {
+    → (name : FileName) (others : List FileName) → left_in mid ≡ name ∷ others → HasCause (from.places name) half new e
+    → (IsTrue from.tells → (shape : Shape) × FoundIn shape (from.places name) (bytes_of from name) half new e) → StopsAt from before after old new e
+stops_at from before mid after old half new e same read name others next cause found = record {
   half = half;
   read = subst (λ (parts : List Part). ReadsOn from before parts old half) (sym same) read;
   name = name;
   others = others;
   next = ap left_in same ∙ next;
   cause = cause;
+  found = found;
 }

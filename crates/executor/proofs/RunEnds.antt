@@ -20,7 +20,7 @@ use Rattle.growth_laws.specs.Pieces.{Piece, pieces_of}
 use Rattle.executor.specs.Outcomes.{AreReadAs, Finishes, AreKeptFrom}
 use Rattle.executor.specs.Progress.{left_in, ArePartsOf, HaveRead}
 use Rattle.executor.specs.Running.{EndsBy, EndsOver, HaveTaken, ReadsOn}
-use Rattle.executor.specs.Runs.{of_reading, of_making, HasRunCause, IsRunFound, Ends, Runs}
+use Rattle.executor.specs.Runs.{of_reading, of_making, HasRunCause, IsRunFound, Ends, EndsEarly}
 use Rattle.executor.specs.Sources.{Sources, HoldFiles}
 use Rattle.executor.specs.declared.outcome.KeptPlace.{KeptPlace}
 use Rattle.executor.specs.declared.outcome.Outcome.{Outcome}
@@ -51,16 +51,16 @@ made_found from pieces names made.Machine = tt
 made_found from pieces names made.Memory = tt
 
 module _ (extents : Extents) (results : KeptResults) (r : PlainRewriting) (old new : Counts) where
-  pub read_runs : (e : ReadRefusal) → Runs extents results r old new (Err (of_reading e))
-  read_runs read.Fault = tt
-  read_runs (read.Damaged file kept found taken) = tt
-  read_runs (read.Unreadable file at taken) = tt
-  read_runs read.Memory = tt
+  pub read_early : (e : ReadRefusal) → EndsEarly extents results r old new (of_reading e)
+  read_early read.Fault = tt
+  read_early (read.Damaged file kept found taken) = tt
+  read_early (read.Unreadable file at taken) = tt
+  read_early read.Memory = tt
 
-  pub made_runs : (e : MakeRefusal) → Ends extents results r old new (Err e) → Runs extents results r old new (Err (of_making e))
-  made_runs made.Overflow is = is
-  made_runs made.Machine is = is
-  made_runs made.Memory is = tt
+  pub made_early : (e : MakeRefusal) → Ends extents results r old new (Err e) → EndsEarly extents results r old new (of_making e)
+  made_early made.Overflow is = is
+  made_early made.Machine is = is
+  made_early made.Memory is = tt
 
 -- the same of a rewriting that is seen as another one
 pub finishes_as : (extents : Extents) (results : KeptResults) (a b : PlainRewriting) (result : Result Outcome MakeRefusal) → a ≡ b → Finishes extents results a result → Finishes extents results b result

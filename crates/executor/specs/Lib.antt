@@ -4,6 +4,7 @@ pub mod Progress
 pub mod Beginning
 pub mod Sources
 pub mod Loads
+pub mod Ended
 pub mod Running
 pub mod Outcomes
 pub mod Runs

@@ -14,7 +14,7 @@ use Rattle.plan_core.specs.Columns.{Rows}
 use Rattle.plan_core.specs.PlainPlan.{PlainPlan, Scan, leaves, plan_of}
 use Rattle.plan_core.specs.PlanTyping.{Kinds}
 use Rattle.plan_laws.specs.PlanShape.{plan_shape}
-use Rattle.rewrite_core.specs.Files.{FileName, Result, extents_from}
+use Rattle.rewrite_core.specs.Files.{FileName, Extent, Result, extents_from}
 use Rattle.growth_laws.specs.KeptResults.{KeptResult, KeptResults}
 use Rattle.growth_laws.specs.Lists.{Extents, extents_of, interval_rows}
 use Rattle.growth_laws.specs.Pieces.{Piece, Entry, Gathered}
@@ -49,6 +49,11 @@ files_left (part.Gathered gathering stream next end) = extents_from stream next 
 
 abbrev pub left_in : List Part → List FileName
 left_in = flat_map files_left
+
+-- the id of the kept result whose file it is
+abbrev pub result_of : FileName → Option ℕ
+result_of (Extent stream number) = None
+result_of (Result id) = Some id
 
 -- the shape of what the next one holds
 abbrev pub next_shape : List Kinds → Part → Shape

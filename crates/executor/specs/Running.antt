@@ -7,7 +7,7 @@ use Rattle.outside_traits.specs.Counts.{Rose}
 use Rattle.outside_traits.specs.View.{Counts}
 use Rattle.outside_traits.specs.Calls.{CountsTaken, MayRaiseReads}
 use Rattle.extent_files.specs.Files.{digest_of}
-use Rattle.kept_files.specs.Reads.{SpellsNone, HasCause}
+use Rattle.kept_files.specs.Reads.{SpellsNone, HasCause, FoundIn}
 use Rattle.kept_files.specs.declared.refusal.ReadRefusal.{ReadRefusal}
 use Rattle.kept_files.specs.declared.refusal.ReadRefusal.TheVariants as read
 use Rattle.plan_core.specs.PlainPlan.{PlainPlan, Scan}
@@ -58,6 +58,10 @@ pub record ReadsOn (from : Sources) (before after : List Part) (old new : Counts
 
 -- ---- why it ended early
 
+-- the first bytes of a named file, as many as count
+abbrev pub bytes_of : Sources → FileName → List ℕ
+bytes_of from name = take (from.places name).len (from.files (from.places name).file)
+
 -- files were read, the first ones that were left, and then the next one wasn't
 pub record StopsAt (from : Sources) (before after : List Part) (old new : Counts) (why : ReadRefusal) : Type 0 where
   pub half : Counts
@@ -66,12 +70,13 @@ pub record StopsAt (from : Sources) (before after : List Part) (old new : Counts
   pub others : List FileName
   pub next : left_in after ≡ name ∷ others
   pub cause : HasCause (from.places name) half new why
+  pub found : IsTrue from.tells → (shape : Shape) × FoundIn shape (from.places name) (bytes_of from name) half new why
 
 -- one of these files, and this is its number
 abbrev pub IsFileAmong : (FileName → FileRef) → List FileName → ℕ → FileName → Type 0
 IsFileAmong places names file name = Contains names name × (file ≡ (places name).file)
 
--- on every store; the bytes that are told were taken, and others only of files before
+-- on every store; at least the bytes that are told were taken
 abbrev pub EndsBy : (FileName → FileRef) → List FileName → Counts → Counts → ReadRefusal → Type 0
 EndsBy places names old new read.Fault = Rose old.reads new.reads
 EndsBy places names old new (read.Damaged file kept found taken) =
@@ -85,10 +90,6 @@ EndsBy places names old new read.Memory = new.reads ≡ old.reads
 abbrev pub IsShapeOf : List Kinds → List Piece → FileName → Shape → Type 0
 IsShapeOf schemas pieces (Extent stream number) shape = shape ≡ plan_shape schemas (Scan stream)
 IsShapeOf schemas pieces (Result id) shape = (plan : PlainPlan) × Contains pieces (Entry plan id) × (shape ≡ plan_shape schemas plan)
-
--- the first bytes of a named file, as many as count
-abbrev pub bytes_of : Sources → FileName → List ℕ
-bytes_of from name = take (from.places name).len (from.files (from.places name).file)
 
 -- where the store tells its files
 abbrev pub EndsOver : Sources → List Piece → List FileName → ReadRefusal → Type 0

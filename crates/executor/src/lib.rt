@@ -28,6 +28,6 @@ pub use made_laws::made_results_are_results;
 pub use outcome::{KeptPlace, Outcome};
 pub use part::Part;
 pub use reading::read_next;
-pub use refusal::RunRefusal;
+pub use refusal::{EndedRun, LostResult, RunRefusal};
 pub use rest::read_rest;
 pub use running::run;

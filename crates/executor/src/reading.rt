@@ -11,7 +11,7 @@ ghost use Rattle.growth_laws.specs.Lists.{Extents};
 ghost use Rattle.growth_laws.specs.Pieces.{Piece};
 ghost use Rattle.kept_files.specs.Reads.{HasCause, FoundIn};
 ghost use Rattle.executor.specs.Firsts.{IsFirst};
-ghost use Rattle.executor.specs.Progress.{files_left, left_in, next_shape, IsNextPart, IsPartOf};
+ghost use Rattle.executor.specs.Progress.{files_left, left_in, result_of, next_shape, IsNextPart, IsPartOf};
 ghost use Rattle.executor.specs.Progress.{ArePartsOf, HaveRead};
 ghost use Rattle.executor.specs.Running.{TookAtMost};
 ghost use Rattle.executor.specs.Sources.{sources, HoldFiles, HasTaken, HasReadNext};
@@ -75,6 +75,30 @@ pub fn read_next<D: Store, P: Places>(
     read_part(alloc, part, store, places)?;
     job.taken = job.taken.saturating_add(len);
     Ok(())
+}
+
+impl Job {
+    /// The id of the kept result whose file is read next, if it is that of one. It takes no memory.
+    pub fn next_result(&self) -> Option<u32>
+        requires { left_in self.now.parts.items ≢ [] }
+        ensures { (name : FileName) (others : List FileName) → left_in self.now.parts.items ≡ name ∷ others
+            → result ≡ result_of name }
+    {
+        let next = next_of(self.parts.as_slice());
+        result_in(&self.parts[next])
+    }
+}
+
+// The id of the kept result whose file is the next one of a part.
+fn result_in(part: &Part) -> Option<u32>
+    requires { files_left part.now ≢ [] }
+    ensures { (name : FileName) (others : List FileName) → files_left part.now ≡ name ∷ others
+        → result ≡ result_of name }
+{
+    match part {
+        Part::Entry { id, .. } => Some(*id),
+        Part::Gathered { .. } => None,
+    }
 }
 
 // The place of the first part of which a file is left.

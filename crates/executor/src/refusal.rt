@@ -1,5 +1,6 @@
 //! Why a run gives no outcome.
 ghost use Rattle.std.specs.Prelude.{◌≡◌};
+ghost use Rattle.executor.specs.Ended.{ended_by};
 ghost use Rattle.executor.specs.Runs.{of_reading, of_making};
 ghost use Rattle.executor.specs.declared.refusal.RunRefusal.TheVariants as run;
 
@@ -39,6 +40,44 @@ pub enum RunRefusal {
     /// Memory was refused.
     #[error("out of memory")]
     Memory,
+}
+
+/// A kept result whose file, when it was read, was damaged or unreadable.
+#[derive(Clone, Copy, Debug, PartialEq, Eq)]
+pub struct LostResult {
+    pub id: u32,
+    /// How many bytes count of the files that were read before, and how many this one gave, cut at the greatest
+    /// u64.
+    pub taken: u64,
+}
+
+/// Why a run ended without an outcome, and at which kept result's file, if it ended at that of one.
+#[derive(Clone, Copy, Debug, PartialEq, Eq)]
+pub struct EndedRun {
+    pub why: RunRefusal,
+    pub lost: Option<LostResult>,
+}
+
+impl From<Memory> for EndedRun {
+    ghost from_gives = { λ _ e. e ≡ ended_by run.Memory };
+
+    fn from(_memory: Memory) -> EndedRun {
+        EndedRun {
+            why: RunRefusal::Memory,
+            lost: None,
+        }
+    }
+}
+
+impl From<MakeRefusal> for EndedRun {
+    ghost from_gives = { λ r e. e ≡ ended_by (of_making r) };
+
+    fn from(refusal: MakeRefusal) -> EndedRun {
+        EndedRun {
+            why: RunRefusal::from(refusal),
+            lost: None,
+        }
+    }
 }
 
 impl From<Memory> for RunRefusal {

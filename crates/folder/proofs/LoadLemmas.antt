@@ -170,7 +170,3 @@ on_err (Err e) holds = holds
 pub on_ok : {T E P : Type 0} (r : Result T E) → P → OnOk r P
 on_ok (Ok x) holds = holds
 on_ok (Err e) holds = tt
-
-pub ok_map : {T E : Type 0} {P Q : T → Type 0} (r : Result T E) → IfOk r P → ((x : T) → P x → Q x) → IfOk r Q
-ok_map (Ok x) holds f = f x holds
-ok_map (Err e) holds f = tt

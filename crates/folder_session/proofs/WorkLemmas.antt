@@ -58,7 +58,7 @@ within file (new ∷ news) next low =
     let rest = within (file + 1) news next.2 (omega (arith, number)) in
     omega (arith, rest)
 
-module _ (t : Table) (program : Option Program) (used : List ℕ) (mades : List MadeResult) (plan : WorkPlan) (is : IsWorkPlan t program used mades plan) where
+module _ (t : Table) (program : Option Program) (used : List ℕ) (mades : List MadeResult) (plan : WorkPlan) (is : IsWorkPlan t program used [] mades plan) where
   -- there are numbers for them
   pub numbered : t.next_file ≤ file_end → t.next_file + 0 + length plan.files.items ≤ 2 ^ 32
   numbered low =

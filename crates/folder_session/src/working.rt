@@ -217,7 +217,7 @@ impl FolderSession {
     ) -> Result<(FolderSession, Answer), Failed>
         requires ready { IsReady (catalog_of (folder_of self)) work.plan.change }
         requires planned { (program : Option Program) × (mades : List MadeResult)
-            × IsWorkPlan (table_in (folder_of self)) program work.used.items mades work.plan }
+            × IsWorkPlan (table_in (folder_of self)) program work.used.items [] mades work.plan }
         ensures ok { IsTrue D.tells → (care : Care) (s : State) (program : Option Program)
             (news : List PlainNewEntry) → Stands care (D.view store.old) self s
             → work.plan.change ≡ change.Work program work.used.items [] news

@@ -109,7 +109,3 @@ named_keeps v journal g bodies is none names = record {
 pub on_ok : {T E : Type 0} (r : Result T E) (P : T → Type 0) (Q : Type 0) → IfOk r P → ((x : T) → P x → Q) → OnOk r Q
 on_ok (Ok x) P Q has then = then x has
 on_ok (Err e) P Q has then = tt
-
-pub ok_weaker : {T E : Type 0} (r : Result T E) (P Q : T → Type 0) → IfOk r P → ((x : T) → P x → Q x) → IfOk r Q
-ok_weaker (Ok x) P Q has then = then x has
-ok_weaker (Err e) P Q has then = tt

@@ -1,7 +1,7 @@
 //! A store in memory.
 ghost use Rattle.std.specs.Prelude.{◌≡◌, ◌≢◌, ◌⊎◌, ℕ, ◌+◌, ◌^◌, ◌-◌, ◌/◌, ◌%◌, ◌==◌, ◌<◌, ◌≤◌, true, false};
 ghost use Rattle.std.specs.Prelude.{List, [], length, take, map, min, None, IsTrue, IfOk, IfSome, OnOk};
-ghost use Rattle.std.specs.Prelude.{OnErr};
+ghost use Rattle.std.specs.Prelude.{OnErr, if◌then◌else◌};
 ghost use Rattle.std.specs.List.{list_all};
 ghost use Rattle.mem_outside.specs.Shown.{Shown};
 ghost use Rattle.mem_outside.specs.Outcomes.{is_sound, state_in, stable_file, written, shortened, synced};
@@ -10,8 +10,7 @@ ghost use Rattle.mem_outside.specs.Moments.{view_of};
 ghost use Rattle.mem_outside.specs.History.{current_of, past_of, is_history};
 ghost use Rattle.mem_outside.specs.Laws.{state_reads, state_absent};
 ghost use Rattle.mem_outside.specs.Schedule.{Schedule, next_fails, called, from_call};
-ghost use Rattle.mem_outside.specs.Refused.{LeavesFailed};
-ghost use Rattle.outside_traits.specs.Counts.{Rose};
+ghost use Rattle.mem_outside.specs.Refused.{LeavesFailed, one_more};
 ghost use Rattle.outside_traits.specs.View.{Counts, Now, Only, IsImageAt};
 ghost use Rattle.outside_traits.specs.Calls.{
   overlaid,
@@ -143,6 +142,7 @@ impl MemStore {
             → (⟦<MemStore as Store>⟧.view store).files g
             ≡ (left_of (pick % 2 == 1) (pick / 2 % 2) (pick / 4 % 2 == 1)
             (state_in (⟦<MemStore as InMemory>⟧.shown self.now) g)).bytes) }
+        ensures refused { IfOk result (λ store. ⟦<MemStore as InMemory>⟧.refused store ≡ 0) }
         ensures schedule { IfOk result
             (λ store. ⟦<MemStore as InMemory>⟧.schedule store
             ≡ record { listed = []; from = None; next = 0 }) }
@@ -219,8 +219,8 @@ impl Store for MemStore {
     fn attach(&mut self, _folder: &str) -> Result<(), Failed>
         ensures idles { Idles (⟦<MemStore as Store>⟧.view self.old) (⟦<MemStore as Store>⟧.view self.new) }
         ensures cause { OnErr result
-            (Rose (⟦<MemStore as Store>⟧.counts self.old).reads
-            (⟦<MemStore as Store>⟧.counts self.new).reads) }
+            ((⟦<MemStore as Store>⟧.counts self.new).reads
+            ≡ one_more (⟦<MemStore as Store>⟧.counts self.old).reads) }
         ensures no_fault { OnOk result
             ((⟦<MemStore as Store>⟧.counts self.new).reads ≡ (⟦<MemStore as Store>⟧.counts self.old).reads) }
         ensures counts { MayRaiseReads (⟦<MemStore as Store>⟧.counts self.old)
@@ -247,8 +247,8 @@ impl Store for MemStore {
             (λ size. size ≡ length ((⟦<MemStore as Store>⟧.view self.old).files file)) }
         ensures idles { Idles (⟦<MemStore as Store>⟧.view self.old) (⟦<MemStore as Store>⟧.view self.new) }
         ensures cause { OnErr result
-            (Rose (⟦<MemStore as Store>⟧.counts self.old).reads
-            (⟦<MemStore as Store>⟧.counts self.new).reads) }
+            ((⟦<MemStore as Store>⟧.counts self.new).reads
+            ≡ one_more (⟦<MemStore as Store>⟧.counts self.old).reads) }
         ensures no_fault { OnOk result
             ((⟦<MemStore as Store>⟧.counts self.new).reads ≡ (⟦<MemStore as Store>⟧.counts self.old).reads) }
         ensures counts { MayRaiseReads (⟦<MemStore as Store>⟧.counts self.old)
@@ -276,8 +276,8 @@ impl Store for MemStore {
             (λ n. IsRead ((⟦<MemStore as Store>⟧.view self.old).files file) at (length buf.old) n buf.new) }
         ensures idles { Idles (⟦<MemStore as Store>⟧.view self.old) (⟦<MemStore as Store>⟧.view self.new) }
         ensures cause { OnErr result
-            (Rose (⟦<MemStore as Store>⟧.counts self.old).reads
-            (⟦<MemStore as Store>⟧.counts self.new).reads) }
+            ((⟦<MemStore as Store>⟧.counts self.new).reads
+            ≡ one_more (⟦<MemStore as Store>⟧.counts self.old).reads) }
         ensures no_fault { OnOk result
             ((⟦<MemStore as Store>⟧.counts self.new).reads ≡ (⟦<MemStore as Store>⟧.counts self.old).reads) }
         ensures counts { MayRaiseReads (⟦<MemStore as Store>⟧.counts self.old)
@@ -313,8 +313,8 @@ impl Store for MemStore {
         ensures acts { Acts file (Torn at (length bytes.now)) (⟦<MemStore as Store>⟧.view self.old)
             (⟦<MemStore as Store>⟧.view self.new) }
         ensures cause { OnErr result
-            (Rose (⟦<MemStore as Store>⟧.counts self.old).writes
-            (⟦<MemStore as Store>⟧.counts self.new).writes) }
+            ((⟦<MemStore as Store>⟧.counts self.new).writes
+            ≡ one_more (⟦<MemStore as Store>⟧.counts self.old).writes) }
         ensures no_fault { OnOk result
             ((⟦<MemStore as Store>⟧.counts self.new).writes
             ≡ (⟦<MemStore as Store>⟧.counts self.old).writes) }
@@ -366,8 +366,8 @@ impl Store for MemStore {
         ensures acts { Acts file (Shortened len) (⟦<MemStore as Store>⟧.view self.old)
             (⟦<MemStore as Store>⟧.view self.new) }
         ensures cause { OnErr result
-            (Rose (⟦<MemStore as Store>⟧.counts self.old).writes
-            (⟦<MemStore as Store>⟧.counts self.new).writes) }
+            ((⟦<MemStore as Store>⟧.counts self.new).writes
+            ≡ one_more (⟦<MemStore as Store>⟧.counts self.old).writes) }
         ensures no_fault { OnOk result
             ((⟦<MemStore as Store>⟧.counts self.new).writes
             ≡ (⟦<MemStore as Store>⟧.counts self.old).writes) }
@@ -414,8 +414,8 @@ impl Store for MemStore {
         ensures acts { Acts file Same (⟦<MemStore as Store>⟧.view self.old)
             (⟦<MemStore as Store>⟧.view self.new) }
         ensures cause { OnErr result
-            (Rose (⟦<MemStore as Store>⟧.counts self.old).writes
-            (⟦<MemStore as Store>⟧.counts self.new).writes) }
+            ((⟦<MemStore as Store>⟧.counts self.new).writes
+            ≡ one_more (⟦<MemStore as Store>⟧.counts self.old).writes) }
         ensures no_fault { OnOk result
             ((⟦<MemStore as Store>⟧.counts self.new).writes
             ≡ (⟦<MemStore as Store>⟧.counts self.old).writes) }
@@ -427,9 +427,11 @@ impl Store for MemStore {
             ≡ synced (state_in (⟦<MemStore as InMemory>⟧.shown self.old) file)) }
         ensures unchanged { OnErr result
             (⟦<MemStore as InMemory>⟧.shown self.new ≡ ⟦<MemStore as InMemory>⟧.shown self.old) }
-        ensures no_other { OnErr result
-            (IsTrue (next_fails (⟦<MemStore as InMemory>⟧.schedule self.old))
-            ⊎ Rose (⟦<MemStore as InMemory>⟧.refused self.old) (⟦<MemStore as InMemory>⟧.refused self.new)) }
+        ensures refused { OnErr result
+            (⟦<MemStore as InMemory>⟧.refused self.new
+            ≡ (if next_fails (⟦<MemStore as InMemory>⟧.schedule self.old)
+            then ⟦<MemStore as InMemory>⟧.refused self.old
+            else one_more (⟦<MemStore as InMemory>⟧.refused self.old))) }
         ensures no_refusal { OnOk result
             (⟦<MemStore as InMemory>⟧.refused self.new ≡ ⟦<MemStore as InMemory>⟧.refused self.old) }
         ensures others { OnOk result
@@ -459,8 +461,8 @@ impl Store for MemStore {
         ensures acts { Acts file Gone (⟦<MemStore as Store>⟧.view self.old)
             (⟦<MemStore as Store>⟧.view self.new) }
         ensures cause { OnErr result
-            (Rose (⟦<MemStore as Store>⟧.counts self.old).removes
-            (⟦<MemStore as Store>⟧.counts self.new).removes) }
+            ((⟦<MemStore as Store>⟧.counts self.new).removes
+            ≡ one_more (⟦<MemStore as Store>⟧.counts self.old).removes) }
         ensures no_fault { OnOk result
             ((⟦<MemStore as Store>⟧.counts self.new).removes
             ≡ (⟦<MemStore as Store>⟧.counts self.old).removes) }
@@ -472,9 +474,11 @@ impl Store for MemStore {
             ≡ removed (state_in (⟦<MemStore as InMemory>⟧.shown self.old) file)) }
         ensures unchanged { OnErr result
             (⟦<MemStore as InMemory>⟧.shown self.new ≡ ⟦<MemStore as InMemory>⟧.shown self.old) }
-        ensures no_other { OnErr result
-            (IsTrue (next_fails (⟦<MemStore as InMemory>⟧.schedule self.old))
-            ⊎ Rose (⟦<MemStore as InMemory>⟧.refused self.old) (⟦<MemStore as InMemory>⟧.refused self.new)) }
+        ensures refused { OnErr result
+            (⟦<MemStore as InMemory>⟧.refused self.new
+            ≡ (if next_fails (⟦<MemStore as InMemory>⟧.schedule self.old)
+            then ⟦<MemStore as InMemory>⟧.refused self.old
+            else one_more (⟦<MemStore as InMemory>⟧.refused self.old))) }
         ensures no_refusal { OnOk result
             (⟦<MemStore as InMemory>⟧.refused self.new ≡ ⟦<MemStore as InMemory>⟧.refused self.old) }
         ensures others { (g : ℕ) → g ≢ file
@@ -503,8 +507,8 @@ impl Store for MemStore {
         ensures next { IfOk result (NextIs (⟦<MemStore as Store>⟧.view self.old).there from) }
         ensures idles { Idles (⟦<MemStore as Store>⟧.view self.old) (⟦<MemStore as Store>⟧.view self.new) }
         ensures cause { OnErr result
-            (Rose (⟦<MemStore as Store>⟧.counts self.old).reads
-            (⟦<MemStore as Store>⟧.counts self.new).reads) }
+            ((⟦<MemStore as Store>⟧.counts self.new).reads
+            ≡ one_more (⟦<MemStore as Store>⟧.counts self.old).reads) }
         ensures no_fault { OnOk result
             ((⟦<MemStore as Store>⟧.counts self.new).reads ≡ (⟦<MemStore as Store>⟧.counts self.old).reads) }
         ensures counts { MayRaiseReads (⟦<MemStore as Store>⟧.counts self.old)

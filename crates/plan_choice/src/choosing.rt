@@ -1,7 +1,7 @@
 //! The rewriting that a run takes.
-ghost use Rattle.std.specs.Prelude.{[], IfOk};
+ghost use Rattle.std.specs.Prelude.{IfOk};
 ghost use Rattle.plan_core.specs.Literals.{HasValidLiterals};
-ghost use Rattle.plan_core.specs.PlainPlan.{plan_of, leaves};
+ghost use Rattle.plan_core.specs.PlainPlan.{PlainPlan, plan_of, leaves};
 ghost use Rattle.plan_core.specs.TypedPlan.{IsTypedOver};
 ghost use Rattle.plan_spelling.specs.Spelling.{HasPlanSpelling};
 ghost use Rattle.plan_canon.specs.Normal.{IsNormalFormOf};
@@ -11,10 +11,12 @@ ghost use Rattle.cache_index.specs.Asked.{asked};
 ghost use Rattle.catalog_core.specs.Catalogs.{table_of};
 ghost use Rattle.catalog_core.specs.Named.{lengths_of};
 ghost use Rattle.catalog_core.specs.Programs.{kinds_of_streams, AreCuts};
+ghost use Rattle.plan_choice.specs.Leaving.{leaving_out};
 ghost use Rattle.plan_choice.specs.Taken.{IsChoice};
 
-use crate::laws::{bytes_of_named_files, serving_rewritings, taken_rewritings};
-use catalog_core::{Catalog, cuts_of_tables};
+use crate::laws::bytes_of_named_files;
+use crate::leaving::results_are_left_out;
+use catalog_core::{Catalog, cuts_of_tables, kept_results_of_tables};
 use plan_canon::canon;
 use plan_core::Typed;
 use plan_spelling::typed_plan_has_spelling;
@@ -44,14 +46,35 @@ pub fn choose(alloc: Global, catalog: &Catalog, plan: Typed, cuts: &[Cut]) -> Re
     ensures spelled { IfOk result (λ choice. HasPlanSpelling (plan_of choice.rewriting.plan)) }
     ensures literals { IfOk result (λ choice. HasValidLiterals (plan_of choice.rewriting.plan)) }
 {
-    taken_rewritings();
-    serving_rewritings();
+    results_are_left_out();
+    let normal = normal_form(alloc, catalog, plan)?;
+    choose_without(alloc, catalog, &normal, cuts, &[])
+}
+
+/// What is taken of a plan, whose normal form this is, where the kept results with these ids are left out: of the
+/// normal form a rewriting over the others of which none has a smaller estimate. `Memory` where memory was
+/// asked for and refused.
+pub fn choose_without(
+    alloc: Global,
+    catalog: &Catalog,
+    normal: &Typed,
+    cuts: &[Cut],
+    left_out: &[u32],
+) -> Result<Choice, Memory>
+    requires { AreCuts (table_of catalog.now).streams (leaves normal.now.plan) cuts.now }
+    ensures chosen { IfOk result (λ choice. (plan : PlainPlan)
+        → IsNormalFormOf (kinds_of_streams (table_of catalog.now).streams) plan normal.now.plan
+        → IsChoice (leaving_out left_out.now (table_of catalog.now)) plan cuts.now choice) }
+    ensures spelled { IfOk result (λ choice. HasPlanSpelling (plan_of choice.rewriting.plan)) }
+    ensures literals { IfOk result (λ choice. HasValidLiterals (plan_of choice.rewriting.plan)) }
+{
     bytes_of_named_files();
     cuts_of_tables();
-    let normal = normal_form(alloc, catalog, plan)?;
-    typed_plan_has_spelling(&normal);
-    know_literals(&normal);
-    let rewriting = cheapest(alloc, catalog, &normal, cuts)?;
+    results_are_left_out();
+    kept_results_of_tables();
+    typed_plan_has_spelling(normal);
+    know_literals(normal);
+    let rewriting = cheapest(alloc, catalog, normal, cuts, left_out)?;
     let used = rewriting.used(alloc)?;
     let read = reads(&rewriting, catalog);
     Ok(Choice {
@@ -61,8 +84,8 @@ pub fn choose(alloc: Global, catalog: &Catalog, plan: Typed, cuts: &[Cut]) -> Re
     })
 }
 
-// The normal form of a plan over a catalogue's streams.
-fn normal_form(alloc: Global, catalog: &Catalog, plan: Typed) -> Result<Typed, Memory>
+/// The normal form of a plan over a catalogue's streams. `Memory` where memory was asked for and refused.
+pub fn normal_form(alloc: Global, catalog: &Catalog, plan: Typed) -> Result<Typed, Memory>
     requires { IsTypedOver (kinds_of_streams (table_of catalog.now).streams) plan }
     ensures { IfOk result (λ normal.
         IsNormalFormOf (kinds_of_streams (table_of catalog.now).streams) plan.plan normal.plan) }
@@ -70,19 +93,21 @@ fn normal_form(alloc: Global, catalog: &Catalog, plan: Typed) -> Result<Typed, M
     canon(alloc, plan, catalog.schemas())
 }
 
-// A rewriting of the plan over the catalogue's kept results of which none has a smaller estimate.
+// A rewriting of the plan over the catalogue's kept results, but those that are left out, of which none has a
+// smaller estimate.
 fn cheapest(
     alloc: Global,
     catalog: &Catalog,
     plan: &Typed,
     cuts: &[Cut],
+    left_out: &[u32],
 ) -> Result<Rewriting, Memory>
     requires { AreCuts (table_of catalog.now).streams (leaves plan.now.plan) cuts.now }
-    ensures { IfOk result (λ rewriting. IsLeast (asked [] (table_of catalog.now).entries)
+    ensures { IfOk result (λ rewriting. IsLeast (asked left_out.now (table_of catalog.now).entries)
         (lengths_of (table_of catalog.now).streams) plan.now.plan cuts.now (rewriting_of rewriting)) }
 {
     cuts_of_tables();
-    least(alloc, plan, cuts, &catalog.results(&[]), catalog)
+    least(alloc, plan, cuts, &catalog.results(left_out), catalog)
 }
 
 // The literals of a plan with a typing are valid, which its type says.

@@ -19,9 +19,11 @@ ghost use Rattle.catalog_core.specs.Named.{HasFile, lengths_of, bytes_named};
 ghost use Rattle.catalog_core.specs.Programs.{kinds_of_streams, AreCuts};
 ghost use Rattle.catalog_core.specs.Results.{IsOver};
 ghost use Rattle.catalog_core.specs.Table.{Table};
+ghost use Rattle.plan_choice.specs.Leaving.{leaving_out};
 ghost use Rattle.plan_choice.specs.Pieces.{IsPieceOf};
 ghost use Rattle.plan_choice.specs.Taken.{IsTaken, Serves};
 
+use crate::leaving::results_are_left_out;
 use catalog_core::{cuts_of_tables, kept_results_of_tables};
 use growth_laws::files_of_pieces;
 use plan_canon::laws::{normal_plans_are_not_deep, normal_plans_mean_the_same};
@@ -38,11 +40,17 @@ pub fn bytes_of_named_files()
     cuts_of_tables();
 }
 
-/// A rewriting that is taken of a plan serves for it, and goes on serving as other results are kept.
+/// A rewriting that is taken of a plan serves for it, and goes on serving as other results are kept. One that serves
+/// where some kept results are left out serves where they aren't.
 pub fn taken_rewritings()
     ensures serves { (t : Table) (plan normal : PlainPlan) (cuts : Cuts) (r : PlainRewriting)
         → IsTaken t plan normal cuts r → Serves t plan normal cuts r }
-{}
+    ensures more { (t : Table) (left_out : List ℕ) (plan normal : PlainPlan) (cuts : Cuts)
+        (r : PlainRewriting) → Serves (leaving_out left_out t) plan normal cuts r
+        → Serves t plan normal cuts r }
+{
+    results_are_left_out();
+}
 
 /// A rewriting that serves for a plan is well formed, of a normal plan with the plan's leaves that is typed
 /// over the streams, where the plan is, and means the same. Where the plan is within the limits of written

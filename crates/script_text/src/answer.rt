@@ -160,8 +160,10 @@ pub fn line_count(answer: &Answer, quiet: bool) -> u64
     }
 }
 
-/// The one line of an answer that may have more than 65,536 bytes, without its LF: the catalogue.
+/// The one line of an answer that may have more than 65,536 bytes, without its LF: the catalogue. None for
+/// each other answer.
 pub fn long_line(answer: &Answer) -> Option<&[u8]>
+    ensures catalog { IfSome result (λ line. answer.now ≡ Answer.Catalog line.now) }
     ensures some { IfSome result (λ line. (quiet : Bool) → answer_lines quiet answer.now ≡ line.now ∷ []) }
     ensures none { result ≡ None → HasShortLines answer.now }
 {

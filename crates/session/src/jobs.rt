@@ -196,7 +196,7 @@ impl Session {
     ) -> Result<(Session, Answer), Failed>
         requires at { at < length (jobs_of self) }
         requires planned { (program : Program) × (mades : List MadeResult) × IsWorkPlan
-            (table_in (folder_of self)) (Some program) work.used.items mades work.plan }
+            (table_in (folder_of self)) (Some program) work.used.items [] mades work.plan }
         ensures ended { IfOk result
             (λ next. IsEnded work at (jobs_of self) (jobs_of next.0) next.1) }
         ensures ok { IsTrue D.tells → (care : Care) (s : State) (program : Program)

@@ -128,7 +128,7 @@ pub(crate) fn close_work<D: Store>(
         → IsOpen (table_of catalog.now) plan work.old
         → IfErr result (IsNotClosed care s plan work.old work.new) }
     ensures recorded { IfOk result (λ closed. (mades : List MadeResult) × IsWorkPlan (table_of catalog.now)
-        (Some work.old.program) closed.used.items mades closed.plan) }
+        (Some work.old.program) closed.used.items [] mades closed.plan) }
     ensures narrow { IfOk result
         (λ closed. HaveFewValues closed.rows.items × (length closed.used.items ≤ 4096)) }
     ensures taken { IsTrue D.tells → (care : Care) (s : State) → IsLeft care (D.view store.old) s s

@@ -1,12 +1,12 @@
 //! What a piece of work records.
-ghost use Rattle.std.specs.Prelude.{◌≡◌, ◌<◌, [], map, IfOk, IfSome};
+ghost use Rattle.std.specs.Prelude.{◌≡◌, ◌<◌, [], map, IsTrue, IfOk, IfSome};
 ghost use Rattle.std.specs.List.{AllByRecursion};
 ghost use Rattle.rows_core.specs.Name.{IsName};
 ghost use Rattle.plan_core.specs.PlainPlan.{plan_of};
 ghost use Rattle.plan_spelling.specs.Spelling.{HasPlanSpelling};
 ghost use Rattle.executor.specs.declared.outcome.KeptPlace.{KeptPlace};
 ghost use Rattle.admission.specs.Admitting.{made_of, Admits};
-ghost use Rattle.entry_table.specs.Ids.{AreIdsOf};
+ghost use Rattle.entry_table.specs.Ids.{AreIdsOf, are_apart, without};
 ghost use Rattle.catalog_types.specs.declared.change.Change.TheVariants as change;
 ghost use Rattle.catalog_types.specs.declared.program.Program.{Program};
 ghost use Rattle.catalog_core.specs.Catalogs.{table_of};
@@ -36,32 +36,37 @@ pub struct WorkPlan {
     pub kept: Vec<u32>,
 }
 
-/// What work records that stores this program, if there is one, used the results with these ids, and made
-/// these others, of which those are kept that are admitted. `Memory` where memory was asked for and refused.
+/// What work records that stores this program, if there is one, used the results with these ids, drops those
+/// with these others, and made these results, of which those are kept that are admitted beside the ones that
+/// stay. `Memory` where memory was asked for and refused.
 pub fn plan_work(
     alloc: Global,
     catalog: &Catalog,
     program: Option<Program>,
     used: Vec<u32>,
+    dropped: Vec<u32>,
     made: Vec<KeptPlace>,
 ) -> Result<WorkPlan, Memory>
     requires program { FitsProgram program (table_of catalog.now) }
     requires counted { (table_of catalog.now).tick < most_ticks }
     requires used { AreIdsOf (table_of catalog.now).entries used.items }
+    requires dropped { AreIdsOf (table_of catalog.now).entries dropped.items }
+    requires apart { IsTrue (are_apart used.items dropped.items) }
     requires made { AllByRecursion (λ (kept : KeptPlace). IsFit (table_of catalog.now).streams
         (plan_of kept.plan) kept.cuts × (0 < kept.machine)) made.items }
-    ensures { IfOk result (IsWorkPlan (table_of catalog.now) program used.items (map made_of made.items)) }
+    ensures { IfOk result
+        (IsWorkPlan (table_of catalog.now) program used.items dropped.items (map made_of made.items)) }
 {
     bind_laws::counts_are_of_the_written_plan();
     admitted_results_may_be_kept();
     changes_are_short();
     know_name(&program);
     know_table(catalog);
-    let admitted = admitted_beside(alloc, catalog, made)?;
+    let admitted = admitted_beside(alloc, catalog, dropped.as_slice(), made)?;
     let count = admitted.len();
     let parts = taken_apart(alloc, admitted)?;
     let kept = ids_from(alloc, catalog.next_id(), count)?;
-    let change = change_of(alloc, program, used, parts.entries);
+    let change = change_of(program, used, dropped, parts.entries);
     let body = spell_change(alloc, &change)?;
     Ok(WorkPlan {
         change,
@@ -71,33 +76,34 @@ pub fn plan_work(
     })
 }
 
-// Those of the results that are admitted beside the catalogue's.
+// Those of the results that are admitted beside the catalogue's, but those that are dropped.
 fn admitted_beside(
     alloc: Global,
     catalog: &Catalog,
+    dropped: &[u32],
     made: Vec<KeptPlace>,
 ) -> Result<Vec<NewResult>, Memory>
     requires { AllByRecursion (λ (kept : KeptPlace). HasPlanSpelling (plan_of kept.plan)) made.items }
-    ensures { IfOk result (λ admitted. Admits (table_of catalog.now).entries (table_of catalog.now).next_file
-        [] (map made_of made.items) admitted.items) }
+    ensures { IfOk result (λ admitted. Admits (without dropped.now (table_of catalog.now).entries)
+        (table_of catalog.now).next_file [] (map made_of made.items) admitted.items) }
 {
-    admit(alloc, catalog.entries(), catalog.next_file(), made)
+    admit(alloc, catalog.entries(), dropped, catalog.next_file(), made)
 }
 
-// The change that stores this program, if there is one, and keeps these results, where these were used. It
-// drops none.
+// The change that stores this program, if there is one, drops these results, and keeps those, where these were
+// used.
 fn change_of(
-    alloc: Global,
     program: Option<Program>,
     used: Vec<u32>,
+    dropped: Vec<u32>,
     entries: Vec<NewEntry>,
 ) -> Change
-    ensures { result ≡ change.Work program used.items [] entries.items }
+    ensures { result ≡ change.Work program used.items dropped.items entries.items }
 {
     Change::Work {
         program,
         reads: Seq::new(used),
-        dropped: Seq::new(Vec::new(alloc)),
+        dropped: Seq::new(dropped),
         kept: Seq::new(entries),
     }
 }

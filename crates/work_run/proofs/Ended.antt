@@ -40,7 +40,8 @@ use Rattle.work_run.proofs.Events.{damage-shown, none-unreadable}
 use Rattle.executor.specs.Outcomes.{AreSound, Finishes, IsOutcome}
 use Rattle.executor.specs.declared.outcome.KeptPlace.{KeptPlace}
 use Rattle.executor.specs.declared.outcome.Outcome.{Outcome}
-use Rattle.admission.specs.Admitting.{made_of, entries_of}
+use Rattle.admission.specs.Admitting.{made_of, entries_of, Admits}
+use Rattle.plan_choice.proofs.LeftOut.{all-left}
 use Rattle.folder.specs.Files.{results_in}
 use Rattle.folder.specs.State.{State, IsValid, table, states_of, kinds_in, extents_in, lists_in}
 use Rattle.folder.proofs.GrownStreams.{kinds-of-typed}
@@ -94,10 +95,11 @@ module _ (s : State) (valid : IsValid s) (is_table : IsTable (table s)) (entries
     -- it ended
     pub comes : FormsHaveShape → AllByRecursion (IsFitPlace s.streams) (made_places q c r) → (outcome : Outcome) → AllByRecursion (λ (kept : KeptPlace). kept.machine ≤ 4294967295) outcome.made.items
         → IsOutcome (extents_in s.streams) r outcome → (program : Option Program) (work : Work) → work.rows ≡ outcome.rows → AreIdsOf (files_of r) work.used.items
-        → work.read ≡ capped (bytes_named (table s) (files_of r)) → IsWorkPlan (table s) program work.used.items (map made_of outcome.made.items) work.plan
+        → work.read ≡ capped (bytes_named (table s) (files_of r)) → IsWorkPlan (table s) program work.used.items [] (map made_of outcome.made.items) work.plan
         → ComesBy s program plan q c r work
     comes shaped places outcome low is program work rows used read recorded =
         let made = mades-at shaped s valid is_table (made_places q c r) outcome.made.items places low is.made in
+        let admits = subst (λ (es : List PlainEntry). Admits es s.next_file [] (map made_of outcome.made.items) recorded.admitted) (all-left s.entries) recorded.admits in
         record {
           news = entries_of recorded.admitted;
           works = record {
@@ -106,12 +108,12 @@ module _ (s : State) (valid : IsValid s) (is_table : IsTable (table s)) (entries
             used = used;
             read = read;
             news = entries_of recorded.admitted;
-            keeps = record { mades = map made_of outcome.made.items; made = made; admitted = recorded.admitted; admits = recorded.admits; news_are = refl; ids_are = recorded.kept };
+            keeps = record { mades = map made_of outcome.made.items; made = made; admitted = recorded.admitted; admits = admits; news_are = refl; ids_are = recorded.kept };
             after = refl;
           };
           change = recorded.change;
           files = subst (AreNewFiles s.streams (entries_of recorded.admitted)) (sym recorded.files)
-              (new-files s.streams s.entries s.next_file (made_places q c r) (map made_of outcome.made.items) recorded.admitted made recorded.admits);
+              (new-files s.streams s.entries s.next_file (made_places q c r) (map made_of outcome.made.items) recorded.admitted made admits);
         }
 
     -- it wasn't made

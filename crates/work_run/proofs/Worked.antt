@@ -33,7 +33,7 @@ use Rattle.entry_table.specs.Work.{kept_with}
 use Rattle.admission.specs.Admitting.{made_of}
 use Rattle.executor.specs.Outcomes.{Finishes, IsKeptFrom}
 use Rattle.executor.specs.Running.{EndsBy, EndsOver, HaveTaken}
-use Rattle.executor.specs.Runs.{of_making, of_reading, HasRunCause, IsRunFound, Runs}
+use Rattle.executor.specs.Runs.{of_making, of_reading, HasRunCause, IsRunFound, EndsEarly}
 use Rattle.executor.specs.Sources.{sources, HoldFiles}
 use Rattle.executor.specs.declared.outcome.Outcome.{Outcome}
 use Rattle.executor.specs.declared.refusal.RunRefusal.{RunRefusal}
@@ -96,14 +96,14 @@ module _ (laws : Laws) (s : State) (valid : IsValid s) (t : Table) (same : t ≡
 
   pub worked : (outcome : Outcome) → Finishes (extents_in s.streams) (results_in s) r (Ok outcome) → AllByRecursion (IsKeptFrom (made_places (plan_at r) (cuts_at r) r)) outcome.made.items
       → (program : Option Program) (work : Work) → work.rows ≡ outcome.rows → AreIdsOf (files_of r) work.used.items → work.read ≡ capped (bytes_named t (files_of r))
-      → IsWorkPlan t program work.used.items (map made_of outcome.made.items) work.plan → ComesBy s program plan normal cuts r work
+      → IsWorkPlan t program work.used.items [] (map made_of outcome.made.items) work.plan → ComesBy s program plan normal cuts r work
   worked outcome finishes kept program work rows used read planned =
       subst (λ (q : PlainPlan). ComesBy s program plan q cuts r work) same_plan
       (subst (λ (x : Cuts). ComesBy s program plan (plan_at r) x r work) same_cuts
       (comes s valid here entries plan r meaning same_leaves root.are_cuts laws.shaped (laws.places (states_of s.streams) (plan_at r) (cuts_at r) r root.fit) outcome
       (within-kept (made_places (plan_at r) (cuts_at r) r) outcome.made.items kept) (finishes.sound (are-sound s valid here entries plan r root.serves root.fit)) program work rows used
       (read ∙ ap (λ (x : Table). capped (bytes_named x (files_of r))) same)
-      (subst (λ (x : Table). IsWorkPlan x program work.used.items (map made_of outcome.made.items) work.plan) same planned)))
+      (subst (λ (x : Table). IsWorkPlan x program work.used.items [] (map made_of outcome.made.items) work.plan) same planned)))
 
   pub unmade : (care : Care) (why : MakeRefusal) → Finishes (extents_in s.streams) (results_in s) r (Err why) → IsRefusedWork care s plan cuts (of_making why)
   unmade care why finishes =
@@ -150,7 +150,7 @@ module _ (laws : FileLaws) (care : Care) (files : ℕ → List ℕ) (s : State) 
 module _ (laws : Laws) (file_laws : FileLaws) (care : Care) (files : ℕ → List ℕ) (s : State) (sound : IsSound care files s) (t : Table) (same : t ≡ table s) (is_table : IsTable t) (plan normal : PlainPlan)
     (cuts : Cuts) (r : PlainRewriting) (root_is : IsRooted t plan r) (same_plan : plan_at r ≡ normal) (same_cuts : cuts_at r ≡ cuts) where
   pub refused : (old new : Counts) (why : RunRefusal) → HasRunCause (file_at t) (files_of r) old new why → IsRunFound (sources_of t files) (pieces_of r) (files_of r) why
-      → Runs (extents_in s.streams) (results_in s) r old new (Err why) → IsRefusedWork care s plan cuts why
+      → EndsEarly (extents_in s.streams) (results_in s) r old new why → IsRefusedWork care s plan cuts why
   refused old new run.Overflow cause over runs = unmade laws s sound.valid t same is_table plan normal cuts r root_is same_plan same_cuts care make.Overflow runs.0
   refused old new run.Machine cause over runs = unmade laws s sound.valid t same is_table plan normal cuts r root_is same_plan same_cuts care make.Machine runs.0
   refused old new run.Fault cause over runs = tt

@@ -177,7 +177,7 @@ impl OpenWork {
             → IfErr result (IsRefusedWork care s plan self.old.program.cuts) }
         // On every store what is recorded fits the table, the rows have few values, and few results are used.
         ensures recorded { IfOk result (λ work. (mades : List MadeResult)
-            × IsWorkPlan (table_of catalog.now) (Some self.old.program) work.used.items mades work.plan) }
+            × IsWorkPlan (table_of catalog.now) (Some self.old.program) work.used.items [] mades work.plan) }
         ensures narrow { IfOk result
             (λ work. HaveFewValues work.rows.items × (length work.used.items ≤ 4096)) }
         // What is taken are the bytes of the files that were left.
@@ -217,7 +217,7 @@ impl OpenWork {
             → IsOpen (table_of catalog.now) plan self.now
             → IfErr result (λ why. IsRefusedWork care s plan self.now.program.cuts (of_making why)) }
         ensures recorded { IfOk result (λ work. (mades : List MadeResult)
-            × IsWorkPlan (table_of catalog.now) (Some self.now.program) work.used.items mades work.plan) }
+            × IsWorkPlan (table_of catalog.now) (Some self.now.program) work.used.items [] mades work.plan) }
         ensures narrow { IfOk result
             (λ work. HaveFewValues work.rows.items × (length work.used.items ≤ 4096)) }
     {

@@ -1,5 +1,5 @@
 //! Work over the files of a catalogue.
-ghost use Rattle.std.specs.Prelude.{◌≡◌, ◌<◌, ◌≤◌, ℕ, List, Option, length, map, IsTrue, IfOk, IfErr, OnOk};
+ghost use Rattle.std.specs.Prelude.{◌≡◌, ◌<◌, ◌≤◌, ℕ, List, Option, length, map, IsTrue, IfOk, IfErr, OnOk, []};
 ghost use Rattle.std.specs.List.{AllByRecursion};
 ghost use Rattle.outside_traits.specs.View.{View, Counts};
 ghost use Rattle.outside_traits.specs.Calls.{MayRaiseReads};
@@ -72,7 +72,7 @@ pub fn run_work<D: Store>(
         → IsChosen (table_of catalog.now) plan cuts choice → IfErr result (IsRefusedWork care s plan cuts) }
     // On every store what is recorded fits the table, the rows have few values, and few results are used.
     ensures recorded { IfOk result (λ work. (mades : List MadeResult)
-        × IsWorkPlan (table_of catalog.now) program work.used.items mades work.plan) }
+        × IsWorkPlan (table_of catalog.now) program work.used.items [] mades work.plan) }
     ensures narrow { IfOk result
         (λ work. HaveFewValues work.rows.items × (length work.used.items ≤ 4096)) }
     ensures taken { IsTrue D.tells → (care : Care) (s : State) → IsLeft care (D.view store.old) s s
@@ -104,7 +104,7 @@ pub fn run_work<D: Store>(
     } = choice;
     let outcome = match run(alloc, rewriting, store, catalog) {
         Ok(outcome) => outcome,
-        Err(refusal) => return Err(refusal),
+        Err(ended) => return Err(ended.why),
     };
     match planned(alloc, catalog, program, used, read, outcome) {
         Ok(work) => Ok(work),
@@ -129,12 +129,12 @@ pub(crate) fn planned(
     ensures rows { IfOk result (λ work. work.rows ≡ outcome.rows) }
     ensures used { IfOk result (λ work. work.used ≡ used) }
     ensures read { IfOk result (λ work. work.read ≡ read) }
-    ensures plan { IfOk result (λ work. IsWorkPlan (table_of catalog.now) program used.items
+    ensures plan { IfOk result (λ work. IsWorkPlan (table_of catalog.now) program used.items []
         (map made_of outcome.made.items) work.plan) }
 {
     let Outcome { rows, made } = outcome;
     let reads = copied(alloc, &used)?;
-    let plan = plan_work(alloc, catalog, program, reads, made)?;
+    let plan = plan_work(alloc, catalog, program, reads, Vec::new(alloc), made)?;
     Ok(Work {
         rows,
         used,

@@ -4,6 +4,7 @@ use Rattle.std.specs.List.{AllByRecursion}
 use Rattle.std.specs.Vec.Iter.{into_iter_items, into_iter_len}
 use Rattle.plan_core.specs.PlainPlan.{plan_of}
 use Rattle.plan_spelling.specs.Spelling.{HasPlanSpelling}
+use Rattle.entry_table.specs.Ids.{without}
 use Rattle.entry_table.specs.Results.{most_entries}
 use Rattle.executor.specs.declared.outcome.KeptPlace.{KeptPlace}
 use Rattle.admission.specs.declared.new_result.NewResult.{NewResult}
@@ -15,6 +16,6 @@ invariant-loop-place l = record {
   left : into_iter_len l.place-iterator ≡ length (into_iter_items l.place-iterator);
   spelled : AllByRecursion (λ (place : KeptPlace). HasPlanSpelling (plan_of place.plan)) (into_iter_items l.place-iterator);
   few : length l.admitted.items ≤ most_entries;
-  behind : (final : List NewResult) → Admits l.fn.entries l.fn.file l.admitted.items (map made_of (into_iter_items l.place-iterator)) final
-      → Admits l.fn.entries l.fn.file [] (map made_of l.fn.made.items) final;
+  behind : (final : List NewResult) → Admits (without l.fn.dropped l.fn.entries) l.fn.file l.admitted.items (map made_of (into_iter_items l.place-iterator)) final
+      → Admits (without l.fn.dropped l.fn.entries) l.fn.file [] (map made_of l.fn.made.items) final;
 }

@@ -7,7 +7,7 @@ use Rattle.executor.specs.Sources.{sources}
 use Rattle.executor.specs.declared.part.Part.{Part}
 use Rattle.executor.proofs.NextParts.{some_first}
 use Rattle.executor.proofs.RestSteps.{idles_yet, some_left, none_left, rises_on, most_of_all, most_at_end, reads_more, none_yet, counted_yet, counted_on, rest_there, one_shorter}
-use Rattle.executor.proofs.RestEnds.{refused_most, ends_by, ends_over, stops_at}
+use Rattle.executor.proofs.RestEnds.{refused_most, ends_by, found_first, ends_over, stops_at}
 use Rattle.executor.proofs.RestShapes.{has_next}
 use Rattle.executor.proofs.rest.read_rest.Goals as goal
 
@@ -57,7 +57,16 @@ returns-in_err-read_next-clause-stops g c =
     let from = sources g.D.Store.tells (g.D.Store.view c.args.store.now).files (g.P.Places.files c.args.places.now) (g.P.Places.machines c.args.places.now) (g.P.Places.stream_kinds c.args.places.now) in
     rw same
     (stops_at from c.args.job.now.parts.items c.loop-alloc.job.parts.items c.read_next.new.job.parts.items (g.D.Store.counts c.args.store.now) (g.D.Store.counts c.loop-alloc.store)
-    (g.D.Store.counts c.read_next.new.store) c.in_err-read_next.field-0.0 c.in_err-read_next.ensures.refused at.read some.0 some.1 some.2 (c.in_err-read_next.ensures.cause some.0 some.1 some.2))
+    (g.D.Store.counts c.read_next.new.store) c.in_err-read_next.field-0.0 c.in_err-read_next.ensures.refused at.read some.0 some.1 some.2 (c.in_err-read_next.ensures.cause some.0 some.1 some.2)
+    (λ (tells : IsTrue g.D.Store.tells).
+    let parts = c.requires.parts in
+    let next = has_next (g.P.Places.stream_kinds c.args.places.now) parts.0 c.loop-alloc.job.parts.items some.0 some.1 (at.read.parts parts.0 parts.1) some.2 in
+    let shape = next_shape (g.P.Places.stream_kinds c.args.places.now) next.0 in (
+      shape,
+      found_first (g.P.Places.files c.args.places.now) (left_in c.args.job.now.parts.items) at.read.names some.0 some.1 (at.read.left ∙ ap (λ (l : List FileName). at.read.names ++ l) some.2)
+          g.D.Store.tells (g.D.Store.view c.args.store.now).files (g.D.Store.view c.loop-alloc.store).files (g.P.Places.machines c.args.places.now) (g.P.Places.stream_kinds c.args.places.now) at.idles.same parts.0
+          shape (g.D.Store.counts c.loop-alloc.store) (g.D.Store.counts c.read_next.new.store) c.in_err-read_next.field-0.0 (c.in_err-read_next.ensures.found next.0 some.0 some.1 next.1 some.2 tells),
+    )))
 
 pub returns-in_err-read_next-clause-counted : goal.returns-in_err-read_next-clause-counted
 returns-in_err-read_next-clause-counted g c = λ (names : List FileName) split.

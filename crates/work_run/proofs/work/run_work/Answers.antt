@@ -1,4 +1,4 @@
-use Rattle.std.proofs.Common.{sym, ◌∙◌, subst, ◌≤◌, Bool, length, map}
+use Rattle.std.proofs.Common.{sym, ◌∙◌, subst, ◌≤◌, Bool, length, map, []}
 use Rattle.outside_traits.proofs.RunLemmas.{idles_narrow}
 use Rattle.rewrite_core.specs.Files.{AreIdsOf, files_of}
 use Rattle.rewrite_core.specs.PlainRewriting.{rewriting_of}
@@ -70,7 +70,7 @@ pub returns-in-Ok-planned-clause-recorded : goal.returns-in-Ok-planned-clause-re
 returns-in-Ok-planned-clause-recorded g c =
     let is_planned = c.in-Ok-planned.ensures in (
       map made_of c.in-Ok.outcome.made.items,
-      subst (λ used. IsWorkPlan (table_of c.args.catalog.now) c.args.program used.items (map made_of c.in-Ok.outcome.made.items) c.in-Ok-planned.work.plan) (sym is_planned.used) is_planned.plan,
+      subst (λ used. IsWorkPlan (table_of c.args.catalog.now) c.args.program used.items [] (map made_of c.in-Ok.outcome.made.items) c.in-Ok-planned.work.plan) (sym is_planned.used) is_planned.plan,
     )
 
 pub returns-in-Ok-planned-clause-narrow : goal.returns-in-Ok-planned-clause-narrow
@@ -118,7 +118,7 @@ returns-in-Ok-planned-clause-ok g c = λ told care s plan cuts left means chosen
       by = worked laws s left.read.valid t means c.know_table.ensures plan chosen.choice_is.normal cuts r root (chosen_plan serve t plan cuts c.args.choice chosen) (chosen_cuts serve t plan cuts c.args.choice chosen)
           c.in-Ok.outcome runs.0 c.in-Ok.ensures.places c.args.program c.in-Ok-planned.work is_planned.rows (subst (λ used. AreIdsOf (files_of r) used.items) (sym is_planned.used) chosen.choice_is.used)
           (is_planned.read ∙ chosen.choice_is.read)
-          (subst (λ used. IsWorkPlan t c.args.program used.items (map made_of c.in-Ok.outcome.made.items) c.in-Ok-planned.work.plan) (sym is_planned.used) is_planned.plan);
+          (subst (λ used. IsWorkPlan t c.args.program used.items [] (map made_of c.in-Ok.outcome.made.items) c.in-Ok-planned.work.plan) (sym is_planned.used) is_planned.plan);
     }
 
 pub returns-in-Err-clause-err : goal.returns-in-Err-clause-err
@@ -145,8 +145,8 @@ returns-in-Err-clause-err g c = λ told care s plan cuts left means chosen.
     let root = chosen_root serve t plan cuts c.args.choice chosen in
     let files = (g.D.Store.view c.args.store.now).files in
     refused laws file_laws care files s left.read t means c.know_table.ensures plan chosen.choice_is.normal cuts r root (chosen_plan serve t plan cuts c.args.choice chosen)
-    (chosen_cuts serve t plan cuts c.args.choice chosen) (g.D.Store.counts c.args.store.now) (g.D.Store.counts c.run.new.store) c.in-Err.refusal c.in-Err.ensures.cause
-    (subst (λ (b : Bool). IsRunFound (sources b files (file_at t) (machine_at t) (kinds_of_streams t.streams)) (pieces_of r) (files_of r) c.in-Err.refusal) told (c.in-Err.ensures.found told))
+    (chosen_cuts serve t plan cuts c.args.choice chosen) (g.D.Store.counts c.args.store.now) (g.D.Store.counts c.run.new.store) c.in-Err.ended.why c.in-Err.ensures.cause
+    (subst (λ (b : Bool). IsRunFound (sources b files (file_at t) (machine_at t) (kinds_of_streams t.streams)) (pieces_of r) (files_of r) c.in-Err.ended.why) told (c.in-Err.ensures.found told))
     (c.in-Err.ensures.outcome _ _ (hold file_laws care files s left.read t means c.know_table.ensures plan r root g.D.Store.tells told))
 
 pub returns-in-Ok-planned-clause-taken : goal.returns-in-Ok-planned-clause-taken

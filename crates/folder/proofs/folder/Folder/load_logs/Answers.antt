@@ -1,11 +1,11 @@
 use Rattle.std.proofs.Common.{◌<◌, length, sym, subst, inl, inr, arith}
 use Rattle.std.specs.Prelude.{IsTrue, ◌↔◌}
+use Rattle.std.proofs.lemmas.Result.{IfOk-weaker}
 use Rattle.outside_traits.proofs.RunLemmas.{spans_on}
 use Rattle.journal_store.specs.Readings.{IsJournalFile}
 use Rattle.folder.specs.InUse.{most_bodies}
 use Rattle.folder.specs.Unnamed.{HasRoot}
 use Rattle.folder.proofs.Crash.{since_then_first}
-use Rattle.folder.proofs.LoadLemmas.{ok_map}
 use Rattle.folder.proofs.folder.Folder.load_logs.Goals as goal
 
 -- ---- a log that was replaced
@@ -21,8 +21,8 @@ pub returns-then-bodies-gt-MOST_BODIES-clause-generation : goal.returns-then-bod
 returns-then-bodies-gt-MOST_BODIES-clause-generation g c = λ told h bodies have.
     let of_logs = c.in-Ok.ensures.bodies told h bodies have in
     let long : most_bodies < length bodies = let more = c.if-bodies-gt-MOST_BODIES.true in let many = of_logs.2 in omega (arith, more, many) in
-    ok_map c.replace_log.result (c.replace_log.ensures.replaced told (c.in-Ok.ensures.stands told) h bodies of_logs.1 long)
-    (λ folder is. inr is)
+    IfOk-weaker c.replace_log.result _ _ (λ folder is. inr is)
+    (c.replace_log.ensures.replaced told (c.in-Ok.ensures.stands told) h bodies of_logs.1 long)
 
 pub returns-then-bodies-gt-MOST_BODIES-clause-finished : goal.returns-then-bodies-gt-MOST_BODIES-clause-finished
 returns-then-bodies-gt-MOST_BODIES-clause-finished g c = λ told as_it_is.
@@ -40,8 +40,9 @@ returns-then-bodies-gt-MOST_BODIES-clause-most_taken g c = λ told most at_most.
 
 pub returns-then-bodies-gt-MOST_BODIES-clause-had_root : goal.returns-then-bodies-gt-MOST_BODIES-clause-had_root
 returns-then-bodies-gt-MOST_BODIES-clause-had_root g c = λ told.
-    ok_map c.replace_log.result c.replace_log.ensures.had_root
+    IfOk-weaker c.replace_log.result _ _
     (λ folder same. subst (λ b. IsTrue b ↔ HasRoot (g.D.Store.view c.args.store.now).files) (sym same) (c.in-Ok.ensures.had_root told))
+    c.replace_log.ensures.had_root
 
 pub returns-then-bodies-gt-MOST_BODIES-clause-alone : goal.returns-then-bodies-gt-MOST_BODIES-clause-alone
 returns-then-bodies-gt-MOST_BODIES-clause-alone g c = λ told.

@@ -45,7 +45,7 @@ prepare-requires-clause-no_checkpoint g c = let recorded = c.in-Ok.ensures.recor
 pub record_work-requires-clause-planned : goal.record_work-requires-clause-planned
 record_work-requires-clause-planned g c =
     let recorded = c.in-Ok.ensures.recorded in
-    (c.args.program, recorded.0, subst (λ (t : Table). IsWorkPlan t c.args.program c.in-Ok.work.used.items recorded.0 c.in-Ok.work.plan) (ap table_of c.catalog.ensures ∙ sym c.prepare.ensures.table) recorded.1)
+    (c.args.program, recorded.0, subst (λ (t : Table). IsWorkPlan t c.args.program c.in-Ok.work.used.items [] recorded.0 c.in-Ok.work.plan) (ap table_of c.catalog.ensures ∙ sym c.prepare.ensures.table) recorded.1)
 
 pub returns-in-Ok-prepare-clause-ok : goal.returns-in-Ok-prepare-clause-ok
 returns-in-Ok-prepare-clause-ok g c = λ told care s plan cuts stands chosen.

@@ -1,11 +1,12 @@
 use Rattle.std.proofs.Common.{◌∙◌, inl, ◌<◌, ◌≤◌, ap, sym, subst, length, arith}
+use Rattle.std.proofs.lemmas.Result.{IfOk-weaker}
 use Rattle.outside_traits.proofs.RunLemmas.{narrows_on}
 use Rattle.gated_log.specs.Logs.{Reads, contents}
 use Rattle.std.specs.Prelude.{IsTrue, IfOk, ◌↔◌, ℕ, min, ◌^◌, ◌-◌}
 use Rattle.journal_store.specs.Journals.{had_root_of, generation_of}
 use Rattle.journal_store.specs.Readings.{generation_file, generations, IsUnfinished}
 use Rattle.journal_store.proofs.OneReading.{unfinished_names, unfinished_goes_on, have_or_stop, stop_once}
-use Rattle.journal_store.proofs.LoadingLemmas.{loading_making, loading_on, have_before, stops_before, empty_end, on_ok, ok_weaker}
+use Rattle.journal_store.proofs.LoadingLemmas.{loading_making, loading_on, have_before, stops_before, empty_end, on_ok}
 use Rattle.journal_store.proofs.journal.Journal.load.Goals as goal
 
 pub returns-in_err-root-clause-crash : goal.returns-in_err-root-clause-crash
@@ -64,9 +65,10 @@ returns-clause-had_root g c = λ told.
 pub returns-clause-taken : goal.returns-clause-taken
 returns-clause-taken g c = λ told.
     let same = c.root_is_short.ensures.narrows.same in
-    ok_weaker c.load_long.result _ _ (c.load_long.ensures.taken told) (λ r taken made.
+    IfOk-weaker c.load_long.result _ _ (λ r taken made.
     let of_log = taken (record {
       root = subst (λ x. Reads (generations (generation_of r.0)) x) (sym (same 0)) made.root;
       log = subst (λ x. Reads (contents r.1.items) x) (sym (same (generation_file (generation_of r.0)))) made.log;
     }) in
     of_log ∙ ap (λ (n : ℕ). min n (2 ^ 64 - 1)) (omega (arith, c.root_is_short.ensures.taken, ap length (same 0), ap length (same (generation_file (generation_of r.0))))))
+    (c.load_long.ensures.taken told)

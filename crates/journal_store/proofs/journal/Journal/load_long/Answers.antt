@@ -1,11 +1,12 @@
 use Rattle.std.proofs.Common.{◌∙◌, inr, ◌+◌, ap, sym, subst, refl, ℕ, List, length}
+use Rattle.std.proofs.lemmas.Result.{IfOk-weaker}
 use Rattle.outside_traits.proofs.RunLemmas.{narrows_on}
 use Rattle.gated_log.specs.Logs.{contents, front, Reads, StopsAt}
 use Rattle.gated_log.specs.Stands.{Stands}
 use Rattle.gated_log.proofs.Crash.{length-front_empty}
 use Rattle.journal_store.proofs.OneReading.{unfinished_names}
 use Rattle.journal_store.proofs.Numbers.{root_end}
-use Rattle.journal_store.proofs.LoadingLemmas.{none_inside, ok_weaker, loading_narrow, loading_making, empty_end, named_keeps}
+use Rattle.journal_store.proofs.LoadingLemmas.{none_inside, loading_narrow, loading_making, empty_end, named_keeps}
 use Rattle.journal_store.proofs.journal.Journal.load_long.Goals as goal
 
 pub make_behind-requires-clause-room : goal.make_behind-requires-clause-room
@@ -85,5 +86,6 @@ pub returns-clause-had_root : goal.returns-clause-had_root
 returns-clause-had_root g c = λ told long.
     let names = sym (ap contents c.deref.ensures.value) ∙ c.in_ok-generation.ensures.names in
     let root = subst (λ l. Reads l ((g.D.Store.view c.args.store.now).files 0)) names (c.in-Ok.ensures.bodies told) in
-    ok_weaker c.load_generation.result _ _ c.load_generation.ensures.had_root
+    IfOk-weaker c.load_generation.result _ _
     (λ r had. (λ is unfinished. unfinished_names c.in_ok-generation.generation ((g.D.Store.view c.args.store.now).files 0) root unfinished, λ finished. had))
+    c.load_generation.ensures.had_root

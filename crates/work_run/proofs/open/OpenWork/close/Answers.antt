@@ -190,7 +190,7 @@ pub returns-clause-recorded : goal.returns-clause-recorded
 returns-clause-recorded g c =
     let made = c.in_ok-ended.ensures.recorded in
     let work = c.in_ok-ended.field-0 in
-    (made.0, subst (λ (program : Program). IsWorkPlan (table_of c.args.catalog.now) (Some program) work.used.items made.0 work.plan) c.loop-self.invariant.on.same.program made.1)
+    (made.0, subst (λ (program : Program). IsWorkPlan (table_of c.args.catalog.now) (Some program) work.used.items [] made.0 work.plan) c.loop-self.invariant.on.same.program made.1)
 
 pub returns-clause-taken : goal.returns-clause-taken
 returns-clause-taken g c = λ told care s left means has.

@@ -1,4 +1,4 @@
-use Rattle.std.proofs.Common.{sym, ◌∙◌, subst, ◌≤◌, List, ℕ, Some, length, map}
+use Rattle.std.proofs.Common.{sym, ◌∙◌, subst, ◌≤◌, List, ℕ, Some, length, map, []}
 use Rattle.plan_core.specs.PlainPlan.{plan_of}
 use Rattle.rewrite_core.specs.Files.{AreIdsOf, files_of}
 use Rattle.growth_laws.specs.MadePlaces.{made_places}
@@ -102,8 +102,8 @@ returns-in-Ok-planned-clause-ok c = λ s plan valid means has is.
       read = subst (λ (x : Table). HaveRead (kinds_of_streams x.streams) (extents_in s.streams) (results_in s) (pieces_of r) work.job.parts.items) (sym means) has;
     })) c.in-Ok.ensures.places (Some work.program) c.in-Ok-planned.work is_planned.rows
     (subst (λ used. AreIdsOf (files_of r) used.items) (sym is_planned.used) (subst (AreIdsOf (files_of r)) (sym copy) is.used)) (is_planned.read ∙ is.read)
-    (subst (λ used. IsWorkPlan t (Some work.program) used.items (map made_of c.in-Ok.outcome.made.items) c.in-Ok-planned.work.plan) (sym is_planned.used)
-    (subst (λ (p : Program). IsWorkPlan t (Some p) c.in-Ok-copied.used.items (map made_of c.in-Ok.outcome.made.items) c.in-Ok-planned.work.plan) c.in-Ok-try_copy.ensures is_planned.plan))
+    (subst (λ used. IsWorkPlan t (Some work.program) used.items [] (map made_of c.in-Ok.outcome.made.items) c.in-Ok-planned.work.plan) (sym is_planned.used)
+    (subst (λ (p : Program). IsWorkPlan t (Some p) c.in-Ok-copied.used.items [] (map made_of c.in-Ok.outcome.made.items) c.in-Ok-planned.work.plan) c.in-Ok-try_copy.ensures is_planned.plan))
 
 pub returns-in-Ok-planned-clause-narrow : goal.returns-in-Ok-planned-clause-narrow
 returns-in-Ok-planned-clause-narrow c =

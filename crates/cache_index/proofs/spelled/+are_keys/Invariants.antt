@@ -1,0 +1,6 @@
+-- Each step is on a shorter list.
+use Rattle.std.proofs.Common.{length}
+use Rattle.cache_index.proofs.spelled.+are_keys.Given as goal
+
+abbrev pub decreases-are_keys : goal.decreases-are_keys
+decreases-are_keys l = length l.keys.now

@@ -1,0 +1,6 @@
+-- Each step is on a shorter list.
+use Rattle.std.proofs.Common.{length}
+use Rattle.cache_index.proofs.spelled.+are_numbers.Given as goal
+
+abbrev pub decreases-are_numbers : goal.decreases-are_numbers
+decreases-are_numbers l = length l.numbers.now
