@@ -1,5 +1,6 @@
 -- The ids that an index has under digests.
 use Rattle.std.specs.Prelude.{◌≡◌, ℕ, List, IsTrue}
+use Rattle.std.specs.Coded.{Coded-set, coded_list, coded_ℕ}
 use Rattle.std.specs.List.{AllByRecursion, filter}
 use Rattle.rows_core.specs.declared.file_ref.Digest.{Digest}
 use Rattle.catalog_types.specs.PlainEntry.{PlainEntry}
@@ -39,3 +40,9 @@ pub record IsSearchable (entries : List PlainEntry) (index : CacheIndex) : Type 
   pub indexed : IsIndexOf entries index
   pub ascend : IsTrue (ascend_above 0 (ids_of entries))
   pub keyed : AllByRecursion (λ e. e.program ≡ program_key e.plan) entries
+
+pub IsIndexOf-prop : (entries : List PlainEntry) (index : CacheIndex) → IsProp (IsIndexOf entries index)
+IsIndexOf-prop entries index x y = λ i. record {
+  programs = λ program. Coded-set (coded_list coded_ℕ) _ _ (x.programs program) (y.programs program) i;
+  keys = λ key. Coded-set (coded_list coded_ℕ) _ _ (x.keys key) (y.keys key) i;
+}

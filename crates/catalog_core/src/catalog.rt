@@ -18,7 +18,7 @@ use crate::schemas::with_stream;
 use crate::snapshot::copy_streams;
 use crate::stored::{StoredPlan, stored_plan};
 use crate::stream::CatalogStream;
-use cache_index::View;
+use cache_index::IndexedView;
 use catalog_types::{
     Change, Entry, Extent, NewEntry, Program, Snapshot, copy_entries, copy_programs,
 };
@@ -245,12 +245,12 @@ impl Catalog {
         self.kept.find(id)
     }
 
-    /// The kept results but those of these ids, for look-ups.
-    pub fn results<'a>(&'a self, left_out: &'a [u32]) -> View<'a>
+    /// The kept results but those of these ids, for look-ups, which ask only those with the plan's program key.
+    pub fn results<'a>(&'a self, left_out: &'a [u32]) -> IndexedView<'a>
         ensures entries { map entry result ≡ asked left_out.now (table_of self.now).entries }
         ensures sound { AreSound (asked left_out.now (table_of self.now).entries) }
     {
-        View::new(self.entries(), left_out)
+        self.kept.results(left_out)
     }
 
     /// The kinds of the columns of each stream. They are kept as streams come, and not made anew.

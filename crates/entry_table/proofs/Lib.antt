@@ -5,3 +5,4 @@ pub mod Files
 pub mod Past
 pub mod KeyedEntries
 pub mod Restored
+pub mod IndexedEntries

@@ -1,9 +1,10 @@
 //! Lists of ids.
-ghost use Rattle.std.specs.Prelude.{◌≡◌, ◌↔◌, ◌≤◌, length, position, IsTrue, IfSome, ◌==◌, ◌<◌};
+ghost use Rattle.std.specs.Prelude.{◌≡◌, ◌↔◌, length, IsTrue};
 ghost use Rattle.std.specs.List.{list_all};
 ghost use Rattle.entry_table.specs.Ids.{ids_of, ascend_above, is_among, is_there, are_apart, AreIdsOf};
 ghost use Rattle.entry_table.specs.Ids.{without};
 
+use cache_index::place_of;
 use catalog_types::Entry;
 
 /// Whether the ids ascend strictly from 1 on, and each is the id of an entry.
@@ -49,15 +50,6 @@ pub(crate) fn count_without(entries: &[Entry], ids: &[u32]) -> usize
         }
     }
     count
-}
-
-/// The place of the entry with this id, which is found by a binary search.
-pub(crate) fn place_of(entries: &[Entry], id: u32) -> Option<usize>
-    requires { IsTrue (ascend_above 0 (ids_of entries.now)) }
-    ensures place { result ≡ position (λ e. e.id == id) entries.now }
-    ensures bound { IfSome result (λ place. place < length entries.now) }
-{
-    entries.binary_search_by_key(&id, |entry| entry.id).ok()
 }
 
 // Whether they ascend strictly from 1 on.

@@ -2,14 +2,16 @@
 ghost use Rattle.std.specs.Prelude.{◌≡◌, ◌↔◌, ◌+◌, ◌≤◌, length, IsTrue, IfOk, OnOk};
 ghost use Rattle.std.specs.List.{AllByRecursion};
 ghost use Rattle.plan_spelling.specs.Spelling.{HasPlanSpelling};
+ghost use Rattle.cache_index.specs.Index.{IsIndexOf, IsIndexOf-prop};
 ghost use Rattle.entry_table.specs.AreKept.{AreKept, AreKept-prop};
 ghost use Rattle.entry_table.specs.Work.{kept_with};
 
-use crate::ids::{are_apart, are_ids_of, place_of};
+use crate::ids::{are_apart, are_ids_of};
 use crate::keys::{Chains, Keys};
 use crate::restoring::{are_kept, put_keys};
 use crate::results::may_be_kept;
 use crate::uses::{add_entries, add_uses, drop_entries};
+use cache_index::{CacheIndex, IndexedView, entry_of};
 use catalog_types::{Entry, NewEntry};
 use rows_core::{Memory, Seq};
 use std::alloc::Global;
@@ -24,14 +26,18 @@ pub struct EntryTable {
     entries: Vec<Entry>,
     /// The keys of the results that are to be kept next.
     spare_keys: Vec<Keys>,
+    /// Of the entries.
+    index: CacheIndex,
     alloc: Global,
     ghost sound: { AreKept (kept_with next_id entries.items) } by { AreKept-prop (kept_with next_id
         entries.items) },
+    ghost indexed: { IsIndexOf entries.items index } by { IsIndexOf-prop entries.items index },
 }
 
 impl EntryTable {
     ghost use Rattle.std.specs.Prelude.{option_copied, ◌==◌, None, map, IfSome};
-    ghost use Rattle.std.specs.List.{find};
+    ghost use Rattle.std.specs.List.{filter, find};
+    ghost use Rattle.cache_index.specs.Asked.{is_asked};
     ghost use Rattle.entry_table.specs.Keyed.{Digests, IsOfItsPlan, keys_of, with_keys};
     ghost use Rattle.entry_table.specs.Results.{AreNew, IsShort};
     ghost use Rattle.entry_table.specs.Work.{FitsWork, FitsCollection, after_work, after_collection};
@@ -46,6 +52,7 @@ impl EntryTable {
             next_id: 1,
             entries: Vec::new(alloc),
             spare_keys: Vec::new(alloc),
+            index: CacheIndex::new(alloc),
             alloc,
         }
     }
@@ -72,10 +79,12 @@ impl EntryTable {
             return Ok(None);
         }
         put_keys(alloc, chains, &mut entries)?;
+        let index = CacheIndex::of(alloc, entries.as_slice())?;
         Ok(Some(EntryTable {
             next_id,
             entries,
             spare_keys: Vec::new(alloc),
+            index,
             alloc,
         }))
     }
@@ -106,8 +115,16 @@ impl EntryTable {
     pub fn find(&self, id: u32) -> Option<&Entry>
         ensures { option_copied result ≡ find (λ e. e.id == id) (kept_of self.now).entries }
     {
-        let place = place_of(self.entries.as_slice(), id)?;
-        Some(&self.entries[place])
+        entry_of(self.entries.as_slice(), id)
+    }
+
+    /// The entries but those whose ids are in `left_out`, for look-ups by plan and cut, which ask only the
+    /// entries with the plan's program key. It takes no memory.
+    pub fn results<'a>(&'a self, left_out: &'a [u32]) -> IndexedView<'a>
+        requires { AllByRecursion IsOfItsPlan (kept_of self.now).entries }
+        ensures { result ≡ filter (is_asked left_out.now) (kept_of self.now).entries }
+    {
+        self.index.over(self.entries.as_slice(), left_out)
     }
 
     /// Whether a piece of work fits: it reads entries with these ids, drops others and keeps these results,
@@ -145,6 +162,7 @@ impl EntryTable {
     {
         let keys = Keys::of_each(self.alloc, chains, kept)?;
         self.entries.reserve(kept.len())?;
+        self.index.reserve(kept.len())?;
         self.spare_keys = keys;
         Ok(())
     }
@@ -162,8 +180,11 @@ impl EntryTable {
         let count = kept.len() as u64;
         let keys = mem::replace(&mut self.spare_keys, Vec::new(self.alloc));
         drop_entries(&mut self.entries, dropped);
+        self.index.remove_all(dropped);
         add_uses(&mut self.entries, tick, reads);
+        let old = self.entries.len();
         add_entries(&mut self.entries, tick, self.next_id, &keys, kept);
+        self.index.insert_all_reserved(&self.entries[old..]);
         self.next_id += count;
     }
 
@@ -179,5 +200,6 @@ impl EntryTable {
         ensures { kept_of self.new ≡ after_collection ids.now (kept_of self.old) }
     {
         drop_entries(&mut self.entries, ids);
+        self.index.remove_all(ids);
     }
 }

@@ -4,11 +4,24 @@ use Rattle.std.proofs.lemmas.Result.{IfOk-weaker}
 use Rattle.outside_traits.proofs.RunLemmas.{spans_on}
 use Rattle.journal_store.specs.Readings.{IsJournalFile}
 use Rattle.folder.specs.InUse.{most_bodies}
+use Rattle.folder.specs.Replay.{ReadsAs}
 use Rattle.folder.specs.Unnamed.{HasRoot}
 use Rattle.folder.proofs.Crash.{since_then_first}
 use Rattle.folder.proofs.folder.Folder.load_logs.Goals as goal
 
 -- ---- a log that was replaced
+
+pub returns-then-bodies-gt-MOST_BODIES-clause-reading : goal.returns-then-bodies-gt-MOST_BODIES-clause-reading
+returns-then-bodies-gt-MOST_BODIES-clause-reading g c = λ told.
+    IfOk-weaker c.replace_log.result _ _
+    (λ folder same. subst (ReadsAs (g.D.Store.view c.args.store.now).files) (sym same) (c.in-Ok.ensures.reading told))
+    c.replace_log.ensures.table
+
+pub returns-then-bodies-gt-MOST_BODIES-clause-stands : goal.returns-then-bodies-gt-MOST_BODIES-clause-stands
+returns-then-bodies-gt-MOST_BODIES-clause-stands g c = λ told. c.replace_log.ensures.stands told (c.in-Ok.ensures.stands told)
+
+pub returns-then-bodies-gt-MOST_BODIES-clause-unchanged : goal.returns-then-bodies-gt-MOST_BODIES-clause-unchanged
+returns-then-bodies-gt-MOST_BODIES-clause-unchanged g c = λ told file at is. absurd (c.replace_log.ensures.is_store file at is)
 
 pub returns-then-bodies-gt-MOST_BODIES-clause-crash : goal.returns-then-bodies-gt-MOST_BODIES-clause-crash
 returns-then-bodies-gt-MOST_BODIES-clause-crash g c = λ told care a b left.
