@@ -1,5 +1,5 @@
 //! The rewriting that a run takes.
-ghost use Rattle.std.specs.Prelude.{IfOk};
+ghost use Rattle.std.specs.Prelude.{◌≡◌, IfOk};
 ghost use Rattle.plan_core.specs.Literals.{HasValidLiterals};
 ghost use Rattle.plan_core.specs.PlainPlan.{PlainPlan, plan_of, leaves};
 ghost use Rattle.plan_core.specs.TypedPlan.{IsTypedOver};
@@ -65,6 +65,7 @@ pub fn choose_without(
     ensures chosen { IfOk result (λ choice. (plan : PlainPlan)
         → IsNormalFormOf (kinds_of_streams (table_of catalog.now).streams) plan normal.now.plan
         → IsChoice (leaving_out left_out.now (table_of catalog.now)) plan cuts.now choice) }
+    ensures form { IfOk result (λ choice. plan_of choice.rewriting.plan ≡ normal.now.plan) }
     ensures spelled { IfOk result (λ choice. HasPlanSpelling (plan_of choice.rewriting.plan)) }
     ensures literals { IfOk result (λ choice. HasValidLiterals (plan_of choice.rewriting.plan)) }
 {

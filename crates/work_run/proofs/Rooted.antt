@@ -35,13 +35,13 @@ pub record IsRooted (t : Table) (plan : PlainPlan) (r : PlainRewriting) : Type 0
   pub fit : IsFit t.streams (plan_at r) (cuts_at r)
 
 module _ (t : Table) (plan normal : PlainPlan) (cuts : Cuts) (r : PlainRewriting) (serves : Serves t plan normal cuts r) where
-  same_plan : plan_at r ≡ normal
+  pub same_plan : plan_at r ≡ normal
   same_plan = plan_is _ _ _ r serves.over
 
-  same_cuts : cuts_at r ≡ cuts
+  pub same_cuts : cuts_at r ≡ cuts
   same_cuts = cuts_are _ _ _ r serves.over
 
-  rooted : IsOk (plan_typing (kinds_of_streams t.streams) plan) → AreCuts t.streams (leaves plan) cuts → IsFit t.streams normal cuts → IsRooted t plan r
+  pub rooted : IsOk (plan_typing (kinds_of_streams t.streams) plan) → AreCuts t.streams (leaves plan) cuts → IsFit t.streams normal cuts → IsRooted t plan r
   rooted typed are_cuts fit = record {
     serves = subst (λ (q : PlainPlan). Serves t plan q (cuts_at r) r) (sym same_plan) (subst (λ (c : Cuts). Serves t plan normal c r) (sym same_cuts) serves);
     typed = typed;

@@ -65,7 +65,7 @@ module _ (found : (t : Table) (e : PlainEntry) → IsTable t → Contains t.entr
   file-bytes (Extent place number) has = extent-bytes place number has
   file-bytes (Result id) has = result-bytes id has
 
-  all-bytes : (names : List FileName) → AllByRecursion (HasFile (table s)) names → sum_by (held_bytes (extents_in s.streams) (results_in s)) names ≡ bytes_named (table s) names
+  pub all-bytes : (names : List FileName) → AllByRecursion (HasFile (table s)) names → sum_by (held_bytes (extents_in s.streams) (results_in s)) names ≡ bytes_named (table s) names
   all-bytes [] all = refl
   all-bytes (name ∷ names) all =
       omega (

@@ -48,6 +48,9 @@ returns-clause-chosen c = λ plan is_normal.
       read = c.reads-read.ensures ∙ ap capped (c.bytes_of_named_files.ensures left normal c.args.cuts.now (rewriting_of r) (c.results_are_left_out.ensures.table t c.args.left_out.now c.args.catalog.now.sound) least.is c.requires);
     }
 
+pub returns-clause-form : goal.returns-clause-form
+returns-clause-form c = c.in_ok-rewriting.ensures.is.0
+
 pub returns-clause-spelled : goal.returns-clause-spelled
 returns-clause-spelled c = subst HasPlanSpelling (sym c.in_ok-rewriting.ensures.is.0) c.typed_plan_has_spelling.ensures
 

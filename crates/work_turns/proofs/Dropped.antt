@@ -1,0 +1,148 @@
+-- The ids of entries that are among others.
+use Rattle.std.proofs.Common.{◌≡◌, refl, sym, ap, ◌∙◌, subst, ℕ, ◌<◌, ◌≤◌, ◌==◌, ◌&&◌, ◌||◌, nat_lt, Bool, true, false, not, cond, List, [], ◌∷◌, ◌++◌, ◌+◌, length, take, get_or, arith}
+use Rattle.std.specs.List.{AllByRecursion, filter, list_all}
+use Rattle.std.proofs.lemmas.Bool.{eqb-true, ltb-true, lt-ltb}
+use Rattle.std.proofs.lemmas.List.{map-append}
+use Rattle.std.proofs.lemmas.List.Elements.{filter_more}
+use Rattle.std.proofs.lemmas.Map.Views.{any-filter_same}
+use Rattle.catalog_types.specs.PlainEntry.{PlainEntry}
+use Rattle.entry_table.specs.Ids.{AreIdsOf, ids_of, ascend_above, are_apart, is_among, is_there, without}
+use Rattle.entry_table.proofs.Places.{both}
+use Rattle.work_turns.specs.Ends.{those_among}
+
+no-and : (b : Bool) → b && false ≡ false
+no-and true = refl
+no-and false = refl
+
+or-true : (b : Bool) → b || true ≡ true
+or-true true = refl
+or-true false = refl
+
+both-true : (b c : Bool) → b ≡ true → c ≡ true → b && c ≡ true
+both-true true c e f = f
+both-true false c e f = absurd (cc)
+
+-- ---- which they are
+
+pub among-those : (ids : List ℕ) (es : List PlainEntry) (id : ℕ) → is_among (those_among ids es) id ≡ (is_among ids id && is_there es id)
+among-those ids [] id = sym (no-and (is_among ids id))
+among-those ids (e ∷ es) id = by (is_among ids e.id) (e.id == id) refl refl (among-those ids es id)
+  where
+    by : (b c : Bool) → is_among ids e.id ≡ b → (e.id == id) ≡ c → is_among (those_among ids es) id ≡ (is_among ids id && is_there es id)
+        → is_among (ids_of (cond b (e ∷ filter (λ e. is_among ids e.id) es) (filter (λ e. is_among ids e.id) es))) id ≡ (is_among ids id && (c || is_there es id))
+    by true true own same rest =
+        let among : is_among ids id ≡ true = ap (is_among ids) (sym (eqb-true e.id id same)) ∙ own in
+        ap (λ b. b || is_among (those_among ids es) id) same ∙ sym (ap (λ b. b && true) among)
+    by true false own same rest = ap (λ b. b || is_among (those_among ids es) id) same ∙ rest
+    by false true own same rest =
+        let among : is_among ids id ≡ false = ap (is_among ids) (sym (eqb-true e.id id same)) ∙ own in
+        rest ∙ ap (λ b. b && is_there es id) among ∙ sym (ap (λ b. b && true) among)
+    by false false own same rest = rest
+
+-- one more entry
+pub those-more : (ids : List ℕ) (es : List PlainEntry) (i : ℕ) (e : PlainEntry) → i < length es → e ≡ get_or es i e → those_among ids (take (i + 1) es) ≡ those_among ids (take i es) ++ cond (is_among ids e.id) (e.id ∷ []) []
+those-more ids es i e low is =
+    ap ids_of (filter_more (λ (x : PlainEntry). is_among ids x.id) es i e low)
+    ∙ map-append (λ (x : PlainEntry). x.id) (filter (λ (x : PlainEntry). is_among ids x.id) (take i es)) (cond (is_among ids (get_or es i e).id) (get_or es i e ∷ []) [])
+    ∙ ap (λ xs. those_among ids (take i es) ++ xs) (ap (λ (x : PlainEntry). ids_of (cond (is_among ids x.id) (x ∷ []) [])) (sym is) ∙ by (is_among ids e.id))
+  where
+    by : (b : Bool) → ids_of (cond b (e ∷ []) []) ≡ cond b (e.id ∷ []) []
+    by true = refl
+    by false = refl
+
+-- ---- they are ids of entries
+
+there-more : (e : PlainEntry) (es : List PlainEntry) (ids : List ℕ) → list_all (is_there es) ids ≡ true → list_all (is_there (e ∷ es)) ids ≡ true
+there-more e es [] there = refl
+there-more e es (id ∷ ids) there =
+    let parts = both (is_there es id) (list_all (is_there es) ids) there in
+    both-true (is_there (e ∷ es) id) (list_all (is_there (e ∷ es)) ids) (ap (λ b. (e.id == id) || b) parts.0 ∙ or-true (e.id == id)) (there-more e es ids parts.1)
+
+own-id : (e : PlainEntry) → (e.id == e.id) ≡ true
+own-id e = grind (arith)
+
+there-first : (e : PlainEntry) (es : List PlainEntry) → is_there (e ∷ es) e.id ≡ true
+there-first e es = ap (λ b. b || is_there es e.id) (own-id e)
+
+there-those : (ids : List ℕ) (es : List PlainEntry) → list_all (is_there es) (those_among ids es) ≡ true
+there-those ids [] = refl
+there-those ids (e ∷ es) = by (is_among ids e.id) (there-more e es (those_among ids es) (there-those ids es))
+  where
+    by : (b : Bool) → list_all (is_there (e ∷ es)) (those_among ids es) ≡ true → list_all (is_there (e ∷ es)) (ids_of (cond b (e ∷ filter (λ e. is_among ids e.id) es) (filter (λ e. is_among ids e.id) es))) ≡ true
+    by true rest = both-true (is_there (e ∷ es) e.id) (list_all (is_there (e ∷ es)) (those_among ids es)) (there-first e es) rest
+    by false rest = rest
+
+-- ---- they ascend
+
+lower : (low bound : ℕ) (ids : List ℕ) → low ≤ bound → ascend_above bound ids ≡ true → ascend_above low ids ≡ true
+lower low bound [] most up = refl
+lower low bound (id ∷ ids) most up =
+    let parts = both (nat_lt bound id) (ascend_above id ids) up in
+    let less = ltb-true bound id parts.0 in
+    both-true (nat_lt low id) (ascend_above id ids) (lt-ltb low id (omega (arith, most, less))) parts.1
+
+ascend-those : (ids : List ℕ) (low : ℕ) (es : List PlainEntry) → ascend_above low (ids_of es) ≡ true → ascend_above low (those_among ids es) ≡ true
+ascend-those ids low [] up = refl
+ascend-those ids low (e ∷ es) up =
+    let parts = both (nat_lt low e.id) (ascend_above e.id (ids_of es)) up in
+    let less = ltb-true low e.id parts.0 in
+    let rest = ascend-those ids e.id es parts.1 in
+    by (is_among ids e.id) parts.0 rest (lower low e.id (those_among ids es) (omega (arith, less)) rest)
+  where
+    by : (b : Bool) → nat_lt low e.id ≡ true → ascend_above e.id (those_among ids es) ≡ true → ascend_above low (those_among ids es) ≡ true
+        → ascend_above low (ids_of (cond b (e ∷ filter (λ e. is_among ids e.id) es) (filter (λ e. is_among ids e.id) es))) ≡ true
+    by true first rest all = both-true (nat_lt low e.id) (ascend_above e.id (those_among ids es)) first rest
+    by false first rest all = all
+
+pub are-ids : (ids : List ℕ) (es : List PlainEntry) → ascend_above 0 (ids_of es) ≡ true → AreIdsOf es (those_among ids es)
+are-ids ids es up = record { ascend = ascend-those ids 0 es up; there = there-those ids es }
+
+-- ---- without them, and without the others, the same entries are left
+
+left : (d ids : List ℕ) (es : List PlainEntry) → ((id : ℕ) → is_among d id ≡ (is_among ids id && is_there es id)) → (xs : List PlainEntry) → list_all (is_there es) (ids_of xs) ≡ true → without d xs ≡ without ids xs
+left d ids es among [] there = refl
+left d ids es among (x ∷ xs) there =
+    let parts = both (is_there es x.id) (list_all (is_there es) (ids_of xs)) there in
+    let same : is_among d x.id ≡ is_among ids x.id = among x.id ∙ ap (λ b. is_among ids x.id && b) parts.0 ∙ and-true (is_among ids x.id) in
+    let rest = left d ids es among xs parts.1 in
+    λ i. cond (not (same i)) (x ∷ rest i) (rest i)
+  where
+    and-true : (b : Bool) → b && true ≡ b
+    and-true true = refl
+    and-true false = refl
+
+all-there : (es : List PlainEntry) → list_all (is_there es) (ids_of es) ≡ true
+all-there [] = refl
+all-there (e ∷ es) = both-true (is_there (e ∷ es) e.id) (list_all (is_there (e ∷ es)) (ids_of es)) (there-first e es) (there-more e es (ids_of es) (all-there es))
+
+pub without-those : (ids : List ℕ) (es : List PlainEntry) → without (those_among ids es) es ≡ without ids es
+without-those ids es = left (those_among ids es) ids es (among-those ids es) es (all-there es)
+
+-- ---- ids of the entries that are left are apart from them
+
+left-there : (ids : List ℕ) (es : List PlainEntry) (id : ℕ) → is_there (without ids es) id ≡ true → (not (is_among ids id) ≡ true) × (is_there es id ≡ true)
+left-there ids es id there = both (not (is_among ids id)) (is_there es id) (sym (any-filter_same (λ (e : PlainEntry). e.id == id) (λ (e : PlainEntry). not (is_among ids e.id)) (not (is_among ids id)) (λ e same. ap (λ (i : ℕ). not (is_among ids i)) (eqb-true e.id id same)) es) ∙ there)
+
+all-left-there : (ids : List ℕ) (es : List PlainEntry) (used : List ℕ) → list_all (is_there (without ids es)) used ≡ true → list_all (is_there es) used ≡ true
+all-left-there ids es [] there = refl
+all-left-there ids es (id ∷ used) there =
+    let parts = both (is_there (without ids es) id) (list_all (is_there (without ids es)) used) there in
+    both-true (is_there es id) (list_all (is_there es) used) (left-there ids es id parts.0).1 (all-left-there ids es used parts.1)
+
+pub are-among-all : (ids : List ℕ) (es : List PlainEntry) (used : List ℕ) → AreIdsOf (without ids es) used → AreIdsOf es used
+are-among-all ids es used is = record { ascend = is.ascend; there = all-left-there ids es used is.there }
+
+apart : (ids : List ℕ) (es : List PlainEntry) (used : List ℕ) → list_all (is_there (without ids es)) used ≡ true → are_apart used (those_among ids es) ≡ true
+apart ids es [] there = refl
+apart ids es (id ∷ used) there =
+    let parts = both (is_there (without ids es) id) (list_all (is_there (without ids es)) used) there in
+    let isnt : is_among ids id ≡ false = none (is_among ids id) (left-there ids es id parts.0).0 in
+    both-true (not (is_among (those_among ids es) id)) (are_apart used (those_among ids es))
+    (ap not (among-those ids es id ∙ ap (λ b. b && is_there es id) isnt)) (apart ids es used parts.1)
+  where
+    none : (b : Bool) → not b ≡ true → b ≡ false
+    none true e = absurd (cc)
+    none false e = refl
+
+pub are-apart : (ids : List ℕ) (es : List PlainEntry) (used : List ℕ) → AreIdsOf (without ids es) used → are_apart used (those_among ids es) ≡ true
+are-apart ids es used is = apart ids es used is.there
