@@ -1,5 +1,5 @@
 -- What else is said of a close.
-use Rattle.std.proofs.Common.{◌≡◌, ◌⊎◌, inl, inr, refl, sym, ap, ◌∙◌, subst, ℕ, ◌+◌, ◌≤◌, List, Option, Some, Result, Ok, Err, IfOk, get_or}
+use Rattle.std.proofs.Common.{◌≡◌, ◌⊎◌, inl, inr, refl, sym, ap, ◌∙◌, subst, ℕ, ◌+◌, ◌≤◌, List, Option, Some, None, Result, Ok, Err, IfOk, get_or}
 use Rattle.std.proofs.Math.ListN.{set}
 use Rattle.std.specs.List.{remove}
 use Rattle.outside_traits.specs.View.{View, Counts}
@@ -23,10 +23,11 @@ use Rattle.job_table.specs.declared.table.OpenJob.{OpenJob}
 use Rattle.work_run.specs.Ends.{CountsRead}
 use Rattle.work_run.specs.Opened.{files_left}
 use Rattle.work_run.specs.declared.open.OpenWork.{OpenWork}
+use Rattle.session.specs.Causes.{HasByteCause, IsOfJob}
 use Rattle.session.specs.Taken.{TakesAsTold}
 use Rattle.later_states.specs.Later.{IsLater}
 use Rattle.work_run.specs.declared.work.Work.{Work}
-use Rattle.session.specs.Jobs.{OpenJobs, IsHeldOver, AreHeldOver}
+use Rattle.session.specs.Jobs.{OpenJobs, IsHeldOver, AreHeldOver, open_named}
 use Rattle.session.specs.Standing.{HoldsJobs, folder_of, jobs_of}
 use Rattle.session.specs.Work.{IsEnded}
 use Rattle.session.specs.declared.session.Session.{Session}
@@ -63,3 +64,18 @@ pub ended_taken : (t : Table) (jobs mid : OpenJobs) (name : List ℕ) (at : ℕ)
 ended_taken t jobs mid name at o place stood closed old half new counts rises (Ok next) ended =
     close_taken jobs name at o place stood t closed old new (read_then _ old half new counts rises) next.1 (elim ended [ inl is ↦ inl is.0 | inr is ↦ inr is.0 ])
 ended_taken t jobs mid name at o place stood closed old half new counts rises (Err failed) ended = tt
+
+-- ---- it is laid to no file, once its files were read
+
+want_of_job : (t : Table) (opened : Option (OpenJob OpenWork)) (files : ℕ → List ℕ) → IsOfJob t opened files refusal.Memory
+want_of_job t (Some opened) files = tt
+want_of_job t None files = tt
+
+pub ended_found : (t : Table) (jobs mid : OpenJobs) (name : List ℕ) (at : ℕ) (closed : Work) (files : ℕ → List ℕ) (result : Result (Session × Answer) Failed) → IfOk result (λ next. IsEnded closed at mid (jobs_of next.0) next.1)
+    → IfOk result (λ next. HasByteCause t jobs (command.Close name) files next.1)
+ended_found t jobs mid name at closed files (Ok next) ended =
+    elim ended [
+      | inl is ↦ subst (HasByteCause t jobs (command.Close name) files) (sym is.0) tt
+      | inr is ↦ subst (HasByteCause t jobs (command.Close name) files) (sym is.0) (want_of_job t (open_named jobs name) files)
+    ]
+ended_found t jobs mid name at closed files (Err failed) ended = tt

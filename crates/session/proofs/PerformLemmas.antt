@@ -1,10 +1,12 @@
 -- A command that concerns no job, performed beside the jobs.
-use Rattle.std.proofs.Common.{◌≡◌, inr, refl, sym, ap, ◌∙◌, subst, ℕ, List}
+use Rattle.std.proofs.Common.{◌≡◌, inr, refl, sym, ap, ◌∙◌, subst, ℕ, List, Result, Ok, Err}
 use Rattle.outside_traits.specs.View.{View, Counts}
 use Rattle.catalog_core.specs.IsTable.{IsTable}
 use Rattle.catalog_core.specs.Table.{Table}
+use Rattle.planning.specs.Running.{Run, running}
 use Rattle.script_text.specs.declared.answer.Answer.{Answer}
 use Rattle.script_text.specs.declared.answer.Answer.TheVariants as answer
+use Rattle.script_text.specs.declared.answer.Refusal.{Refusal}
 use Rattle.script_text.specs.declared.answer.Refusal.TheVariants as refusal
 use Rattle.script_text.specs.declared.item.Command.{Command}
 use Rattle.script_text.specs.declared.item.Command.TheVariants as command
@@ -17,12 +19,13 @@ use Rattle.folder_session.specs.Machine.{IsOfJobs}
 use Rattle.folder_session.specs.Standing as folder
 use Rattle.folder_session.specs.Taken as taken
 use Rattle.folder_session.proofs.StepLemmas.{want_event}
+use Rattle.folder_session.proofs.TakenLemmas.{none_for}
 use Rattle.later_states.specs.Later.{IsLater, IsLaterState}
 use Rattle.session.specs.Causes.{HasByteCause}
 use Rattle.session.specs.Jobs.{OpenJobs, AreJobs}
 use Rattle.session.specs.Machine.{Machine, Step, held_by}
 use Rattle.session.specs.Standing.{Stands, Performs, Breaks, folder_of, jobs_of}
-use Rattle.session.specs.Taken.{TakesAsTold}
+use Rattle.session.specs.Taken.{TakesAsTold, TakesFor}
 use Rattle.session.specs.declared.session.Session.{Session}
 use Rattle.session.proofs.FolderSteps.{more_by_step, step_beside}
 use Rattle.session.proofs.StayLemmas.{StaysOpen, StaysRead, AreAllHeld, all_held, holds_of, same_held, still_jobs}
@@ -81,3 +84,29 @@ pub taken_beside : (t : Table) (jobs : OpenJobs) (c : Command) (given : Answer) 
 taken_beside t jobs (command.Step job) given old new other told = absurd (other tt)
 taken_beside t jobs (command.Close job) given old new other told = absurd (other tt)
 taken_beside t jobs _ given old new other told = told
+
+-- ---- want of memory is laid to no file, and reads none
+
+want_of_run : (t : Table) (planned : Result Run Refusal) (files : ℕ → List ℕ) → of_folder.IsOfRun t planned files refusal.Memory
+want_of_run t (Ok run) files = tt
+want_of_run t (Err why) files = tt
+
+want_of_command : (t : Table) (c : Command) (files : ℕ → List ℕ) → of_folder.HasByteCause t c files (answer.Refused refusal.Memory)
+want_of_command t (command.Run name tree) files = want_of_run t (running t name tree) files
+want_of_command t (command.Fetch name as_run) files = tt
+want_of_command t _ files = tt
+
+pub want_found : (t : Table) (jobs : OpenJobs) (c : Command) (files : ℕ → List ℕ) → (IsOfJobs c → ⊥) → HasByteCause t jobs c files (answer.Refused refusal.Memory)
+want_found t jobs c files other = found_beside t jobs c files (answer.Refused refusal.Memory) other (want_of_command t c files)
+
+pub want_gone : (t : Table) (c : Command) (v : View) (old new : Counts) → folder.LeavesNoFile t c (answer.Refused refusal.Memory) v old new
+want_gone t (command.Collect reclaim) v old new = tt
+want_gone t _ v old new = tt
+
+most_beside : (t : Table) (jobs : OpenJobs) (c : Command) (old new : Counts) → (IsOfJobs c → ⊥) → taken.TakesFor t c old new → TakesFor t jobs c old new
+most_beside t jobs (command.Step job) old new other most = absurd (other tt)
+most_beside t jobs (command.Close job) old new other most = absurd (other tt)
+most_beside t jobs _ old new other most = most
+
+pub want_most : (t : Table) (jobs : OpenJobs) (c : Command) (counts : Counts) → (IsOfJobs c → ⊥) → TakesFor t jobs c counts counts
+want_most t jobs c counts other = most_beside t jobs c counts counts other (none_for t c counts counts refl)

@@ -25,7 +25,7 @@ use Rattle.session.specs.Standing.{folder_of, jobs_of}
 use Rattle.session.specs.Taken.{TakesAsTold}
 use Rattle.session.proofs.CloseLemmas.{unknown_close}
 use Rattle.session.proofs.ClosingLemmas.{closed_breaks, closed_result, found, not_closed_performs}
-use Rattle.session.proofs.EndedLemmas.{ended_holds, ended_taken, refused_since}
+use Rattle.session.proofs.EndedLemmas.{ended_found, ended_holds, ended_taken, refused_since}
 use Rattle.session.proofs.FoundLemmas.{close_found, close_most, held_at, read_held}
 use Rattle.session.proofs.JobSteps.{same_name}
 use Rattle.session.proofs.OpenLemmas.{stays}
@@ -132,6 +132,13 @@ returns-in-Ok-clause-most g c = λ told.
 
 pub returns-in-Ok-clause-crash : goal.returns-in-Ok-clause-crash
 returns-in-Ok-clause-crash g c = λ told stands. c.record_closed.ensures.crash told (c.left_stores.ensures.stands c.args.store.now c.close_work-closed.new.store _ _ c.in-Ok.ensures.narrows stands)
+
+pub returns-in-Ok-clause-found : goal.returns-in-Ok-clause-found
+returns-in-Ok-clause-found g c = λ told.
+    let o = c.index_mut.result.now in
+    let jobs = jobs_of c.args.self in
+    ended_found (table_in (folder_of c.args.self)) jobs (set jobs c.in-Some.at (record { name = o.name; job = c.close_work-closed.new.work; holds = o.holds })) c.args.name c.in-Some.at c.in-Ok.work (g.D.Store.view c.args.store.now).files c.record_closed.result
+    c.record_closed.ensures.ended
 
 -- ---- not closed
 

@@ -27,6 +27,9 @@ pub returns-in-Err-record_work-clause-err : goal.returns-in-Err-record_work-clau
 returns-in-Err-record_work-clause-err g c = λ told care s program news stands change files.
     c.in-Err-record_work.ensures.err told care s (Some program) news (stands_prepared care _ c.args.self.base c.prepare.new.self s c.prepare.ensures.table c.prepare.ensures.journal stands) change files
 
+pub returns-in-Err-record_work-clause-alone : goal.returns-in-Err-record_work-clause-alone
+returns-in-Err-record_work-clause-alone g c = writes_prepared _ _ c.args.self.base c.prepare.new.self c.prepare.ensures.table c.prepare.ensures.journal c.record_work.ensures.alone
+
 pub returns-in-Err-clause-ok : goal.returns-in-Err-clause-ok
 returns-in-Err-clause-ok g c = λ told care s program news stands change files.
     records_none care (g.D.Store.view c.args.store.now) c.args.self.base c.prepare.new.self s stands c.prepare.ensures.table c.prepare.ensures.journal
