@@ -1,10 +1,71 @@
 //! The real folder.
 
 use crate::store::FolderStore;
-use outside_traits::Store;
+use outside_traits::{Failed, Store};
 use std::path::PathBuf;
 use std::test::Fail;
 use std::{env, fs, process};
+
+// A call of a store, and what it answers.
+#[derive(Clone, Copy)]
+enum Call<'a> {
+    Write(u64, u64, &'a [u8]),
+    Sync(u64),
+    Cut(u64, u64),
+    Remove(u64),
+    // The bytes of a file from a place to its end, of which there are at most 8.
+    Read(u64, u64, &'a [u8]),
+    Size(u64, u64),
+    Next(u64, Option<u64>),
+    // Its size, a write and its removal fail.
+    IsForeign(u64),
+}
+
+// Whether the call answers so.
+fn answers(store: &mut impl Store, call: &Call) -> Result<bool, Failed> {
+    match call {
+        Call::Write(file, at, bytes) => return writes(store, *file, *at, bytes),
+        Call::Sync(file) => store.sync(*file)?,
+        Call::Cut(file, len) => store.cut(*file, *len)?,
+        Call::Remove(file) => store.remove(*file)?,
+        Call::Read(file, at, bytes) => return reads(store, *file, *at, bytes),
+        Call::Size(file, size) => return Ok(store.size(*file)? == *size),
+        Call::Next(from, file) => return Ok(store.next_file(*from)? == *file),
+        Call::IsForeign(file) => return Ok(is_foreign(store, *file)),
+    }
+    Ok(true)
+}
+
+// Writes a few bytes near the beginning of a file.
+fn writes(store: &mut impl Store, file: u64, at: u64, bytes: &[u8]) -> Result<bool, Failed> {
+    if at > 8 || bytes.len() > 8 {
+        return Ok(false);
+    }
+    store.write(file, at, bytes)?;
+    Ok(true)
+}
+
+// Whether these bytes are read, and no others.
+fn reads(store: &mut impl Store, file: u64, at: u64, bytes: &[u8]) -> Result<bool, Failed> {
+    let mut buf = [1; 9];
+    let count = store.read(file, at, &mut buf)?;
+    let (read, rest) = buf.split_at(count);
+    Ok(read == bytes && rest.iter().all(|byte| *byte == 1))
+}
+
+fn is_foreign(store: &mut impl Store, file: u64) -> bool {
+    store.size(file).is_err() && store.write(file, 0, b"x").is_err() && store.remove(file).is_err()
+}
+
+// Whether these calls, one after another, answer so.
+fn all_answer(store: &mut impl Store, calls: &[Call]) -> Result<bool, Failed> {
+    for call in calls {
+        if !answers(store, call)? {
+            return Ok(false);
+        }
+    }
+    Ok(true)
+}
 
 // A folder of this name that isn't there.
 fn fresh_folder(rt: &HostRuntime, name: &str) -> Result<PathBuf, Fail> {
@@ -16,22 +77,23 @@ fn fresh_folder(rt: &HostRuntime, name: &str) -> Result<PathBuf, Fail> {
 fn folder_is_made_and_its_files_are_read_back(rt: HostRuntime) -> Result<(), Fail> {
     let top = fresh_folder(&rt, "made")?;
     let folder = top.join(rt.alloc(), "missing/parents")?;
+    let written = [Call::Write(7, 2, b"bytes"), Call::Sync(7)];
     let mut store = FolderStore::new(&rt);
     store.attach(folder.as_str())?;
-    store.write(7, 2, b"bytes")?;
-    store.sync(7)?;
+    assert!(rt; all_answer(&mut store, &written)?);
+    let read = [
+        Call::Size(7, 7),
+        Call::Read(7, 0, b"\0\0bytes"),
+        Call::Next(0, Some(7)),
+        Call::Cut(7, 3),
+        Call::Size(7, 3),
+        Call::Remove(7),
+        Call::Next(0, None),
+        Call::Size(7, 0),
+    ];
     let mut again = FolderStore::new(&rt);
     again.attach(folder.as_str())?;
-    assert_eq!(rt; again.size(7)?, 7);
-    let mut buf = [1; 9];
-    assert_eq!(rt; again.read(7, 0, &mut buf)?, 7);
-    assert_eq!(rt; buf, *b"\0\0bytes\x01\x01");
-    assert_eq!(rt; again.next_file(0)?, Some(7));
-    again.cut(7, 3)?;
-    assert_eq!(rt; again.size(7)?, 3);
-    again.remove(7)?;
-    assert_eq!(rt; again.next_file(0)?, None);
-    assert_eq!(rt; again.size(7)?, 0);
+    assert!(rt; all_answer(&mut again, &read)?);
     fs::remove_dir_all(&rt, top.as_str())?;
     Ok(())
 }
@@ -39,18 +101,35 @@ fn folder_is_made_and_its_files_are_read_back(rt: HostRuntime) -> Result<(), Fai
 #[test]
 fn no_bytes_past_the_end_make_a_file_longer(rt: HostRuntime) -> Result<(), Fail> {
     let top = fresh_folder(&rt, "empty-write")?;
+    let calls = [
+        Call::Write(1, 0, b"ab"),
+        Call::Write(1, 5, b""),
+        Call::Write(1, 1, b""),
+        Call::Read(1, 0, b"ab\0\0\0"),
+        Call::Write(2, 0, b""),
+        Call::Next(2, Some(2)),
+    ];
     let mut store = FolderStore::new(&rt);
     store.attach(top.as_str())?;
-    store.write(1, 0, b"ab")?;
-    store.write(1, 5, b"")?;
-    store.write(1, 1, b"")?;
-    let mut buf = [1; 6];
-    assert_eq!(rt; store.read(1, 0, &mut buf)?, 5);
-    assert_eq!(rt; buf, *b"ab\0\0\0\x01");
-    store.write(2, 0, b"")?;
-    assert_eq!(rt; store.next_file(2)?, Some(2));
+    assert!(rt; all_answer(&mut store, &calls)?);
     fs::remove_dir_all(&rt, top.as_str())?;
     Ok(())
+}
+
+// Whether files that are written, more than are kept open, are read back.
+fn many_answer(store: &mut impl Store) -> Result<bool, Failed> {
+    for number in 0..40 {
+        store.write(3 * number, 0, &[number as u8; 3])?;
+        store.sync(3 * number)?;
+    }
+    let mut all = true;
+    for number in 0..40 {
+        all = all && reads(store, 3 * number, 1, &[number as u8; 2])?;
+    }
+    for from in 0..118 {
+        all = all && store.next_file(from)? == Some(from.div_ceil(3) * 3);
+    }
+    Ok(all && store.next_file(118)?.is_none())
 }
 
 #[test]
@@ -58,19 +137,7 @@ fn more_files_than_are_kept_open(rt: HostRuntime) -> Result<(), Fail> {
     let top = fresh_folder(&rt, "many")?;
     let mut store = FolderStore::new(&rt);
     store.attach(top.as_str())?;
-    for number in 0..40 {
-        store.write(3 * number, 0, &[number as u8; 3])?;
-        store.sync(3 * number)?;
-    }
-    for number in 0..40 {
-        let mut buf = [0; 4];
-        assert_eq!(rt; store.read(3 * number, 1, &mut buf)?, 2);
-        assert_eq!(rt; &buf[..2], [number as u8; 2].as_slice());
-    }
-    for from in 0..118 {
-        assert_eq!(rt; store.next_file(from)?, Some(from.div_ceil(3) * 3));
-    }
-    assert_eq!(rt; store.next_file(118)?, None);
+    assert!(rt; many_answer(&mut store)?);
     fs::remove_dir_all(&rt, top.as_str())?;
     Ok(())
 }
@@ -78,19 +145,22 @@ fn more_files_than_are_kept_open(rt: HostRuntime) -> Result<(), Fail> {
 #[test]
 fn listed_files_are_those_that_were_made_and_not_removed(rt: HostRuntime) -> Result<(), Fail> {
     let top = fresh_folder(&rt, "listed")?;
+    let calls = [
+        Call::Next(0, None),
+        Call::Write(u64::MAX, 0, b"x"),
+        Call::Write(5, 0, b"x"),
+        Call::Size(4, 0),
+        Call::Next(0, Some(5)),
+        Call::Next(6, Some(u64::MAX)),
+        Call::Remove(5),
+        Call::Remove(5),
+        Call::Next(0, Some(u64::MAX)),
+        Call::Write(5, 0, b"y"),
+        Call::Next(5, Some(5)),
+    ];
     let mut store = FolderStore::new(&rt);
     store.attach(top.as_str())?;
-    assert_eq!(rt; store.next_file(0)?, None);
-    store.write(u64::MAX, 0, b"x")?;
-    store.write(5, 0, b"x")?;
-    assert_eq!(rt; store.size(4)?, 0);
-    assert_eq!(rt; store.next_file(0)?, Some(5));
-    assert_eq!(rt; store.next_file(6)?, Some(u64::MAX));
-    store.remove(5)?;
-    store.remove(5)?;
-    assert_eq!(rt; store.next_file(0)?, Some(u64::MAX));
-    store.write(5, 0, b"y")?;
-    assert_eq!(rt; store.next_file(5)?, Some(5));
+    assert!(rt; all_answer(&mut store, &calls)?);
     fs::remove_dir_all(&rt, top.as_str())?;
     Ok(())
 }
@@ -107,22 +177,29 @@ const FOREIGN_NAMES: [&str; 8] = [
     "8\u{ff}.nxt",
 ];
 
+// Files of foreign names, and a folder of a file's name.
+fn make_foreign(rt: &HostRuntime, top: &PathBuf) -> Result<(), Fail> {
+    fs::create_dir(rt, top.join(rt.alloc(), "5.nxt")?.as_str())?;
+    for name in FOREIGN_NAMES {
+        fs::write(rt, top.join(rt.alloc(), name)?.as_str(), b"x")?;
+    }
+    Ok(())
+}
+
 #[test]
 fn foreign_names_are_no_files(rt: HostRuntime) -> Result<(), Fail> {
     let top = fresh_folder(&rt, "foreign")?;
     let mut store = FolderStore::new(&rt);
     store.attach(top.as_str())?;
-    fs::create_dir(&rt, top.join(rt.alloc(), "5.nxt")?.as_str())?;
-    for name in FOREIGN_NAMES {
-        fs::write(&rt, top.join(rt.alloc(), name)?.as_str(), b"x")?;
-    }
-    assert_eq!(rt; store.next_file(0)?, None);
-    store.write(9, 0, b"x")?;
-    assert_eq!(rt; store.next_file(0)?, Some(9));
-    assert!(rt; store.size(5).is_err());
-    assert!(rt; store.write(5, 0, b"x").is_err());
-    assert!(rt; store.remove(5).is_err());
-    assert_eq!(rt; store.next_file(0)?, Some(9));
+    make_foreign(&rt, &top)?;
+    let calls = [
+        Call::Next(0, None),
+        Call::Write(9, 0, b"x"),
+        Call::Next(0, Some(9)),
+        Call::IsForeign(5),
+        Call::Next(0, Some(9)),
+    ];
+    assert!(rt; all_answer(&mut store, &calls)?);
     fs::remove_dir_all(&rt, top.as_str())?;
     Ok(())
 }
