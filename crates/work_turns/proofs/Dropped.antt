@@ -1,6 +1,6 @@
 -- The ids of entries that are among others.
-use Rattle.std.proofs.Common.{◌≡◌, refl, sym, ap, ◌∙◌, subst, ℕ, ◌<◌, ◌≤◌, ◌==◌, ◌&&◌, ◌||◌, nat_lt, Bool, true, false, not, cond, List, [], ◌∷◌, ◌++◌, ◌+◌, length, take, get_or, arith}
-use Rattle.std.specs.List.{AllByRecursion, filter, list_all}
+use Rattle.std.proofs.Common.{◌≡◌, refl, sym, ap, ◌∙◌, ℕ, ◌<◌, ◌≤◌, ◌==◌, ◌&&◌, ◌||◌, nat_lt, Bool, true, false, not, cond, List, [], ◌∷◌, ◌++◌, ◌+◌, length, map, take, get_or, arith}
+use Rattle.std.specs.List.{filter, list_all}
 use Rattle.std.proofs.lemmas.Bool.{eqb-true, ltb-true, lt-ltb}
 use Rattle.std.proofs.lemmas.List.{map-append}
 use Rattle.std.proofs.lemmas.List.Elements.{filter_more}
@@ -8,7 +8,7 @@ use Rattle.std.proofs.lemmas.Map.Views.{any-filter_same}
 use Rattle.catalog_types.specs.PlainEntry.{PlainEntry}
 use Rattle.entry_table.specs.Ids.{AreIdsOf, ids_of, ascend_above, are_apart, is_among, is_there, without}
 use Rattle.entry_table.proofs.Places.{both}
-use Rattle.work_turns.specs.Ends.{those_among}
+use Rattle.work_turns.specs.Ends.{entries_among, free_of, those_among}
 
 no-and : (b : Bool) → b && false ≡ false
 no-and true = refl
@@ -39,14 +39,15 @@ among-those ids (e ∷ es) id = by (is_among ids e.id) (e.id == id) refl refl (a
         rest ∙ ap (λ b. b && is_there es id) among ∙ sym (ap (λ b. b && true) among)
     by false false own same rest = rest
 
--- one more entry
-pub those-more : (ids : List ℕ) (es : List PlainEntry) (i : ℕ) (e : PlainEntry) → i < length es → e ≡ get_or es i e → those_among ids (take (i + 1) es) ≡ those_among ids (take i es) ++ cond (is_among ids e.id) (e.id ∷ []) []
-those-more ids es i e low is =
-    ap ids_of (filter_more (λ (x : PlainEntry). is_among ids x.id) es i e low)
-    ∙ map-append (λ (x : PlainEntry). x.id) (filter (λ (x : PlainEntry). is_among ids x.id) (take i es)) (cond (is_among ids (get_or es i e).id) (get_or es i e ∷ []) [])
-    ∙ ap (λ xs. those_among ids (take i es) ++ xs) (ap (λ (x : PlainEntry). ids_of (cond (is_among ids x.id) (x ∷ []) [])) (sym is) ∙ by (is_among ids e.id))
+-- one more entry, of which this number is told
+pub among-more : (of : PlainEntry → ℕ) (ids : List ℕ) (es : List PlainEntry) (i : ℕ) (e : PlainEntry) → i < length es → e ≡ get_or es i e
+    → map of (entries_among ids (take (i + 1) es)) ≡ map of (entries_among ids (take i es)) ++ cond (is_among ids e.id) (of e ∷ []) []
+among-more of ids es i e low is =
+    ap (map of) (filter_more (λ (x : PlainEntry). is_among ids x.id) es i e low)
+    ∙ map-append of (entries_among ids (take i es)) (cond (is_among ids (get_or es i e).id) (get_or es i e ∷ []) [])
+    ∙ ap (λ xs. map of (entries_among ids (take i es)) ++ xs) (ap (λ (x : PlainEntry). map of (cond (is_among ids x.id) (x ∷ []) [])) (sym is) ∙ by (is_among ids e.id))
   where
-    by : (b : Bool) → ids_of (cond b (e ∷ []) []) ≡ cond b (e.id ∷ []) []
+    by : (b : Bool) → map of (cond b (e ∷ []) []) ≡ cond b (of e ∷ []) []
     by true = refl
     by false = refl
 
@@ -99,13 +100,14 @@ are-ids ids es up = record { ascend = ascend-those ids 0 es up; there = there-th
 
 -- ---- without them, and without the others, the same entries are left
 
-left : (d ids : List ℕ) (es : List PlainEntry) → ((id : ℕ) → is_among d id ≡ (is_among ids id && is_there es id)) → (xs : List PlainEntry) → list_all (is_there es) (ids_of xs) ≡ true → without d xs ≡ without ids xs
-left d ids es among [] there = refl
-left d ids es among (x ∷ xs) there =
+agree : (d ids : List ℕ) (es : List PlainEntry) → ((id : ℕ) → is_among d id ≡ (is_among ids id && is_there es id)) → (f : Bool → Bool) → (xs : List PlainEntry) → list_all (is_there es) (ids_of xs) ≡ true
+    → filter (λ (e : PlainEntry). f (is_among d e.id)) xs ≡ filter (λ (e : PlainEntry). f (is_among ids e.id)) xs
+agree d ids es among f [] there = refl
+agree d ids es among f (x ∷ xs) there =
     let parts = both (is_there es x.id) (list_all (is_there es) (ids_of xs)) there in
     let same : is_among d x.id ≡ is_among ids x.id = among x.id ∙ ap (λ b. is_among ids x.id && b) parts.0 ∙ and-true (is_among ids x.id) in
-    let rest = left d ids es among xs parts.1 in
-    λ i. cond (not (same i)) (x ∷ rest i) (rest i)
+    let rest = agree d ids es among f xs parts.1 in
+    λ i. cond (f (same i)) (x ∷ rest i) (rest i)
   where
     and-true : (b : Bool) → b && true ≡ b
     and-true true = refl
@@ -116,7 +118,10 @@ all-there [] = refl
 all-there (e ∷ es) = both-true (is_there (e ∷ es) e.id) (list_all (is_there (e ∷ es)) (ids_of es)) (there-first e es) (there-more e es (ids_of es) (all-there es))
 
 pub without-those : (ids : List ℕ) (es : List PlainEntry) → without (those_among ids es) es ≡ without ids es
-without-those ids es = left (those_among ids es) ids es (among-those ids es) es (all-there es)
+without-those ids es = agree (those_among ids es) ids es (among-those ids es) not es (all-there es)
+
+pub among-twice : (ids : List ℕ) (es : List PlainEntry) → entries_among (those_among ids es) es ≡ entries_among ids es
+among-twice ids es = agree (those_among ids es) ids es (among-those ids es) (λ b. b) es (all-there es)
 
 -- ---- ids of the entries that are left are apart from them
 
@@ -132,17 +137,32 @@ all-left-there ids es (id ∷ used) there =
 pub are-among-all : (ids : List ℕ) (es : List PlainEntry) (used : List ℕ) → AreIdsOf (without ids es) used → AreIdsOf es used
 are-among-all ids es used is = record { ascend = is.ascend; there = all-left-there ids es used is.there }
 
-apart : (ids : List ℕ) (es : List PlainEntry) (used : List ℕ) → list_all (is_there (without ids es)) used ≡ true → are_apart used (those_among ids es) ≡ true
-apart ids es [] there = refl
-apart ids es (id ∷ used) there =
+apart : (ids gone : List ℕ) (es : List PlainEntry) → ((id : ℕ) → is_among ids id ≡ false → is_among gone id ≡ false) → (used : List ℕ) → list_all (is_there (without ids es)) used ≡ true → are_apart used (those_among gone es) ≡ true
+apart ids gone es fewer [] there = refl
+apart ids gone es fewer (id ∷ used) there =
     let parts = both (is_there (without ids es) id) (list_all (is_there (without ids es)) used) there in
-    let isnt : is_among ids id ≡ false = none (is_among ids id) (left-there ids es id parts.0).0 in
-    both-true (not (is_among (those_among ids es) id)) (are_apart used (those_among ids es))
-    (ap not (among-those ids es id ∙ ap (λ b. b && is_there es id) isnt)) (apart ids es used parts.1)
+    let isnt : is_among gone id ≡ false = fewer id (none (is_among ids id) (left-there ids es id parts.0).0) in
+    both-true (not (is_among (those_among gone es) id)) (are_apart used (those_among gone es))
+    (ap not (among-those gone es id ∙ ap (λ b. b && is_there es id) isnt)) (apart ids gone es fewer used parts.1)
   where
     none : (b : Bool) → not b ≡ true → b ≡ false
     none true e = absurd (cc)
     none false e = refl
 
-pub are-apart : (ids : List ℕ) (es : List PlainEntry) (used : List ℕ) → AreIdsOf (without ids es) used → are_apart used (those_among ids es) ≡ true
-are-apart ids es used is = apart ids es used is.there
+-- ---- of those that aren't held
+
+pub among-free : (held ids : List ℕ) (id : ℕ) → is_among (free_of held ids) id ≡ (is_among ids id && not (is_among held id))
+among-free held [] id = refl
+among-free held (x ∷ ids) id = by (not (is_among held x)) (x == id) refl refl (among-free held ids id)
+  where
+    by : (b c : Bool) → not (is_among held x) ≡ b → (x == id) ≡ c → is_among (free_of held ids) id ≡ (is_among ids id && not (is_among held id))
+        → is_among (cond b (x ∷ free_of held ids) (free_of held ids)) id ≡ ((c || is_among ids id) && not (is_among held id))
+    by true true free same rest = ap (λ b. b || is_among (free_of held ids) id) same ∙ sym free ∙ ap (λ i. not (is_among held i)) (eqb-true x id same)
+    by true false free same rest = ap (λ b. b || is_among (free_of held ids) id) same ∙ rest
+    by false true free same rest =
+        let isnt : not (is_among held id) ≡ false = ap (λ i. not (is_among held i)) (sym (eqb-true x id same)) ∙ free in
+        rest ∙ ap (λ b. is_among ids id && b) isnt ∙ no-and (is_among ids id) ∙ sym isnt
+    by false false free same rest = rest
+
+pub are-apart : (held ids : List ℕ) (es : List PlainEntry) (used : List ℕ) → AreIdsOf (without ids es) used → are_apart used (those_among (free_of held ids) es) ≡ true
+are-apart held ids es used is = apart ids (free_of held ids) es (λ id isnt. among-free held ids id ∙ ap (λ b. b && not (is_among held id)) isnt) used is.there

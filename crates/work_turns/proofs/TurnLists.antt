@@ -1,17 +1,13 @@
 -- The results that turns left out, and the turns that ended, one after another.
-use Rattle.std.proofs.Common.{◌≡◌, refl, sym, ap, ◌∙◌, subst, ℕ, suc, ◌+◌, ◌<◌, ◌≤◌, ◌==◌, ◌||◌, min, ◌-◌, ◌^◌, inl, inr, Bool, true, false, not, cond, List, [], ◌∷◌, ◌++◌, length, append_assoc, append-nil, arith}
-use Rattle.std.specs.List.{AllByRecursion, list_any}
-use Rattle.std.proofs.lemmas.Bool.{eqb-true, false≢true}
+use Rattle.std.proofs.Common.{◌≡◌, refl, sym, ◌∙◌, subst, ℕ, suc, ◌+◌, ◌<◌, ◌≤◌, ◌==◌, ◌||◌, min, ◌-◌, ◌^◌, inl, inr, Bool, true, false, not, cond, List, [], ◌∷◌, ◌++◌, length, append_assoc, append-nil, arith}
+use Rattle.std.proofs.lemmas.Bool.{false≢true}
 use Rattle.std.proofs.lemmas.Bool.Decides.{nat_tests}
 use Rattle.std.proofs.lemmas.List.Folds.{list_any-append}
 use Rattle.outside_traits.specs.View.{Counts}
-use Rattle.plan_core.specs.PlainPlan.{PlainPlan}
-use Rattle.estimator.specs.Cuts.{Cuts}
 use Rattle.catalog_types.specs.PlainEntry.{PlainEntry}
-use Rattle.catalog_core.specs.Table.{Table}
 use Rattle.entry_table.specs.Ids.{is_among, is_there, without}
 use Rattle.work_run.specs.Ends.{CountsRead}
-use Rattle.work_turns.specs.Turns.{IsEndedTurn, HaveEnded}
+use Rattle.work_turns.specs.Turns.{AreTurns}
 
 -- ---- one more is left out
 
@@ -53,13 +49,11 @@ fewer ids id (e ∷ es) there =
 
 -- ---- one more turn ended
 
-module _ (t : Table) (plan form : PlainPlan) (cuts : Cuts) where
-  pub ended-more : (left_out ids : List ℕ) (bytes id more : ℕ) → HaveEnded t plan form cuts left_out ids bytes → IsEndedTurn t plan form cuts (left_out ++ ids) id more
-      → HaveEnded t plan form cuts left_out (ids ++ id ∷ []) (bytes + more)
-  ended-more left_out [] bytes id more none turn =
-      (more, 0, subst (λ (out : List ℕ). IsEndedTurn t plan form cuts out id more) (append-nil left_out) turn, refl, omega (arith, none))
-  ended-more left_out (x ∷ ids) bytes id more (first, rest, is, others, sum) turn =
-      (first, rest + more, is, ended-more (left_out ++ x ∷ []) ids rest id more others (subst (λ (out : List ℕ). IsEndedTurn t plan form cuts out id more) (sym (append_assoc left_out (x ∷ []) ids)) turn), omega (arith, sum))
+module _ (IsTurn : List ℕ → ℕ → ℕ → Type 0) where
+  pub turns-more : (left_out ids : List ℕ) (bytes id more : ℕ) → AreTurns IsTurn left_out ids bytes → IsTurn (left_out ++ ids) id more → AreTurns IsTurn left_out (ids ++ id ∷ []) (bytes + more)
+  turns-more left_out [] bytes id more none turn = (more, 0, subst (λ (out : List ℕ). IsTurn out id more) (append-nil left_out) turn, refl, omega (arith, none))
+  turns-more left_out (x ∷ ids) bytes id more (first, rest, is, others, sum) turn =
+      (first, rest + more, is, turns-more (left_out ++ x ∷ []) ids rest id more others (subst (λ (out : List ℕ). IsTurn out id more) (sym (append_assoc left_out (x ∷ []) ids)) turn), omega (arith, sum))
 
 -- ---- the bytes of turns, one behind another
 

@@ -19,11 +19,11 @@ use Rattle.plan_choice.specs.Leaving.{leaving_out}
 use Rattle.plan_choice.specs.Taken.{IsTaken}
 use Rattle.plan_choice.specs.declared.choosing.Choice.{Choice}
 use Rattle.work_run.specs.Ends.{CountsRead}
-use Rattle.work_turns.specs.Turns.{EndsTurn, HaveEnded, IsChosenOf, IsLastTurn, IsLost, IsOfChoice}
+use Rattle.work_turns.specs.Turns.{EndsTurn, HaveEnded, IsEndedTurn, IsChosenOf, IsLastTurn, IsLost, IsOfChoice}
 use Rattle.work_turns.specs.declared.turns.LastTurn.{LastTurn}
 use Rattle.work_turns.specs.declared.turns.Turn.{Turn}
 use Rattle.work_turns.specs.declared.turns.TurnEnd.TheVariants as turn
-use Rattle.work_turns.proofs.TurnLists.{counts-cut, counts-on, ended-more}
+use Rattle.work_turns.proofs.TurnLists.{counts-cut, counts-on, turns-more}
 
 -- turns ended at these results, which show damage, and so many bytes were taken
 abbrev pub Turned : Care → State → PlainPlan → PlainPlan → Cuts → List ℕ → ℕ → Counts → Counts → Type 0
@@ -40,7 +40,7 @@ module _ (care : Care) (s : State) (plan form : PlainPlan) (cuts : Cuts) (lost :
       let before : ended ≡ min so_far.0 (2 ^ 64 - 1) = so_far.3 in
       let here : found.taken ≡ min more (2 ^ 64 - 1) = taken in (
         so_far.0 + more,
-        ended-more (table s) plan form cuts [] lost so_far.0 found.id more so_far.1 ended_turn,
+        turns-more (IsEndedTurn (table s) plan form cuts) [] lost so_far.0 found.id more so_far.1 ended_turn,
         all-push (IsLost care s) lost found.id so_far.2 shows,
         omega (arith, is, before, here),
         counts-on so_far.0 more old half new so_far.4 (inl counted),

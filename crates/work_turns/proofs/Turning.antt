@@ -1,5 +1,5 @@
 -- A turn over a state's files that ends at the file of a kept result.
-use Rattle.std.proofs.Common.{◌≡◌, refl, sym, ap, ◌∙◌, subst, ℕ, ◌+◌, ◌≤◌, true, List, [], ◌∷◌, ◌++◌, arith}
+use Rattle.std.proofs.Common.{◌≡◌, refl, ap, ◌∙◌, subst, ℕ, ◌+◌, ◌≤◌, true, List, [], ◌∷◌, ◌++◌, arith}
 use Rattle.std.specs.List.{AllByRecursion}
 use Rattle.std.proofs.lemmas.List.Sums.{sum_by-cons}
 use Rattle.rows_core.specs.declared.file_ref.FileRef.{FileRef}
@@ -8,7 +8,7 @@ use Rattle.outside_traits.specs.Calls.{CountsTaken}
 use Rattle.plan_core.specs.PlainPlan.{PlainPlan}
 use Rattle.estimator.specs.Bytes.{capped}
 use Rattle.estimator.specs.Cuts.{Cuts}
-use Rattle.rewrite_core.specs.Files.{FileName, Result, files_of}
+use Rattle.rewrite_core.specs.Files.{FileName, Result}
 use Rattle.rewrite_core.specs.PlainRewriting.{PlainRewriting}
 use Rattle.catalog_core.specs.IsTable.{IsTable}
 use Rattle.catalog_core.specs.Named.{HasFile, file_at, bytes_named}

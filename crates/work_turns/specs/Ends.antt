@@ -1,5 +1,5 @@
 -- What work in turns comes to.
-use Rattle.std.specs.Prelude.{◌≡◌, ℕ, ◌+◌, ◌<◌, ◌≤◌, List, [], length, Option, Ok}
+use Rattle.std.specs.Prelude.{◌≡◌, ℕ, ◌+◌, ◌<◌, ◌≤◌, not, List, [], length, map, Option, Ok}
 use Rattle.std.specs.List.{AllByRecursion, filter}
 use Rattle.plan_core.specs.MachineTime.{machine_time}
 use Rattle.plan_core.specs.PlainPlan.{PlainPlan, plan_of}
@@ -15,20 +15,33 @@ use Rattle.catalog_core.specs.Named.{bytes_named}
 use Rattle.catalog_core.specs.Table.{Table}
 use Rattle.entry_table.specs.Ids as kept
 use Rattle.executor.specs.declared.outcome.KeptPlace.{KeptPlace}
+use Rattle.folder.specs.Next.{with_work}
 use Rattle.folder.specs.Sound.{Care}
 use Rattle.folder.specs.State.{State, table, lists_in}
 use Rattle.plan_choice.specs.Leaving as tables
 use Rattle.plan_choice.specs.Taken.{IsTaken}
 use Rattle.work_plan.specs.Fitting.{IsFit}
-use Rattle.work_run.specs.Ends.{AreNewFiles, HaveFewValues}
-use Rattle.work_run.specs.Working.{Keeps, most_machine_time}
+use Rattle.work_run.specs.Ends.{AreNewFiles, HaveFewValues, given_of}
+use Rattle.work_run.specs.Working.{Given, Keeps, most_machine_time}
 use Rattle.work_run.specs.declared.work.Work.{Work}
 use Rattle.work_turns.specs.Turns.{HaveEnded, IsLost}
 use Rattle.work_turns.specs.declared.turns.LastTurn.{LastTurn}
 
--- the ids of the entries that are among these
+-- the entries whose ids are among these
+abbrev pub entries_among : List ℕ → List PlainEntry → List PlainEntry
+entries_among ids entries = filter (λ e. kept.is_among ids e.id) entries
+
+-- their ids
 abbrev pub those_among : List ℕ → List PlainEntry → List ℕ
-those_among ids entries = kept.ids_of (filter (λ e. kept.is_among ids e.id) entries)
+those_among ids entries = kept.ids_of (entries_among ids entries)
+
+-- and the numbers of their files
+abbrev pub files_among : List ℕ → List PlainEntry → List ℕ
+files_among ids entries = map (λ e. e.file.file) (entries_among ids entries)
+
+-- those of these ids that aren't held
+abbrev pub free_of : List ℕ → List ℕ → List ℕ
+free_of held ids = filter (λ id. not (kept.is_among held id)) ids
 
 -- the state without these kept results
 abbrev pub leaving_out : List ℕ → State → State
@@ -50,20 +63,27 @@ pub record IsToldLast (t : Table) (last : LastTurn) : Type 0 where
   pub made : AllByRecursion (λ (kept : KeptPlace). IsFit t.streams (plan_of kept.plan) kept.cuts × (0 < kept.machine)) last.turn.outcome.made.items
 
 -- The rows are those of the plan as it is written, whatever is kept and whatever of it is damaged. Turns ended at the files of
--- results that show damage; over the others a least rewriting was taken, and what it makes is kept as it would be without them.
--- The bytes of all turns are told, and those results are dropped.
-pub record ComesInTurns (care : Care) (s : State) (program : Option Program) (plan form : PlainPlan) (cuts : Cuts) (work : Work) : Type 0 where
+-- results that show damage; over the others a least rewriting was taken. The bytes of all turns are told. Those results are dropped,
+-- but those that are held, and what the rewriting makes is kept as it would be without those that are dropped.
+pub record WorksInTurns (care : Care) (held : List ℕ) (s : State) (program : Option Program) (plan form : PlainPlan) (cuts : Cuts) (is : Given) (new : State) : Type 0 where
   pub lost : List ℕ
   pub bytes : ℕ
   pub ended : HaveEnded (table s) plan form cuts [] lost bytes
   pub shown : AllByRecursion (IsLost care s) lost
   pub rewriting : PlainRewriting
   pub taken : IsTaken (tables.leaving_out lost (table s)) plan form cuts rewriting
-  pub rows : plan_meaning plan (lists_in s.streams plan cuts) ≡ Ok work.rows.items
+  pub rows : plan_meaning plan (lists_in s.streams plan cuts) ≡ Ok is.rows
   pub within : machine_time form (lists_in s.streams form cuts) ≤ most_machine_time
-  pub used : AreIdsOf (files_of rewriting) work.used.items
-  pub read : work.read ≡ capped (bytes + bytes_named (table s) (files_of rewriting))
+  pub used : AreIdsOf (files_of rewriting) is.used
+  pub read : is.read ≡ capped (bytes + bytes_named (table s) (files_of rewriting))
   pub news : List PlainNewEntry
-  pub keeps : Keeps (leaving_out lost s) form cuts rewriting news work.plan.kept.items
-  pub change_is : work.plan.change ≡ change.Work program work.used.items (those_among lost s.entries) news
+  pub keeps : Keeps (leaving_out (free_of held lost) s) form cuts rewriting news is.kept
+  pub after : new ≡ with_work s program is.used (those_among (free_of held lost) s.entries) news
+
+-- it gives what work in turns gives, and what it records is the work that drops these results and keeps these new ones
+pub record ComesInTurns (care : Care) (held : List ℕ) (s : State) (program : Option Program) (plan form : PlainPlan) (cuts : Cuts) (work : Work) : Type 0 where
+  pub dropped : List ℕ
+  pub news : List PlainNewEntry
+  pub works : WorksInTurns care held s program plan form cuts (given_of work) (with_work s program work.used.items dropped news)
+  pub change_is : work.plan.change ≡ change.Work program work.used.items dropped news
   pub files : AreNewFiles s.streams news work.plan.files.items

@@ -1,6 +1,6 @@
 -- Turns of work: one ends at the file of a kept result whose bytes aren't what was kept of it, and in the next one a rewriting
 -- is taken of the other results.
-use Rattle.std.specs.Prelude.{◌≡◌, ℕ, ◌+◌, ◌<◌, ◌≤◌, List, [], ◌∷◌, ◌++◌, length, Ok}
+use Rattle.std.specs.Prelude.{◌≡◌, ℕ, ◌+◌, ◌<◌, ◌≤◌, Bool, List, [], ◌∷◌, ◌++◌, length, Ok, IsTrue}
 use Rattle.std.specs.List.{AllByRecursion}
 use Rattle.rows_core.specs.declared.file_ref.Digest.{Digest}
 use Rattle.outside_traits.specs.View.{Counts}
@@ -10,10 +10,14 @@ use Rattle.estimator.specs.Bytes.{capped}
 use Rattle.estimator.specs.Cuts.{Cuts}
 use Rattle.rewrite_core.specs.Files.{FileName, Result, AreIdsOf, files_of}
 use Rattle.rewrite_core.specs.PlainRewriting.{PlainRewriting, rewriting_of}
+use Rattle.growth_laws.specs.Pieces.{pieces_of}
 use Rattle.catalog_core.specs.Named.{HasFile, file_at, bytes_named}
 use Rattle.catalog_core.specs.Table.{Table}
 use Rattle.executor.specs.Outcomes.{AreKeptFrom, Finishes}
+use Rattle.executor.specs.Running.{TookAtMost}
+use Rattle.executor.specs.Runs.{HasRunCause, IsRunFound, IsOfExtent}
 use Rattle.executor.specs.declared.outcome.KeptPlace.{KeptPlace}
+use Rattle.executor.specs.declared.refusal.RunRefusal.{RunRefusal}
 use Rattle.folder.specs.Damage.{ShowsDamage}
 use Rattle.folder.specs.Files.{results_in}
 use Rattle.folder.specs.Sound.{Care}
@@ -23,7 +27,7 @@ use Rattle.plan_choice.specs.Taken.{IsTaken}
 use Rattle.plan_choice.specs.declared.choosing.Choice.{Choice}
 use Rattle.work_plan.specs.Fitting.{IsFit}
 use Rattle.work_run.specs.Chosen.{IsChosen}
-use Rattle.work_run.specs.Ends.{CountsRead, HaveFewValues}
+use Rattle.work_run.specs.Ends.{CountsRead, HaveFewValues, sources_of}
 use Rattle.work_turns.specs.declared.turns.LastTurn.{LastTurn}
 use Rattle.work_turns.specs.declared.turns.Turn.{Turn}
 use Rattle.work_turns.specs.declared.turns.TurnEnd.{TurnEnd}
@@ -52,13 +56,53 @@ pub record IsEndedTurn (t : Table) (plan form : PlainPlan) (cuts : Cuts) (left_o
   pub few : given ≤ (file_at t (Result id)).len
   pub bytes_are : bytes ≡ bytes_named t before + given
 
+-- behind results that were left out before, these were lost, one after another: each in such a turn, where those before it are left
+-- out too, and so many bytes count of these turns together
+abbrev pub AreTurns : (List ℕ → ℕ → ℕ → Type 0) → List ℕ → List ℕ → ℕ → Type 0
+AreTurns IsTurn left_out [] bytes = bytes ≡ 0
+AreTurns IsTurn left_out (id ∷ ids) bytes =
+    (first : ℕ) × (rest : ℕ) × IsTurn left_out id first × AreTurns IsTurn (left_out ++ id ∷ []) ids rest × (bytes ≡ first + rest)
+
 -- behind these results that were left out before, turns ended at the files of those, one after another, and so many bytes count
 -- of them together
 abbrev pub HaveEnded : Table → PlainPlan → PlainPlan → Cuts → List ℕ → List ℕ → ℕ → Type 0
-HaveEnded t plan form cuts left_out [] bytes = bytes ≡ 0
-HaveEnded t plan form cuts left_out (id ∷ ids) bytes =
-    (first : ℕ) × (rest : ℕ) × IsEndedTurn t plan form cuts left_out id first
-    × HaveEnded t plan form cuts (left_out ++ id ∷ []) ids rest × (bytes ≡ first + rest)
+HaveEnded t plan form cuts = AreTurns (IsEndedTurn t plan form cuts)
+
+-- ---- turns, whatever the files are
+
+-- the rewriting names the file of this result
+abbrev pub IsNamedBy : PlainRewriting → ℕ → Type 0
+IsNamedBy r id = (before : List FileName) × (others : List FileName) × (files_of r ≡ before ++ Result id ∷ others)
+
+-- A turn that was over at the file of this result: a rewriting was taken of the results that weren't left out before, which names
+-- that file, and whose files have so many bytes.
+pub record IsTurnOver (t : Table) (plan form : PlainPlan) (cuts : Cuts) (left_out : List ℕ) (id bytes : ℕ) : Type 0 where
+  pub rewriting : PlainRewriting
+  pub taken : IsTaken (leaving_out left_out t) plan form cuts rewriting
+  pub named : IsNamedBy rewriting id
+  pub bytes_are : bytes ≡ bytes_named t (files_of rewriting)
+
+-- this rewriting was taken, after turns that were over at the files of results
+pub record IsTakenAfter (t : Table) (plan form : PlainPlan) (cuts : Cuts) (r : PlainRewriting) : Type 0 where
+  pub lost : List ℕ
+  pub bytes : ℕ
+  pub over : AreTurns (IsTurnOver t plan form cuts) [] lost bytes
+  pub taken : IsTaken (leaving_out lost t) plan form cuts r
+
+-- no more bytes were taken than the files of those turns have, and of one more
+pub record TookInTurns (t : Table) (plan form : PlainPlan) (cuts : Cuts) (old new : Counts) : Type 0 where
+  pub rewriting : PlainRewriting
+  pub after : IsTakenAfter t plan form cuts rewriting
+  pub most : TookAtMost (after.bytes + bytes_named t (files_of rewriting)) old new
+
+-- Why there is no last turn: the store failed, or the file of an extent that a turn's rewriting names isn't what was kept of it, or
+-- its rows can't be made; where the store tells its files, by the bytes of that file.
+pub record HasCauseInTurns (tells : Bool) (t : Table) (plan form : PlainPlan) (cuts : Cuts) (files : ℕ → List ℕ) (old new : Counts) (why : RunRefusal) : Type 0 where
+  pub rewriting : PlainRewriting
+  pub after : IsTakenAfter t plan form cuts rewriting
+  pub cause : HasRunCause (file_at t) (files_of rewriting) old new why
+  pub of_extent : IsOfExtent (file_at t) rewriting why
+  pub found : IsTrue tells → IsRunFound (sources_of t files) (pieces_of rewriting) (files_of rewriting) why
 
 -- ---- how one turn ends
 
@@ -81,7 +125,7 @@ pub record IsOfChoice (t : Table) (choice : Choice) (done : Turn) : Type 0 where
 
 abbrev pub IsTold : Table → List ℕ → Choice → TurnEnd → Type 0
 IsTold t left_out choice (turn.Last done) = IsOfChoice t choice done
-IsTold t left_out choice (turn.Lost lost) = HasFile (leaving_out left_out t) (Result lost.id)
+IsTold t left_out choice (turn.Lost lost) = HasFile (leaving_out left_out t) (Result lost.id) × IsNamedBy (rewriting_of choice.rewriting) lost.id
 
 -- ---- what the last one gives
 

@@ -1,23 +1,47 @@
 //! The kept results that work drops.
 ghost use Rattle.std.specs.Prelude.{◌≡◌, IfOk};
 ghost use Rattle.entry_table.specs.Ids.{is_among};
-ghost use Rattle.work_turns.specs.Ends.{those_among};
+ghost use Rattle.work_turns.specs.Ends.{files_among, free_of, those_among};
 
 use catalog_types::Entry;
 use rows_core::Memory;
 use std::alloc::Global;
 
-/// The ids of those entries whose ids are among these, in the order of the entries.
-pub(crate) fn ids_among(alloc: Global, entries: &[Entry], ids: &[u32]) -> Result<Vec<u32>, Memory>
-    ensures { IfOk result (λ found. found.items ≡ those_among ids.now entries.now) }
+/// Kept results that are dropped: their ids, and the numbers of their files, in the same order.
+#[derive(Drop)]
+pub(crate) struct Dropped {
+    pub ids: Vec<u32>,
+    pub files: Vec<u64>,
+}
+
+/// Those of the entries that were lost and aren't held, in the order of the entries.
+pub(crate) fn dropped_results(
+    alloc: Global,
+    entries: &[Entry],
+    lost: &[u32],
+    held: &[u32],
+) -> Result<Dropped, Memory>
+    ensures ids { IfOk result
+        (λ dropped. dropped.ids.items ≡ those_among (free_of held.now lost.now) entries.now) }
+    ensures files { IfOk result
+        (λ dropped. dropped.files.items ≡ files_among (free_of held.now lost.now) entries.now) }
 {
-    let mut found = Vec::new(alloc);
+    let mut ids = Vec::new(alloc);
+    let mut files = Vec::new(alloc);
     for entry in entries {
-        if is_among(ids, entry.id) {
-            found.push(entry.id)?;
+        if is_dropped(lost, held, entry.id) {
+            ids.push(entry.id)?;
+            files.push(entry.file.file)?;
         }
     }
-    Ok(found)
+    Ok(Dropped { ids, files })
+}
+
+// Whether it was lost and isn't held.
+fn is_dropped(lost: &[u32], held: &[u32], id: u32) -> bool
+    ensures { result ≡ is_among (free_of held.now lost.now) id }
+{
+    is_among(lost, id) && !is_among(held, id)
 }
 
 // Whether it is one of the ids.

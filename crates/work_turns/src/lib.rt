@@ -7,4 +7,4 @@ pub mod turns;
 pub mod work;
 
 pub use turns::{LastTurn, Turn, TurnEnd, run_in_turns, take_turn};
-pub use work::work_in_turns;
+pub use work::{WorkInTurns, work_of_turns};

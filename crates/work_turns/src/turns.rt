@@ -22,7 +22,7 @@ ghost use Rattle.plan_choice.specs.Leaving.{leaving_out};
 ghost use Rattle.plan_choice.specs.Taken.{IsChoice};
 ghost use Rattle.work_run.specs.Ends.{IsRefusedWork, CountsRead, sources_of};
 ghost use Rattle.work_turns.specs.Ends.{IsToldLast};
-ghost use Rattle.work_turns.specs.Turns.{IsChosenOf, EndsTurn, IsTold, IsLastTurn};
+ghost use Rattle.work_turns.specs.Turns.{IsChosenOf, EndsTurn, IsTold, IsLastTurn, TookInTurns, HasCauseInTurns};
 
 use catalog_core::{Catalog, kept_results_of_tables};
 use executor::{LostResult, Outcome, RunRefusal, run};
@@ -132,7 +132,7 @@ pub fn take_turn<D: Store>(
 
 /// Runs a rewriting in turns, the first by this choice of the normal form: after each that ends at the file of a kept
 /// result, that result is left out, and a rewriting is taken anew of the others. A result that is lost is still in the
-/// catalogue. The refusals are those of a turn.
+/// catalogue. The refusals are those of a turn: `Damaged` and `Unreadable` come for extents alone.
 pub fn run_in_turns<D: Store>(
     alloc: Global,
     store: &mut D,
@@ -154,6 +154,14 @@ pub fn run_in_turns<D: Store>(
         → table_of catalog.now ≡ table s
         → IfOk result (λ last. CountsRead last.read (D.counts store.old) (D.counts store.new)) }
     ensures told { IfOk result (IsToldLast (table_of catalog.now)) }
+    ensures most { IsTrue D.tells → (plan : PlainPlan)
+        → IsChosenOf (table_of catalog.now) [] plan normal.now.plan cuts.now choice
+        → TookInTurns (table_of catalog.now) plan normal.now.plan cuts.now (D.counts store.old)
+        (D.counts store.new) }
+    ensures cause { (plan : PlainPlan)
+        → IsChosenOf (table_of catalog.now) [] plan normal.now.plan cuts.now choice
+        → IfErr result (HasCauseInTurns D.tells (table_of catalog.now) plan normal.now.plan cuts.now
+        (D.view store.old).files (D.counts store.old) (D.counts store.new)) }
     ensures no_fault { OnOk result ((D.counts store.new).reads ≡ (D.counts store.old).reads) }
     ensures narrows { Narrows (D.view store.old) (D.view store.new) }
     ensures counts { MayRaiseReads (D.counts store.old) (D.counts store.new) }
@@ -206,7 +214,7 @@ fn choose_again(
 }
 
 // What a catalogue holds is a table, which its readers say.
-fn know_table(catalog: &Catalog)
+pub(crate) fn know_table(catalog: &Catalog)
     ensures { IsTable (table_of catalog.now) }
 {
     let _ = catalog.streams();

@@ -12,6 +12,7 @@ use Rattle.work_turns.specs.Turns.{EndsTurn, IsChosenOf, IsTold}
 use Rattle.work_turns.proofs.LeftOut.{chosen_again, left_plan, left_root, left_taken}
 use Rattle.work_turns.proofs.TurnLists.{fewer}
 use Rattle.work_turns.proofs.TurnSteps.{Turned, last-is, last-read, turned-more, turned-none}
+use Rattle.work_turns.proofs.TurnsOver.{AreOver, has-cause, over-more, over-none, took-in-turns}
 use Rattle.work_turns.proofs.turns.run_in_turns.Goals as goal
 
 pub loop-lost-init : goal.loop-lost-init
@@ -20,6 +21,7 @@ loop-lost-init g c = record {
   counts = record { reads = omega arith; writes = refl; removes = refl; taken = omega arith };
   no_fault = refl;
   chosen = λ plan is. subst (λ (ids : List _). IsChosenOf (table_of c.args.catalog.now) ids plan c.args.normal.now.plan c.args.cuts.now c.args.choice) (sym c.new-lost.ensures.items) is;
+  over = λ plan is. over-none g.D.Store.tells (table_of c.args.catalog.now) plan c.args.normal.now.plan c.args.cuts.now c.new-lost.result.items c.new-lost.ensures.items (g.D.Store.counts c.args.store.now);
   turned = λ told care s plan left means is. turned-none care s plan c.args.normal.now.plan c.args.cuts.now c.new-lost.result.items c.new-lost.ensures.items (g.D.Store.counts c.args.store.now);
 }
 
@@ -47,7 +49,7 @@ loop-lost-smaller g c =
     let t = table_of c.args.catalog.now in
     let lost = c.loop-lost.lost.items in
     let told = subst (IsTold t lost c.loop-lost.next) c.in-Lost.is (c.in_ok-end.ensures.told lost q.0 c.args.normal.now.plan c.args.cuts.now (c.loop-lost.invariant.chosen q.0 q.1)) in
-    subst (λ (ids : List _). length (without ids t.entries) < length (without lost t.entries)) (sym c.in_ok-next-in-Lost.ensures.lost) (fewer lost c.in-Lost.found.id t.entries told)
+    subst (λ (ids : List _). length (without ids t.entries) < length (without lost t.entries)) (sym c.in_ok-next-in-Lost.ensures.lost) (fewer lost c.in-Lost.found.id t.entries told.0)
 
 pub loop-lost-preserved : goal.loop-lost-preserved
 loop-lost-preserved g c =
@@ -68,6 +70,12 @@ loop-lost-preserved g c =
       chosen = λ plan is.
           subst (λ (ids : List _). IsChosenOf t ids plan form cuts next) (sym c.in_ok-next-in-Lost.ensures.lost)
           (chosen_again c.taken_rewritings.ensures.serves t lost plan form cuts c.loop-lost.next (inv.chosen plan is) more next (c.in_ok-next-in-Lost.ensures.chosen plan) c.in_ok-next-in-Lost.ensures.form);
+      over = λ plan is.
+          let chosen = inv.chosen plan is in
+          let named = subst (IsTold t lost c.loop-lost.next) c.in-Lost.is (c.in_ok-end.ensures.told lost plan form cuts chosen) in
+          subst (λ (ids : List _). AreOver g.D.Store.tells t plan form cuts ids old new) (sym c.in_ok-next-in-Lost.ensures.lost)
+          (over-more g.D.Store.tells t plan form cuts lost old half new (inv.over plan is) (rewriting_of c.loop-lost.next.rewriting)
+          (left_taken c.taken_rewritings.ensures.serves c.taken_rewritings.ensures.more t lost plan form cuts c.loop-lost.next chosen) c.in-Lost.found.id named.1 c.take_turn.ensures.most);
       turned = λ told care s plan left means is.
           let now = c.left_stores.ensures.kept care s s c.args.store.now c.loop-lost.store inv.narrows left in
           let ends = subst (EndsTurn care s lost plan form cuts (rewriting_of c.loop-lost.next.rewriting) half new) c.in-Lost.is (c.in_ok-end.ensures.ends told care s lost plan form cuts now means (inv.chosen plan is)) in
@@ -83,6 +91,32 @@ returns-in_err-end-clause-err g c = λ told care s plan left means is.
     rw (p.1, p.2)
     (c.in_err-end.ensures.err told care s c.loop-lost.lost.items plan c.args.normal.now.plan c.args.cuts.now (c.left_stores.ensures.kept care s s c.args.store.now c.loop-lost.store inv.narrows left) means (inv.chosen plan is))
 
+pub returns-in_err-end-clause-cause : goal.returns-in_err-end-clause-cause
+returns-in_err-end-clause-cause g c = λ plan is.
+    let p = err_from_is_err_and c.from_residual.result c.from_residual.ensures.1 in
+    let inv = c.loop-lost.invariant in
+    let t = table_of c.args.catalog.now in
+    let form = c.args.normal.now.plan in
+    let cuts = c.args.cuts.now in
+    let lost = c.loop-lost.lost.items in
+    let old = g.D.Store.counts c.args.store.now in
+    let half = g.D.Store.counts c.loop-lost.store in
+    let new = g.D.Store.counts c.take_turn.new.store in
+    rw (p.1, p.2)
+    (has-cause g.D.Store.tells t plan form cuts lost old half new (inv.over plan is) (rewriting_of c.loop-lost.next.rewriting)
+    (left_taken c.taken_rewritings.ensures.serves c.taken_rewritings.ensures.more t lost plan form cuts c.loop-lost.next (inv.chosen plan is)) inv.no_fault inv.counts.taken
+    (g.D.Store.view c.args.store.now).files (g.D.Store.view c.loop-lost.store).files inv.narrows.same _ c.in_err-end.ensures.cause c.in_err-end.ensures.extents c.in_err-end.ensures.found)
+
+pub returns-in_err-end-clause-most : goal.returns-in_err-end-clause-most
+returns-in_err-end-clause-most g c = λ told plan is.
+    let inv = c.loop-lost.invariant in
+    let t = table_of c.args.catalog.now in
+    let form = c.args.normal.now.plan in
+    let cuts = c.args.cuts.now in
+    let lost = c.loop-lost.lost.items in
+    took-in-turns g.D.Store.tells t plan form cuts lost (g.D.Store.counts c.args.store.now) (g.D.Store.counts c.loop-lost.store) (g.D.Store.counts c.take_turn.new.store) (inv.over plan is) (rewriting_of c.loop-lost.next.rewriting)
+    (left_taken c.taken_rewritings.ensures.serves c.taken_rewritings.ensures.more t lost plan form cuts c.loop-lost.next (inv.chosen plan is)) told (c.take_turn.ensures.most told)
+
 pub returns-in_err-end-clause-narrows : goal.returns-in_err-end-clause-narrows
 returns-in_err-end-clause-narrows g c =
     narrows_on (g.D.Store.view c.args.store.now) (g.D.Store.view c.loop-lost.store) (g.D.Store.view c.take_turn.new.store) c.loop-lost.invariant.narrows c.take_turn.ensures.narrows
@@ -93,6 +127,32 @@ returns-in_err-end-clause-counts g c =
 
 pub returns-in_err-next-in-Lost-clause-err : goal.returns-in_err-next-in-Lost-clause-err
 returns-in_err-next-in-Lost-clause-err g c = λ told care s plan left means is. (let p = err_from_is_err_and c.from_residual-in_err-next-in-Lost.result c.from_residual-in_err-next-in-Lost.ensures.1 in rw (p.1, p.2) tt)
+
+pub returns-in_err-next-in-Lost-clause-cause : goal.returns-in_err-next-in-Lost-clause-cause
+returns-in_err-next-in-Lost-clause-cause g c = λ plan is.
+    let p = err_from_is_err_and c.from_residual-in_err-next-in-Lost.result c.from_residual-in_err-next-in-Lost.ensures.1 in
+    let inv = c.loop-lost.invariant in
+    let t = table_of c.args.catalog.now in
+    let form = c.args.normal.now.plan in
+    let cuts = c.args.cuts.now in
+    let lost = c.loop-lost.lost.items in
+    let old = g.D.Store.counts c.args.store.now in
+    let half = g.D.Store.counts c.loop-lost.store in
+    let new = g.D.Store.counts c.take_turn.new.store in
+    rw (p.1, p.2)
+    (has-cause g.D.Store.tells t plan form cuts lost old half new (inv.over plan is) (rewriting_of c.loop-lost.next.rewriting)
+    (left_taken c.taken_rewritings.ensures.serves c.taken_rewritings.ensures.more t lost plan form cuts c.loop-lost.next (inv.chosen plan is)) inv.no_fault inv.counts.taken
+    (g.D.Store.view c.args.store.now).files (g.D.Store.view c.loop-lost.store).files inv.narrows.same _ c.in_ok-end.ensures.no_fault tt (λ told. tt))
+
+pub returns-in_err-next-in-Lost-clause-most : goal.returns-in_err-next-in-Lost-clause-most
+returns-in_err-next-in-Lost-clause-most g c = λ told plan is.
+    let inv = c.loop-lost.invariant in
+    let t = table_of c.args.catalog.now in
+    let form = c.args.normal.now.plan in
+    let cuts = c.args.cuts.now in
+    let lost = c.loop-lost.lost.items in
+    took-in-turns g.D.Store.tells t plan form cuts lost (g.D.Store.counts c.args.store.now) (g.D.Store.counts c.loop-lost.store) (g.D.Store.counts c.take_turn.new.store) (inv.over plan is) (rewriting_of c.loop-lost.next.rewriting)
+    (left_taken c.taken_rewritings.ensures.serves c.taken_rewritings.ensures.more t lost plan form cuts c.loop-lost.next (inv.chosen plan is)) told (c.take_turn.ensures.most told)
 
 pub returns-in_err-next-in-Lost-clause-narrows : goal.returns-in_err-next-in-Lost-clause-narrows
 returns-in_err-next-in-Lost-clause-narrows g c =
@@ -141,6 +201,16 @@ returns-in-Last-clause-taken g c = λ told care s left means.
     let of_choice = subst (IsTold t lost next) c.in-Last.is (c.in_ok-end.ensures.told lost plan form cuts chosen) in
     last-read care s plan form cuts lost c.loop-lost.ended old half new (inv.turned told care s plan left means q.1) t means next chosen
     (left_taken c.taken_rewritings.ensures.serves c.taken_rewritings.ensures.more t lost plan form cuts next chosen) c.in-Last.done c.saturating_add-read.result c.saturating_add-read.ensures of_choice ends
+
+pub returns-in-Last-clause-most : goal.returns-in-Last-clause-most
+returns-in-Last-clause-most g c = λ told plan is.
+    let inv = c.loop-lost.invariant in
+    let t = table_of c.args.catalog.now in
+    let form = c.args.normal.now.plan in
+    let cuts = c.args.cuts.now in
+    let lost = c.loop-lost.lost.items in
+    took-in-turns g.D.Store.tells t plan form cuts lost (g.D.Store.counts c.args.store.now) (g.D.Store.counts c.loop-lost.store) (g.D.Store.counts c.take_turn.new.store) (inv.over plan is) (rewriting_of c.loop-lost.next.rewriting)
+    (left_taken c.taken_rewritings.ensures.serves c.taken_rewritings.ensures.more t lost plan form cuts c.loop-lost.next (inv.chosen plan is)) told (c.take_turn.ensures.most told)
 
 pub returns-in-Last-clause-no_fault : goal.returns-in-Last-clause-no_fault
 returns-in-Last-clause-no_fault g c = c.in_ok-end.ensures.no_fault ∙ c.loop-lost.invariant.no_fault

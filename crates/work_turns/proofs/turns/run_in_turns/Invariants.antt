@@ -10,6 +10,7 @@ use Rattle.folder.specs.Sound.{Care}
 use Rattle.folder.specs.State.{State, table}
 use Rattle.work_turns.specs.Turns.{IsChosenOf}
 use Rattle.work_turns.proofs.TurnSteps.{Turned}
+use Rattle.work_turns.proofs.TurnsOver.{AreOver}
 use Rattle.work_turns.proofs.turns.run_in_turns.Given as goal
 
 abbrev pub invariant-loop-lost : goal.invariant-loop-lost
@@ -18,6 +19,8 @@ invariant-loop-lost g l = record {
   counts : MayRaiseReads (g.D.Store.counts l.fn.store) (g.D.Store.counts l.store);
   no_fault : (g.D.Store.counts l.store).reads ≡ (g.D.Store.counts l.fn.store).reads;
   chosen : (plan : PlainPlan) → IsChosenOf (table_of l.catalog) [] plan l.normal.plan l.cuts l.fn.choice → IsChosenOf (table_of l.catalog) l.lost.items plan l.normal.plan l.cuts l.next;
+  over : (plan : PlainPlan) → IsChosenOf (table_of l.catalog) [] plan l.normal.plan l.cuts l.fn.choice
+      → AreOver g.D.Store.tells (table_of l.catalog) plan l.normal.plan l.cuts l.lost.items (g.D.Store.counts l.fn.store) (g.D.Store.counts l.store);
   turned : IsTrue g.D.Store.tells → (care : Care) (s : State) (plan : PlainPlan) → IsLeft care (g.D.Store.view l.fn.store) s s → table_of l.catalog ≡ table s
       → IsChosenOf (table_of l.catalog) [] plan l.normal.plan l.cuts l.fn.choice
       → Turned care s plan l.normal.plan l.cuts l.lost.items l.ended (g.D.Store.counts l.fn.store) (g.D.Store.counts l.store);

@@ -134,8 +134,8 @@ returns-in-Some-clause-told g c = λ left_out plan form cuts is.
     let r = rewriting_of c.args.choice.rewriting in
     let files = (g.D.Store.view c.args.store.now).files in
     let loses = subst (λ (o : Option LostResult). EndsAt (sources g.D.Store.tells files (file_at t) (machine_at t) (kinds_of_streams t.streams)) r (g.D.Store.counts c.args.store.now) (g.D.Store.counts c.run.new.store) c.in-Err.ended.why o) c.in-Some.is c.in-Err.ensures.lost in
-    named (HasFile (leaving_out left_out t)) (files_of r) loses.before loses.others (Result c.in-Some.lost.id) loses.names
-    (left_files c.serving_rewritings.ensures.there c.taken_rewritings.ensures.serves t left_out plan form cuts c.args.choice is (c.results_are_left_out.ensures.table t left_out c.know_table.ensures))
+    let files_there = left_files c.serving_rewritings.ensures.there c.taken_rewritings.ensures.serves t left_out plan form cuts c.args.choice is (c.results_are_left_out.ensures.table t left_out c.know_table.ensures) in
+    (named (HasFile (leaving_out left_out t)) (files_of r) loses.before loses.others (Result c.in-Some.lost.id) loses.names files_there, (loses.before, loses.others, loses.names))
 
 -- ---- where it ends at an extent, or by something else
 
