@@ -1,7 +1,5 @@
 -- The choice for a plan that is worked off is one for that plan at its cut.
-use Rattle.std.proofs.Common.{◌≡◌, ◌≤◌, length, IsOk, Result, Ok, Err, refl, sym, ap, subst, arith}
-use Rattle.std.specs.Prelude.{IfOk}
-use Rattle.rows_core.specs.declared.memory.Memory.{Memory}
+use Rattle.std.proofs.Common.{◌≡◌, ◌∙◌, ◌≤◌, [], length, IsOk, refl, sym, ap, subst, arith}
 use Rattle.plan_core.specs.Literals.{HasValidLiterals}
 use Rattle.plan_core.specs.Nesting.{node_count, expr_count, nesting}
 use Rattle.plan_core.specs.PlainPlan.{PlainPlan, plan_of, leaves}
@@ -14,11 +12,13 @@ use Rattle.rewrite_core.specs.PlainRewriting.{PlainRewriting, rewriting_of}
 use Rattle.catalog_core.specs.Programs.{AreCuts, kinds_of_streams}
 use Rattle.catalog_core.specs.Results.{IsOver}
 use Rattle.catalog_core.specs.Table.{Table}
+use Rattle.plan_choice.specs.Leaving.{leaving_out}
 use Rattle.plan_choice.specs.Taken.{IsTaken, IsChoice}
 use Rattle.plan_choice.specs.declared.choosing.Choice.{Choice}
 use Rattle.planning.specs.Running.{Target, IsTypedAt}
 use Rattle.work_plan.specs.Fitting.{IsFit}
 use Rattle.work_run.specs.Chosen.{IsChosen}
+use Rattle.work_turns.specs.Turns.{IsChosenOf}
 
 abbrev AllTaken : (P : (t : Table) (plan normal : PlainPlan) (cuts : Cuts) (r : PlainRewriting) → Type 0) → Type 0
 AllTaken P = (t : Table) (plan normal : PlainPlan) (cuts : Cuts) (r : PlainRewriting) → IsTaken t plan normal cuts r → P t plan normal cuts r
@@ -46,15 +46,14 @@ module _ (over : AllTaken (λ t plan normal cuts r. IsOk (plan_typing (kinds_of_
           few = omega (arith, ap length (same_leaves t target.plan is.normal cuts r is.taken), nine);
         }
 
-    pub chosen_for : IsChoice t typed.plan cuts choice → IsChosen t target.plan cuts choice
-    chosen_for is =
-        let choice_is : IsChoice t target.plan cuts choice = subst (λ (p : PlainPlan). IsChoice t p cuts choice) plan_is.plan is in
-        record { choice_is = choice_is; typed = has_typing; are_cuts = plan_is.are_cuts; fit = fit_for choice_is }
+    pub chosen_for : IsChoice t target.plan cuts choice → IsChosen t target.plan cuts choice
+    chosen_for is = record { choice_is = is; typed = has_typing; are_cuts = plan_is.are_cuts; fit = fit_for is }
 
-  pub chosen_result : (result : Result Choice Memory) → IfOk result (IsChoice t typed.plan cuts) → IfOk result (λ choice. HasPlanSpelling (plan_of choice.rewriting.plan)) → IfOk result (λ choice. HasValidLiterals (plan_of choice.rewriting.plan))
-      → IfOk result (λ choice. (target : Target) → IsTypedAt t target typed cuts → IsChosen t target.plan cuts choice)
-  chosen_result (Ok choice) is spelled literals = λ target plan_is. chosen_for target choice plan_is spelled literals is
-  chosen_result (Err none) is spelled literals = tt
+    -- so it is as the first of turns
+    pub of_form : leaving_out [] t ≡ t → (form : PlainPlan) → plan_of choice.rewriting.plan ≡ form → IsChoice t target.plan cuts choice → IsChosenOf t [] target.plan form cuts choice
+    of_form none form same is =
+        let moved : IsChosen (leaving_out [] t) target.plan cuts choice = subst (λ (x : Table). IsChosen x target.plan cuts choice) (sym none) (chosen_for is) in
+        record { chosen = moved; form_is = sym moved.choice_is.taken.least.is.0 ∙ same }
 
 -- the same table and cut
 pub typed_there : (t u : Table) → t ≡ u → (target : Target) (typed : TypedPlan) (cuts given : Cuts) → given ≡ cuts → IsTypedAt t target typed cuts → IsTypedAt u target typed given

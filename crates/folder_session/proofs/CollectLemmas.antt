@@ -1,20 +1,18 @@
 -- A collection, and what is told of kept results.
-use Rattle.std.proofs.Common.{◌≡◌, ◌⊎◌, ◌↔◌, inl, inr, refl, sym, ap, ◌∙◌, subst, ℕ, ◌<◌, ◌==◌, nat_le, Bool, true, false, IsTrue, List, [], ◌∷◌, map, Result, Ok, Err, IfOk, OnOk, IsErrOf, arith}
+use Rattle.std.proofs.Common.{◌≡◌, ◌⊎◌, ◌↔◌, inl, inr, refl, sym, ap, ◌∙◌, subst, ℕ, ◌<◌, ◌==◌, ◌||◌, nat_le, Bool, true, false, IsTrue, List, [], ◌∷◌, map, Err, IsErrOf, arith}
 use Rattle.std.specs.List.{All, AllByRecursion, Contains}
-use Rattle.std.proofs.lemmas.Bool.{eq-eqb}
+use Rattle.std.proofs.lemmas.Bool.{eq-eqb, eqb-true}
 use Rattle.std.proofs.lemmas.Bool.Decides.{nat_tests}
-use Rattle.std.proofs.lemmas.List.Elements.{All-contains, All-from_recursion}
+use Rattle.std.proofs.lemmas.List.Elements.{All-from_recursion}
 use Rattle.std.proofs.lemmas.List.Folds.{list_any_at}
 use Rattle.std.proofs.lemmas.List.Sorted.{list_any-IsPermutation}
-use Rattle.outside_traits.specs.Counts.{Rose}
-use Rattle.outside_traits.specs.View.{View, Counts}
-use Rattle.outside_traits.specs.declared.failed.Failed.{Failed}
-use Rattle.outside_traits.proofs.RunLemmas.{narrows_none, spans_of, spans_on, spans_wider}
+use Rattle.outside_traits.specs.View.{View}
+use Rattle.outside_traits.proofs.RunLemmas.{narrows_none, spans_wider}
 use Rattle.rewrite_core.proofs.Looking.{Contains-first, Contains-behind, Contains-cons_cases}
 use Rattle.catalog_types.specs.PlainEntry.{PlainEntry}
 use Rattle.catalog_types.specs.declared.change.Change.{Change}
 use Rattle.catalog_types.specs.declared.change.Change.TheVariants as change
-use Rattle.entry_table.specs.Ids.{is_among, without}
+use Rattle.entry_table.specs.Ids.{is_among, is_there, without}
 use Rattle.catalog_core.specs.IsTable.{IsTable}
 use Rattle.catalog_core.specs.Table.{Table, Fits, FitsCollection, most_ticks, after}
 use Rattle.catalog_core.proofs.AskedResults.{found-own}
@@ -30,15 +28,13 @@ use Rattle.script_text.specs.declared.answer.LimitKind.TheVariants as limit
 use Rattle.script_text.specs.declared.item.Command.{Command}
 use Rattle.script_text.specs.declared.item.Command.TheVariants as command
 use Rattle.planning.specs.Recorded.{IsRecordOf}
-use Rattle.outside_traits.specs.Runs.{ChangesOnly}
 use Rattle.journal_store.specs.Journals.{generation_of}
 use Rattle.journal_store.specs.Readings.{generation_file}
 use Rattle.journal_store.specs.declared.journal.Journal.{Journal}
 use Rattle.folder.specs.declared.folder.Folder.{Folder}
 use Rattle.folder.specs.Folders.{journal_of, table_in}
 use Rattle.folder.specs.Next.{with_collection}
-use Rattle.folder.specs.Removing.{IsFree, ChangesAmong}
-use Rattle.folder.specs.Removing as removing
+use Rattle.folder.specs.Removing.{IsFree}
 use Rattle.folder.specs.Replay.{is_checkpoint}
 use Rattle.folder.specs.Sound.{Care}
 use Rattle.folder.specs.Standing.{IsNext}
@@ -47,8 +43,9 @@ use Rattle.folder_session.specs.declared.session.FolderSession.{FolderSession}
 use Rattle.folder_session.specs.Causes.{SparesStore, TellsOfNoFile}
 use Rattle.folder_session.specs.Machine as machine
 use Rattle.folder_session.specs.Machine.{outcome, refused, IsEvent, CollectsTo}
-use Rattle.folder_session.specs.Standing.{Stands, Performs, LeavesWhereRefused, MayChange, ChangesAtMost, AreGone, LeavesNoFile, folder_of}
+use Rattle.folder_session.specs.Standing.{Stands, Performs, IsLogInUse, LeavesWhereRefused, MayChange, ChangesAtMost, RecordsAndRemoves, folder_of}
 use Rattle.folder_session.specs.WorkRefusals.{collection_refusal}
+use Rattle.folder_session.proofs.DroppedLemmas.{HaveFiles, was_taken}
 use Rattle.folder_session.proofs.StepLemmas.{since_none, want_event}
 
 -- ---- what is told
@@ -58,11 +55,11 @@ abbrev pub Tells : (Table → Answer) → Table → Answer → Type 0
 Tells told t given = (given ≡ told t) ⊎ (given ≡ answer.Refused refusal.Memory)
 
 module _ (care : Care) (v : View) (session session' : FolderSession) (s : State) (stands : Stands care v session s) (same : session' ≡ session) (held : List ℕ) (c : Command) (told : Table → Answer)
-    (performs : machine.Performs held s c (outcome (told (table s)) s)) where
+    (performs : machine.Performs care held s c (outcome (told (table s)) s)) where
   pub tells_list : (given : Answer) → Tells told (table_in (folder_of session)) given → Performs care v v held session' s c given
   tells_list given (inl is) = record {
     new = s;
-    step = inl (subst (λ (a : Answer). machine.Performs held s c (outcome a s)) (sym (is ∙ ap told stands.means.table_is)) performs);
+    step = inl (subst (λ (a : Answer). machine.Performs care held s c (outcome a s)) (sym (is ∙ ap told stands.means.table_is)) performs);
     stands = subst (λ (x : FolderSession). Stands care v x s) (sym same) stands;
     since = since_none care v session s stands;
   }
@@ -107,14 +104,14 @@ is_full ticks most = by (nat_le most_ticks ticks) refl
 
 module _ (care : Care) (held : List ℕ) (t : Table) (s : State) (same : t ≡ table s) (reclaim : ℕ) where
   pub collected_err : (why : CollectionRefusal) → IsErrOf {T = CollectionPlan} (Err why) collection.Commands ↔ (t.tick ≡ most_ticks)
-      → machine.Performs held s (command.Collect reclaim) (refused s (collection_refusal why)) ⊎ IsEvent care s (command.Collect reclaim) (collection_refusal why)
+      → machine.Performs care held s (command.Collect reclaim) (refused s (collection_refusal why)) ⊎ IsEvent care s (command.Collect reclaim) (collection_refusal why)
   collected_err collection.Commands exactly =
       let full : t.tick ≡ most_ticks = exactly.0 refl in
       let ticks : s.tick ≡ most_ticks = ap (λ (x : Table). x.tick) (sym same) ∙ full in
       inl (subst (λ b. CollectsTo b held s reclaim (refused s (refusal.Limit limit.Commands))) (sym (is_full s.tick ticks)) refl)
   collected_err collection.Memory exactly = inr tt
 
-  pub collected_ok : (plan : CollectionPlan) → IsCollectionPlan t held reclaim plan → machine.Performs held s (command.Collect reclaim) (outcome (answer.Evicted plan.ids.items plan.bytes) (with_collection s plan.ids.items))
+  pub collected_ok : (plan : CollectionPlan) → IsCollectionPlan t held reclaim plan → machine.Performs care held s (command.Collect reclaim) (outcome (answer.Evicted plan.ids.items plan.bytes) (with_collection s plan.ids.items))
   collected_ok plan is =
       let fits : FitsCollection is.ascending t = subst (λ (c : Change). Fits c t) is.change is.fits in
       let low = fits.counted in
@@ -185,20 +182,20 @@ module _ (names_free : NamesFree) (t : Table) (is_table : IsTable t) (held : Lis
 
 -- they are the files of kept results, and of those that went
 module _ (t : Table) (is_table : IsTable t) (held : List ℕ) (reclaim : ℕ) (plan : CollectionPlan) (is : IsCollectionPlan t held reclaim plan) where
-  pub are_gone : (v : View) (old mid new : Counts) → mid.removes ≡ old.removes → Rose mid.removes new.removes ⊎ removing.AreGone v plan.files.items → AreGone t plan.ids.items v old new
-  are_gone v old mid new same (inl rose) = inl (subst (λ n. Rose n new.removes) same rose)
-  are_gone v old mid new same (inr gone) = inr (λ e has named.
-      let file : (file_of t e.id).file ≡ e.file.file = ap (λ file. file.file) (found-own t e is_table has).0 in
-      subst (λ n. v.there n ≡ false) file
-      (All-contains (λ n. v.there n ≡ false) plan.files.items (file_of t e.id).file gone
-      (subst (λ (files : List ℕ). Contains files (file_of t e.id).file) (sym is.files) (contains_files plan.ids.items e.id named))))
+  pub have_files : HaveFiles t (after plan.change t) plan.files.items
+  have_files e has out =
+      let gone = was_taken is.ascending t.entries e has (ap (λ (c : Change). is_there (after c t).entries e.id) (sym is.change) ∙ out) in
+      let named : is_among plan.ids.items e.id ≡ true = list_any-IsPermutation (λ (other : ℕ). other == e.id) plan.ids.items is.ascending is.same ∙ gone in
+      subst (λ (files : List ℕ). Contains files e.file.file) (sym is.files)
+      (subst (λ (n : ℕ). Contains (files_of t plan.ids.items) n) (ap (λ file. file.file) (found-own t e is_table has).0) (contains_files plan.ids.items e.id named))
     where
-      contains_files : (ids : List ℕ) (id : ℕ) → Contains ids id → Contains (files_of t ids) (file_of t id).file
-      contains_files [] id has = absurd (omega (arith, has.1))
-      contains_files (x ∷ ids) id has = elim (Contains-cons_cases x ids id has) [
-        | inl is ↦ subst (λ (y : ℕ). Contains (files_of t (x ∷ ids)) (file_of t y).file) is (Contains-first (file_of t x).file (files_of t ids))
-        | inr more ↦ Contains-behind (file_of t x).file (files_of t ids) (file_of t id).file (contains_files ids id more)
-      ]
+      contains_files : (ids : List ℕ) (id : ℕ) → is_among ids id ≡ true → Contains (files_of t ids) (file_of t id).file
+      contains_files [] id named = absurd cc
+      contains_files (x ∷ ids) id named = by (x == id) refl named (contains_files ids id)
+        where
+          by : (b : Bool) → (x == id) ≡ b → b || is_among ids id ≡ true → (is_among ids id ≡ true → Contains (files_of t ids) (file_of t id).file) → Contains (files_of t (x ∷ ids)) (file_of t id).file
+          by true same named rest = subst (λ (y : ℕ). Contains (files_of t (x ∷ ids)) (file_of t y).file) (eqb-true x id same) (Contains-first (file_of t x).file (files_of t ids))
+          by false same named rest = Contains-behind (file_of t x).file (files_of t ids) (file_of t id).file (rest named)
 
   -- each of them is a kept result's
   of_results : (es : List PlainEntry) → ((e : PlainEntry) → Contains es e → Contains t.entries e) → (file : ℕ) → Contains (files_of t (map (λ (e : PlainEntry). e.id) es)) file → (e : PlainEntry) × Contains t.entries e × (e.file.file ≡ file)
@@ -216,17 +213,14 @@ module _ (t : Table) (is_table : IsTable t) (held : List ℕ) (reclaim : ℕ) (p
 -- ---- which files are changed
 
 -- a collection that is recorded and whose files are then removed
-module _ (t : Table) (held : List ℕ) (reclaim : ℕ) (plan : CollectionPlan) (is_table : IsTable t) (is : IsCollectionPlan t held reclaim plan) (folder : Folder) (same : t ≡ table_in folder) (u v w : View) where
-  pub changes_log : (wanted : ℕ) → ChangesOnly (generation_file (generation_of (journal_of folder))) u v → ChangesAtMost folder (command.Collect wanted) u v
-  changes_log wanted run = spans_of (generation_file (generation_of (journal_of folder))) (λ x. Unit {0}) (MayChange folder (command.Collect wanted)) (λ image. Unit {0}) u v run (inl refl) (λ image here others. tt)
-
-  changes_results : (wanted : ℕ) → ChangesAmong plan.files.items v w → ChangesAtMost folder (command.Collect wanted) v w
-  changes_results wanted run = spans_wider (Contains plan.files.items) (MayChange folder (command.Collect wanted)) (λ image. Unit {0}) (λ image. Unit {0}) v w run
-      (λ file has. inr (let of = file_of_result t is_table held reclaim plan is file has in (of.0, subst (λ (x : Table). Contains x.entries of.0) same of.1, of.2)))
+module _ (t : Table) (held : List ℕ) (reclaim : ℕ) (plan : CollectionPlan) (is_table : IsTable t) (is : IsCollectionPlan t held reclaim plan) (folder : Folder) (same : t ≡ table_in folder) (u v : View) where
+  pub changes_collected : (wanted : ℕ) → RecordsAndRemoves folder plan.files.items u v → ChangesAtMost folder (command.Collect wanted) u v
+  changes_collected wanted run = spans_wider (λ file. IsLogInUse folder file ⊎ Contains plan.files.items file) (MayChange folder (command.Collect wanted)) (λ image. Unit {0}) (λ image. Unit {0}) u v run
+      (λ file may. elim may [
+        | inl log ↦ inl log
+        | inr has ↦ inr (let of = file_of_result t is_table held reclaim plan is file has in (of.0, subst (λ (x : Table). Contains x.entries of.0) same of.1, of.2))
+      ])
       (λ image any others. tt)
-
-  pub changes_both : (wanted : ℕ) → ChangesOnly (generation_file (generation_of (journal_of folder))) u v → ChangesAmong plan.files.items v w → ChangesAtMost folder (command.Collect wanted) u w
-  changes_both wanted first then = spans_on (MayChange folder (command.Collect wanted)) (λ image. Unit {0}) u v w (changes_log wanted first) (changes_results wanted then)
 
 -- a session that is the same but for the memory that it has taken
 pub changes_prepared : (u v : View) (wanted : ℕ) (session session' : FolderSession) → table_in (folder_of session') ≡ table_in (folder_of session) → journal_of (folder_of session') ≡ journal_of (folder_of session)
@@ -238,19 +232,3 @@ changes_prepared u v wanted session session' t j changes =
     either : (file : ℕ) → MayChange (folder_of session') (command.Collect wanted) file → MayChange (folder_of session) (command.Collect wanted) file
     either file (inl log) = inl (subst (λ (x : Journal). file ≡ generation_file (generation_of x)) j log)
     either file (inr of) = inr (of.0, subst (λ (x : Table). Contains x.entries of.0) t of.1, of.2)
-
--- ---- which files are left
-
-pub gone_prepared : {T E : Type 0} (result : Result T E) (t t' : Table) (ids : List ℕ) (v : View) (old new : Counts) → t' ≡ t → OnOk result (AreGone t' ids v old new) → OnOk result (AreGone t ids v old new)
-gone_prepared (Ok x) t t' ids v old new same gone = subst (λ (y : Table). AreGone y ids v old new) same gone
-gone_prepared (Err e) t t' ids v old new same gone = tt
-
-pub left_as_told : (t : Table) (reclaim : ℕ) (ids : List ℕ) (bytes : ℕ) (v : View) (old new : Counts) (result : Result (FolderSession × Answer) Failed) → IfOk result (λ next. next.1 ≡ answer.Evicted ids bytes) → OnOk result (AreGone t ids v old new)
-    → IfOk result (λ next. LeavesNoFile t (command.Collect reclaim) next.1 v old new)
-left_as_told t reclaim ids bytes v old new (Ok next) is gone = subst (λ (a : Answer). LeavesNoFile t (command.Collect reclaim) a v old new) (sym is) gone
-left_as_told t reclaim ids bytes v old new (Err failed) is gone = tt
-
--- of a command that is no collection nothing is said
-pub nothing_left : {P : Type 0} → P → (result : Result (FolderSession × Answer) Failed) → IfOk result (λ next. P)
-nothing_left p (Ok next) = p
-nothing_left p (Err failed) = tt

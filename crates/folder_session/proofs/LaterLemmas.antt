@@ -24,10 +24,6 @@ pub prepared_later : (held : List ℕ) (t u : Table) → u ≡ t → (result : R
 prepared_later held t u same (Ok next) later = subst (λ (x : Table). IsLater held x (table_in (folder_of next.0))) same later
 prepared_later held t u same (Err failed) later = tt
 
--- none of none is held
-pub none_free : (held : List ℕ) → AreFree held []
-none_free held = λ id has. absurd (omega (arith, has.1))
-
 -- a collection takes none that is held
 named_taken : (taken : List PlainEntry) (id : ℕ) → Contains (map (λ (e : PlainEntry). e.id) taken) id → (e : PlainEntry) × Contains taken e × (e.id ≡ id)
 named_taken [] id has = absurd (omega (arith, has.1))

@@ -1,5 +1,6 @@
 pub mod ChosenLemmas
 pub mod CollectLemmas
+pub mod DroppedLemmas
 pub mod FileLemmas
 pub mod LaterLemmas
 pub mod LeavingLemmas
@@ -10,4 +11,5 @@ pub mod RefusalLemmas
 pub mod RowLemmas
 pub mod StepLemmas
 pub mod TakenLemmas
+pub mod TurnLemmas
 pub mod WorkLemmas

@@ -1,5 +1,5 @@
 -- A command that leaves no choice has one outcome, and each refusal comes where its cause holds.
-use Rattle.std.proofs.Common.{◌≡◌, ◌≤◌, ℕ, nat_le, Bool, true, false, List, [], Option, None, Some, Result, Ok, Err, refl, sym, ap, ◌∙◌, subst, ◌⊎◌, inl, inr, arith}
+use Rattle.std.proofs.Common.{◌≡◌, ◌≤◌, ℕ, nat_le, Bool, true, false, List, Option, None, Some, Result, Ok, Err, refl, sym, ap, ◌∙◌, subst, ◌⊎◌, inl, inr, arith}
 use Rattle.scalar_ops.specs.Meaning.{overflow}
 use Rattle.catalog_types.specs.declared.change.Change.{Change}
 use Rattle.catalog_types.specs.declared.program.Program.{Program}
@@ -35,7 +35,8 @@ use Rattle.script_text.specs.declared.item.Command.TheVariants as command
 use Rattle.folder.specs.Sound.{Care}
 use Rattle.folder.specs.Next.{with_collection}
 use Rattle.folder.specs.State.{State, table, kinds_in, lists_in}
-use Rattle.work_run.specs.Working.{Works, Overflows, IsDear, given, most_machine_time}
+use Rattle.work_run.specs.Working.{Overflows, IsDear, given, most_machine_time}
+use Rattle.work_turns.specs.Ends.{WorksInTurns}
 use Rattle.folder_session.specs.Machine.{Outcome, outcome, refused, made, appended, RunsTo, FetchesTo, CollectsTo, IsWorkOn, Performs, Step}
 use Rattle.folder_session.specs.Outcomes.{AgreeOn, Agree}
 use Rattle.folder_session.specs.Refusals.{IsRefusedOn, IsRunRefused, IsFetchRefused, IsCollectionRefused, IsRefusedFor, IsOtherEvent, HasTwoRefusals, RunHasNoChoice, HasNoChoice}
@@ -43,10 +44,10 @@ use Rattle.folder_session.proofs.OneReading.{one_append}
 
 -- ---- work, by what it met
 
-data WorksAs (s : State) (program : Option Program) (plan : PlainPlan) (cuts : Cuts) (told : Answer) (new : State) : Type 0 where
-  Gave : (rows : Rows) (used kept : List ℕ) (read : ℕ) → told ≡ answer.Result rows used kept read → Works s program plan cuts (given rows used kept read) new → WorksAs s program plan cuts told new
-  Overflowed : told ≡ Refused refusal.Overflow → new ≡ s → Overflows s plan cuts → WorksAs s program plan cuts told new
-  Passed : told ≡ Refused (refusal.Limit limit.Machine) → new ≡ s → IsDear s plan cuts → WorksAs s program plan cuts told new
+data WorksAs (care : Care) (held : List ℕ) (s : State) (program : Option Program) (plan : PlainPlan) (cuts : Cuts) (told : Answer) (new : State) : Type 0 where
+  Gave : (rows : Rows) (used kept : List ℕ) (read : ℕ) (form : PlainPlan) → told ≡ answer.Result rows used kept read → WorksInTurns care held s program plan form cuts (given rows used kept read) new → WorksAs care held s program plan cuts told new
+  Overflowed : told ≡ Refused refusal.Overflow → new ≡ s → Overflows s plan cuts → WorksAs care held s program plan cuts told new
+  Passed : told ≡ Refused (refusal.Limit limit.Machine) → new ≡ s → IsDear s plan cuts → WorksAs care held s program plan cuts told new
 
 ok_or_not : {A : Type 0} (r : Result A Overflow) (x : A) → r ≡ Ok x → r ≡ Err overflow → ⊥
 ok_or_not r x is not = cc
@@ -75,61 +76,61 @@ agree_same x y a b told state = subst (λ (z : Answer). AgreeOn x a z b) told (s
 outcomes_agree : (x y : Outcome) → x ≡ y → Agree x y
 outcomes_agree x y same = agree_same x.answer y.answer x.state y.state (ap (λ o. o.answer) same) (ap (λ o. o.state) same)
 
-module _ (one : HaveOneNormalForm) (s : State) (program : Option Program) (plan : PlainPlan) (cuts : Cuts) where
+module _ (one : HaveOneNormalForm) (care : Care) (held : List ℕ) (s : State) (program : Option Program) (plan : PlainPlan) (cuts : Cuts) where
   abbrev As : Answer → State → Type 0
-  As told new = WorksAs s program plan cuts told new
+  As told new = WorksAs care held s program plan cuts told new
 
-  works_as : (told : Answer) (new : State) → IsWorkOn s program plan cuts told new → As told new
-  works_as (answer.Result rows used kept read) new works = Gave rows used kept read refl works
+  works_as : (told : Answer) (new : State) → IsWorkOn care held s program plan cuts told new → As told new
+  works_as (answer.Result rows used kept read) new works = Gave rows used kept read works.0 refl works.1
   works_as (Refused refusal.Overflow) new works = Overflowed refl works.1 works.0
   works_as (Refused (refusal.Limit limit.Machine)) new works = Passed refl works.1 works.0
   works_as _ new works = absurd works
 
   -- the machine time of work that is done isn't above the limit
-  not_dear : (rows : Rows) (used kept : List ℕ) (read : ℕ) (new : State) → Works s program plan cuts (given rows used kept read) new → IsDear s plan cuts → ⊥
-  not_dear rows used kept read new works dear =
-      let same : works.normal ≡ dear.normal = one (kinds_in s.streams) plan works.normal dear.normal works.taken.normal dear.is_normal in
-      let within : machine_time dear.normal (lists_in s.streams dear.normal cuts) ≤ most_machine_time = subst (λ (p : PlainPlan). machine_time p (lists_in s.streams p cuts) ≤ most_machine_time) same works.by.within in
+  not_dear : (rows : Rows) (used kept : List ℕ) (read : ℕ) (form : PlainPlan) (new : State) → WorksInTurns care held s program plan form cuts (given rows used kept read) new → IsDear s plan cuts → ⊥
+  not_dear rows used kept read form new works dear =
+      let same : form ≡ dear.normal = one (kinds_in s.streams) plan form dear.normal works.taken.normal dear.is_normal in
+      let within : machine_time dear.normal (lists_in s.streams dear.normal cuts) ≤ most_machine_time = subst (λ (p : PlainPlan). machine_time p (lists_in s.streams p cuts) ≤ most_machine_time) same works.within in
       let above = dear.above in
       omega (arith, within, above)
 
-  results_agree : (rows others : Rows) (used kept used_by kept_by : List ℕ) (read read_by : ℕ) (a b : State) → Works s program plan cuts (given rows used kept read) a → Works s program plan cuts (given others used_by kept_by read_by) b
+  results_agree : (rows others : Rows) (used kept used_by kept_by : List ℕ) (read read_by : ℕ) (form other : PlainPlan) (a b : State) → WorksInTurns care held s program plan form cuts (given rows used kept read) a → WorksInTurns care held s program plan other cuts (given others used_by kept_by read_by) b
       → AgreeOn (answer.Result rows used kept read) a (answer.Result others used_by kept_by read_by) b
-  results_agree rows others used kept used_by kept_by read read_by a b first second = (
-    same_ok _ rows others first.by.rows second.by.rows,
+  results_agree rows others used kept used_by kept_by read read_by form other a b first second = (
+    same_ok _ rows others first.rows second.rows,
     record {
-      tick = ap (λ x. x.tick) first.by.after ∙ sym (ap (λ x. x.tick) second.by.after);
-      streams = ap (λ x. x.streams) first.by.after ∙ sym (ap (λ x. x.streams) second.by.after);
-      programs = ap (λ x. x.programs) first.by.after ∙ sym (ap (λ x. x.programs) second.by.after);
+      tick = ap (λ x. x.tick) first.after ∙ sym (ap (λ x. x.tick) second.after);
+      streams = ap (λ x. x.streams) first.after ∙ sym (ap (λ x. x.streams) second.after);
+      programs = ap (λ x. x.programs) first.after ∙ sym (ap (λ x. x.programs) second.after);
     },
   )
 
   module _ (x y : Answer) (a b : State) where
     by_kinds : (Overflows s plan cuts × IsDear s plan cuts → ⊥) → As x a → As y b → AgreeOn x a y b
-    by_kinds single (Gave rows used kept read is works) (Gave others used_by kept_by read_by is' works') =
-        subst (λ (z : Answer). AgreeOn z a y b) (sym is) (subst (λ (z : Answer). AgreeOn (answer.Result rows used kept read) a z b) (sym is') (results_agree rows others used kept used_by kept_by read read_by a b works works'))
-    by_kinds single (Gave rows used kept read is works) (Overflowed is' state' over') = absurd (ok_or_not _ rows works.by.rows over')
-    by_kinds single (Gave rows used kept read is works) (Passed is' state' dear') = absurd (not_dear rows used kept read a works dear')
-    by_kinds single (Overflowed is state over) (Gave others used kept read is' works') = absurd (ok_or_not _ others works'.by.rows over)
+    by_kinds single (Gave rows used kept read form is works) (Gave others used_by kept_by read_by other is' works') =
+        subst (λ (z : Answer). AgreeOn z a y b) (sym is) (subst (λ (z : Answer). AgreeOn (answer.Result rows used kept read) a z b) (sym is') (results_agree rows others used kept used_by kept_by read read_by form other a b works works'))
+    by_kinds single (Gave rows used kept read form is works) (Overflowed is' state' over') = absurd (ok_or_not _ rows works.rows over')
+    by_kinds single (Gave rows used kept read form is works) (Passed is' state' dear') = absurd (not_dear rows used kept read form a works dear')
+    by_kinds single (Overflowed is state over) (Gave others used kept read form is' works') = absurd (ok_or_not _ others works'.rows over)
     by_kinds single (Overflowed is state over) (Overflowed is' state' over') = agree_same x y a b (is ∙ sym is') (state ∙ sym state')
     by_kinds single (Overflowed is state over) (Passed is' state' dear') = absurd (single (over, dear'))
-    by_kinds single (Passed is state dear) (Gave others used kept read is' works') = absurd (not_dear others used kept read b works' dear)
+    by_kinds single (Passed is state dear) (Gave others used kept read form is' works') = absurd (not_dear others used kept read form b works' dear)
     by_kinds single (Passed is state dear) (Overflowed is' state' over') = absurd (single (over', dear))
     by_kinds single (Passed is state dear) (Passed is' state' dear') = agree_same x y a b (is ∙ sym is') (state ∙ sym state')
 
 -- ---- one outcome
 
-module _ (one : HaveOneNormalForm) (s : State) (a b : Outcome) where
-  one_run : (planned : Result Run Refusal) → RunHasNoChoice s planned → RunsTo s planned a → RunsTo s planned b → Agree a b
+module _ (one : HaveOneNormalForm) (care : Care) (held : List ℕ) (s : State) (a b : Outcome) where
+  one_run : (planned : Result Run Refusal) → RunHasNoChoice s planned → RunsTo care held s planned a → RunsTo care held s planned b → Agree a b
   one_run (Ok run) single p q =
-      by_kinds one s (Some run.program) run.plan run.program.cuts a.answer b.answer a.state b.state single
-      (works_as one s (Some run.program) run.plan run.program.cuts a.answer a.state p) (works_as one s (Some run.program) run.plan run.program.cuts b.answer b.state q)
+      by_kinds one care held s (Some run.program) run.plan run.program.cuts a.answer b.answer a.state b.state single
+      (works_as one care held s (Some run.program) run.plan run.program.cuts a.answer a.state p) (works_as one care held s (Some run.program) run.plan run.program.cuts b.answer b.state q)
   one_run (Err why) single p q = outcomes_agree a b (p ∙ sym q)
 
-  one_fetch : (planned : Result Target Refusal) → ((target : Target) → planned ≡ Ok target → HasTwoRefusals s target.plan target.cuts → ⊥) → FetchesTo s planned a → FetchesTo s planned b → Agree a b
+  one_fetch : (planned : Result Target Refusal) → ((target : Target) → planned ≡ Ok target → HasTwoRefusals s target.plan target.cuts → ⊥) → FetchesTo care held s planned a → FetchesTo care held s planned b → Agree a b
   one_fetch (Ok target) single p q =
-      by_kinds one s None target.plan target.cuts a.answer b.answer a.state b.state (single target refl)
-      (works_as one s None target.plan target.cuts a.answer a.state p) (works_as one s None target.plan target.cuts b.answer b.state q)
+      by_kinds one care held s None target.plan target.cuts a.answer b.answer a.state b.state (single target refl)
+      (works_as one care held s None target.plan target.cuts a.answer a.state p) (works_as one care held s None target.plan target.cuts b.answer b.state q)
   one_fetch (Err why) single p q = outcomes_agree a b (p ∙ sym q)
 
 -- ---- a name stands for one plan
@@ -161,18 +162,18 @@ one_collected once false held s reclaim a b ranked p q =
     let same = once (table s) held reclaim ranked p.0 q.0 p.1 q.1 p.2 q.2 in
     outcomes_agree a b (p.3 ∙ (λ i. outcome (answer.Evicted (same.0 i) (same.1 i)) (with_collection s (same.0 i))) ∙ sym q.3)
 
-pub same_outcome : HaveOneNormalForm → HaveOnePlan → HaveOneCollection → (held : List ℕ) (s : State) (given_to : Command) (a b : Outcome) → HasNoChoice s given_to → Performs held s given_to a → Performs held s given_to b → Agree a b
-same_outcome one texts once held s (command.Stream name columns) a b none p q = outcomes_agree a b (p ∙ sym q)
-same_outcome one texts once held s (command.Append name lines) a b none p q =
+pub same_outcome : HaveOneNormalForm → HaveOnePlan → HaveOneCollection → (care : Care) (held : List ℕ) (s : State) (given_to : Command) (a b : Outcome) → HasNoChoice s given_to → Performs care held s given_to a → Performs care held s given_to b → Agree a b
+same_outcome one texts once care held s (command.Stream name columns) a b none p q = outcomes_agree a b (p ∙ sym q)
+same_outcome one texts once care held s (command.Append name lines) a b none p q =
     outcomes_agree a b (p.2 ∙ ap (appended s) (one_append (table s) (place_of (table s).streams name) name lines p.0 q.0 p.1 q.1) ∙ sym q.2)
-same_outcome one texts once held s (command.Run name tree) a b single p q = one_run one s a b (running (table s) name tree) single p q
-same_outcome one texts once held s (command.Fetch name as_run) a b single p q =
-    one_fetch one s a b p.0 (λ target is. single target (subst (IsFetching (table s) name as_run) is p.1)) p.2
-    (subst (λ (planned : Result Target Refusal). FetchesTo s planned b) (one_fetching texts (table s) name as_run p.0 q.0 p.1 q.1) q.2)
-same_outcome one texts once held s (command.Collect reclaim) a b ranked p q = one_collected once (nat_le most_ticks s.tick) held s reclaim a b ranked p q
-same_outcome one texts once held s command.Entries a b none p q = outcomes_agree a b (p ∙ sym q)
-same_outcome one texts once held s command.Catalog a b none p q = outcomes_agree a b (p ∙ sym q)
-same_outcome one texts once held s _ a b none p q = absurd p
+same_outcome one texts once care held s (command.Run name tree) a b single p q = one_run one care held s a b (running (table s) name tree) single p q
+same_outcome one texts once care held s (command.Fetch name as_run) a b single p q =
+    one_fetch one care held s a b p.0 (λ target is. single target (subst (IsFetching (table s) name as_run) is p.1)) p.2
+    (subst (λ (planned : Result Target Refusal). FetchesTo care held s planned b) (one_fetching texts (table s) name as_run p.0 q.0 p.1 q.1) q.2)
+same_outcome one texts once care held s (command.Collect reclaim) a b ranked p q = one_collected once (nat_le most_ticks s.tick) held s reclaim a b ranked p q
+same_outcome one texts once care held s command.Entries a b none p q = outcomes_agree a b (p ∙ sym q)
+same_outcome one texts once care held s command.Catalog a b none p q = outcomes_agree a b (p ∙ sym q)
+same_outcome one texts once care held s _ a b none p q = absurd p
 
 -- ---- where the cause of a refusal holds
 
@@ -180,40 +181,40 @@ same_outcome one texts once held s _ a b none p q = absurd p
 abbrev GivesOrOther : State → Refusal → Outcome → Type 0
 GivesOrOther s why told = (told ≡ refused s why) ⊎ ((other : Refusal) × IsOtherEvent why other × (told ≡ refused s other))
 
-module _ (one : HaveOneNormalForm) (s : State) (told : Outcome) where
+module _ (one : HaveOneNormalForm) (care : Care) (held : List ℕ) (s : State) (told : Outcome) where
   is_refused : (other : Refusal) → told.answer ≡ Refused other → told.state ≡ s → told ≡ refused s other
   is_refused other answers states = λ i. outcome (answers i) (states i)
 
-  comes : (program : Option Program) (plan : PlainPlan) (cuts : Cuts) (why : Refusal) → WorksAs s program plan cuts told.answer told.state → IsRefusedOn s plan cuts why → GivesOrOther s why told
-  comes program plan cuts refusal.Overflow (Gave rows used kept read is works) over = absurd (ok_or_not _ rows works.by.rows over)
+  comes : (program : Option Program) (plan : PlainPlan) (cuts : Cuts) (why : Refusal) → WorksAs care held s program plan cuts told.answer told.state → IsRefusedOn s plan cuts why → GivesOrOther s why told
+  comes program plan cuts refusal.Overflow (Gave rows used kept read form is works) over = absurd (ok_or_not _ rows works.rows over)
   comes program plan cuts refusal.Overflow (Overflowed is state over') over = inl (is_refused refusal.Overflow is state)
   comes program plan cuts refusal.Overflow (Passed is state dear) over = inr (refusal.Limit limit.Machine, refl, is_refused (refusal.Limit limit.Machine) is state)
-  comes program plan cuts (refusal.Limit limit.Machine) (Gave rows used kept read is works) dear = absurd (not_dear one s program plan cuts rows used kept read told.state works dear)
+  comes program plan cuts (refusal.Limit limit.Machine) (Gave rows used kept read form is works) dear = absurd (not_dear one care held s program plan cuts rows used kept read form told.state works dear)
   comes program plan cuts (refusal.Limit limit.Machine) (Overflowed is state over) dear = inr (refusal.Overflow, refl, is_refused refusal.Overflow is state)
   comes program plan cuts (refusal.Limit limit.Machine) (Passed is state dear') dear = inl (is_refused (refusal.Limit limit.Machine) is state)
   comes program plan cuts _ met none = absurd none
 
-  run_exactly : (why : Refusal) (planned : Result Run Refusal) → RunsTo s planned told → IsRunRefused s planned why → GivesOrOther s why told
-  run_exactly why (Ok run) done holds = comes (Some run.program) run.plan run.program.cuts why (works_as one s (Some run.program) run.plan run.program.cuts told.answer told.state done) holds
+  run_exactly : (why : Refusal) (planned : Result Run Refusal) → RunsTo care held s planned told → IsRunRefused s planned why → GivesOrOther s why told
+  run_exactly why (Ok run) done holds = comes (Some run.program) run.plan run.program.cuts why (works_as one care held s (Some run.program) run.plan run.program.cuts told.answer told.state done) holds
   run_exactly why (Err planned) done holds = inl (done ∙ ap (refused s) holds)
 
-  fetch_exactly : (why : Refusal) (planned : Result Target Refusal) → FetchesTo s planned told → IsFetchRefused s planned why → GivesOrOther s why told
-  fetch_exactly why (Ok target) done holds = comes None target.plan target.cuts why (works_as one s None target.plan target.cuts told.answer told.state done) holds
+  fetch_exactly : (why : Refusal) (planned : Result Target Refusal) → FetchesTo care held s planned told → IsFetchRefused s planned why → GivesOrOther s why told
+  fetch_exactly why (Ok target) done holds = comes None target.plan target.cuts why (works_as one care held s None target.plan target.cuts told.answer told.state done) holds
   fetch_exactly why (Err planned) done holds = inl (done ∙ ap (refused s) holds)
 
-  collection_exactly : (why : Refusal) (full : Bool) (held : List ℕ) (reclaim : ℕ) → full ≡ nat_le most_ticks s.tick → CollectsTo full held s reclaim told → IsCollectionRefused s why → GivesOrOther s why told
-  collection_exactly (refusal.Limit limit.Commands) true held reclaim is done most = inl done
-  collection_exactly (refusal.Limit limit.Commands) false held reclaim is done most = absurd (grind (arith, nat_tests))
-  collection_exactly _ full held reclaim is done none = absurd none
+  collection_exactly : (why : Refusal) (full : Bool) (reclaim : ℕ) → full ≡ nat_le most_ticks s.tick → CollectsTo full held s reclaim told → IsCollectionRefused s why → GivesOrOther s why told
+  collection_exactly (refusal.Limit limit.Commands) true reclaim is done most = inl done
+  collection_exactly (refusal.Limit limit.Commands) false reclaim is done most = absurd (grind (arith, nat_tests))
+  collection_exactly _ full reclaim is done none = absurd none
 
-pub refused_exactly : HaveOneNormalForm → HaveOnePlan → (held : List ℕ) (s : State) (given_to : Command) (told : Outcome) (why : Refusal) → Performs held s given_to told → IsRefusedFor s given_to why → GivesOrOther s why told
-refused_exactly one texts held s (command.Stream name columns) told why done holds = inl (done ∙ ap (made s name columns) holds)
-refused_exactly one texts held s (command.Append name lines) told why done holds = inl (done.2 ∙ ap (appended s) (one_append (table s) (place_of (table s).streams name) name lines done.0 (Err why) done.1 holds))
-refused_exactly one texts held s (command.Run name tree) told why done holds = run_exactly one s told why (running (table s) name tree) done holds
-refused_exactly one texts held s (command.Fetch name as_run) told why done holds =
-    fetch_exactly one s told why done.0 done.2 (subst (λ (planned : Result Target Refusal). IsFetchRefused s planned why) (one_fetching texts (table s) name as_run done.0 holds.0 done.1 holds.1) holds.2)
-refused_exactly one texts held s (command.Collect reclaim) told why done holds = collection_exactly one s told why (nat_le most_ticks s.tick) held reclaim refl done holds
-refused_exactly one texts held s _ told why done holds = absurd holds
+pub refused_exactly : HaveOneNormalForm → HaveOnePlan → (care : Care) (held : List ℕ) (s : State) (given_to : Command) (told : Outcome) (why : Refusal) → Performs care held s given_to told → IsRefusedFor s given_to why → GivesOrOther s why told
+refused_exactly one texts care held s (command.Stream name columns) told why done holds = inl (done ∙ ap (made s name columns) holds)
+refused_exactly one texts care held s (command.Append name lines) told why done holds = inl (done.2 ∙ ap (appended s) (one_append (table s) (place_of (table s).streams name) name lines done.0 (Err why) done.1 holds))
+refused_exactly one texts care held s (command.Run name tree) told why done holds = run_exactly one care held s told why (running (table s) name tree) done holds
+refused_exactly one texts care held s (command.Fetch name as_run) told why done holds =
+    fetch_exactly one care held s told why done.0 done.2 (subst (λ (planned : Result Target Refusal). IsFetchRefused s planned why) (one_fetching texts (table s) name as_run done.0 holds.0 done.1 holds.1) holds.2)
+refused_exactly one texts care held s (command.Collect reclaim) told why done holds = collection_exactly one care held s told why (nat_le most_ticks s.tick) reclaim refl done holds
+refused_exactly one texts care held s _ told why done holds = absurd holds
 
 -- ---- the cause of a refusal
 
@@ -230,35 +231,35 @@ module _ (s new : State) (why : Refusal) where
   appended_cause (Ok append) e = let answers : Refused why ≡ answer.Held _ = ap (λ o. o.answer) e in absurd (cc)
   appended_cause (Err told) e = ap Err (same_refusal s new why told e)
 
-  work_cause : (program : Option Program) (plan : PlainPlan) (cuts : Cuts) (w : Refusal) → IsWorkOn s program plan cuts (Refused w) new → IsRefusedOn s plan cuts w × (new ≡ s)
-  work_cause program plan cuts refusal.Overflow is = is
-  work_cause program plan cuts (refusal.Limit limit.Machine) is = is
-  work_cause program plan cuts _ is = absurd is
+  work_cause : (care : Care) (held : List ℕ) (program : Option Program) (plan : PlainPlan) (cuts : Cuts) (w : Refusal) → IsWorkOn care held s program plan cuts (Refused w) new → IsRefusedOn s plan cuts w × (new ≡ s)
+  work_cause care held program plan cuts refusal.Overflow is = is
+  work_cause care held program plan cuts (refusal.Limit limit.Machine) is = is
+  work_cause care held program plan cuts _ is = absurd is
 
-  run_cause : (planned : Result Run Refusal) → RunsTo s planned (outcome (Refused why) new) → IsRunRefused s planned why
-  run_cause (Ok run) done = (work_cause (Some run.program) run.plan run.program.cuts why done).0
-  run_cause (Err told) done = same_refusal s new why told done
+  run_cause : (care : Care) (held : List ℕ) (planned : Result Run Refusal) → RunsTo care held s planned (outcome (Refused why) new) → IsRunRefused s planned why
+  run_cause care held (Ok run) done = (work_cause care held (Some run.program) run.plan run.program.cuts why done).0
+  run_cause care held (Err told) done = same_refusal s new why told done
 
-  fetch_cause : (planned : Result Target Refusal) → FetchesTo s planned (outcome (Refused why) new) → IsFetchRefused s planned why
-  fetch_cause (Ok target) done = (work_cause None target.plan target.cuts why done).0
-  fetch_cause (Err told) done = same_refusal s new why told done
+  fetch_cause : (care : Care) (held : List ℕ) (planned : Result Target Refusal) → FetchesTo care held s planned (outcome (Refused why) new) → IsFetchRefused s planned why
+  fetch_cause care held (Ok target) done = (work_cause care held None target.plan target.cuts why done).0
+  fetch_cause care held (Err told) done = same_refusal s new why told done
 
   collection_cause : (full : Bool) (held : List ℕ) (reclaim : ℕ) → full ≡ nat_le most_ticks s.tick → CollectsTo full held s reclaim (outcome (Refused why) new) → IsCollectionRefused s why
   collection_cause true held reclaim is done = subst (IsCollectionRefused s) (same_refusal s new why (refusal.Limit limit.Commands) done) (grind (arith, nat_tests))
   collection_cause false held reclaim is done = let answers : Refused why ≡ answer.Evicted done.0 done.1 = ap (λ o. o.answer) done.3 in absurd (cc)
 
-  refused_cause : (held : List ℕ) (given_to : Command) → Performs held s given_to (outcome (Refused why) new) → IsRefusedFor s given_to why
-  refused_cause held (command.Stream name columns) done = made_cause name columns (making (table s) name columns) done
-  refused_cause held (command.Append name lines) done = subst (λ planned. IsAppending (table s) name lines planned) (appended_cause done.0 done.2) done.1
-  refused_cause held (command.Run name tree) done = run_cause (running (table s) name tree) done
-  refused_cause held (command.Fetch name as_run) done = (done.0, done.1, fetch_cause done.0 done.2)
-  refused_cause held (command.Collect reclaim) done = collection_cause (nat_le most_ticks s.tick) held reclaim refl done
-  refused_cause held command.Entries done = let answers : Refused why ≡ answer.Entries _ = ap (λ o. o.answer) done in absurd (cc)
-  refused_cause held command.Catalog done = let answers : Refused why ≡ answer.Catalog _ = ap (λ o. o.answer) done in absurd (cc)
-  refused_cause held _ done = absurd done
+  refused_cause : (care : Care) (held : List ℕ) (given_to : Command) → Performs care held s given_to (outcome (Refused why) new) → IsRefusedFor s given_to why
+  refused_cause care held (command.Stream name columns) done = made_cause name columns (making (table s) name columns) done
+  refused_cause care held (command.Append name lines) done = subst (λ planned. IsAppending (table s) name lines planned) (appended_cause done.0 done.2) done.1
+  refused_cause care held (command.Run name tree) done = run_cause care held (running (table s) name tree) done
+  refused_cause care held (command.Fetch name as_run) done = (done.0, done.1, fetch_cause care held done.0 done.2)
+  refused_cause care held (command.Collect reclaim) done = collection_cause (nat_le most_ticks s.tick) held reclaim refl done
+  refused_cause care held command.Entries done = let answers : Refused why ≡ answer.Entries _ = ap (λ o. o.answer) done in absurd (cc)
+  refused_cause care held command.Catalog done = let answers : Refused why ≡ answer.Catalog _ = ap (λ o. o.answer) done in absurd (cc)
+  refused_cause care held _ done = absurd done
 
-pub cause_of : (held : List ℕ) (s new : State) (given_to : Command) (why : Refusal) → Performs held s given_to (outcome (Refused why) new) → IsRefusedFor s given_to why
-cause_of held s new given_to why done = refused_cause s new why held given_to done
+pub cause_of : (care : Care) (held : List ℕ) (s new : State) (given_to : Command) (why : Refusal) → Performs care held s given_to (outcome (Refused why) new) → IsRefusedFor s given_to why
+cause_of care held s new given_to why done = refused_cause s new why care held given_to done
 
 -- ---- no refusal changes the state
 
@@ -271,30 +272,30 @@ module _ (s new : State) (why : Refusal) where
   appended_keeps (Ok append) e = let answers : Refused why ≡ answer.Held _ = ap (λ o. o.answer) e in absurd (cc)
   appended_keeps (Err told) e = ap (λ o. o.state) e
 
-  run_keeps : (planned : Result Run Refusal) → RunsTo s planned (outcome (Refused why) new) → new ≡ s
-  run_keeps (Ok run) done = (work_cause s new why (Some run.program) run.plan run.program.cuts why done).1
-  run_keeps (Err told) done = ap (λ o. o.state) done
+  run_keeps : (care : Care) (held : List ℕ) (planned : Result Run Refusal) → RunsTo care held s planned (outcome (Refused why) new) → new ≡ s
+  run_keeps care held (Ok run) done = (work_cause s new why care held (Some run.program) run.plan run.program.cuts why done).1
+  run_keeps care held (Err told) done = ap (λ o. o.state) done
 
-  fetch_keeps : (planned : Result Target Refusal) → FetchesTo s planned (outcome (Refused why) new) → new ≡ s
-  fetch_keeps (Ok target) done = (work_cause s new why None target.plan target.cuts why done).1
-  fetch_keeps (Err told) done = ap (λ o. o.state) done
+  fetch_keeps : (care : Care) (held : List ℕ) (planned : Result Target Refusal) → FetchesTo care held s planned (outcome (Refused why) new) → new ≡ s
+  fetch_keeps care held (Ok target) done = (work_cause s new why care held None target.plan target.cuts why done).1
+  fetch_keeps care held (Err told) done = ap (λ o. o.state) done
 
   collection_keeps : (full : Bool) (held : List ℕ) (reclaim : ℕ) → CollectsTo full held s reclaim (outcome (Refused why) new) → new ≡ s
   collection_keeps true held reclaim done = ap (λ o. o.state) done
   collection_keeps false held reclaim done = let answers : Refused why ≡ answer.Evicted done.0 done.1 = ap (λ o. o.answer) done.3 in absurd (cc)
 
-  performed_keeps : (held : List ℕ) (given_to : Command) → Performs held s given_to (outcome (Refused why) new) → new ≡ s
-  performed_keeps held (command.Stream name columns) done = made_keeps name columns (making (table s) name columns) done
-  performed_keeps held (command.Append name lines) done = appended_keeps done.0 done.2
-  performed_keeps held (command.Run name tree) done = run_keeps (running (table s) name tree) done
-  performed_keeps held (command.Fetch name as_run) done = fetch_keeps done.0 done.2
-  performed_keeps held (command.Collect reclaim) done = collection_keeps (nat_le most_ticks s.tick) held reclaim done
-  performed_keeps held command.Entries done = ap (λ o. o.state) done
-  performed_keeps held command.Catalog done = ap (λ o. o.state) done
-  performed_keeps held _ done = absurd done
+  performed_keeps : (care : Care) (held : List ℕ) (given_to : Command) → Performs care held s given_to (outcome (Refused why) new) → new ≡ s
+  performed_keeps care held (command.Stream name columns) done = made_keeps name columns (making (table s) name columns) done
+  performed_keeps care held (command.Append name lines) done = appended_keeps done.0 done.2
+  performed_keeps care held (command.Run name tree) done = run_keeps care held (running (table s) name tree) done
+  performed_keeps care held (command.Fetch name as_run) done = fetch_keeps care held done.0 done.2
+  performed_keeps care held (command.Collect reclaim) done = collection_keeps (nat_le most_ticks s.tick) held reclaim done
+  performed_keeps care held command.Entries done = ap (λ o. o.state) done
+  performed_keeps care held command.Catalog done = ap (λ o. o.state) done
+  performed_keeps care held _ done = absurd done
 
 pub state_kept : (care : Care) (held : List ℕ) (s new : State) (given_to : Command) (why : Refusal) → Step care held s given_to (Refused why) new → new ≡ s
 state_kept care held s new given_to why step = elim step [
-  | inl done ↦ performed_keeps s new why held given_to done
+  | inl done ↦ performed_keeps s new why care held given_to done
   | inr event ↦ ap (λ o. o.state) event.2
 ]

@@ -1,6 +1,7 @@
 -- Which refusals are laid to the store.
-use Rattle.std.proofs.Common.{◌≡◌, ◌⊎◌, ℕ, Bool, true, false, cond, List, Option, None, Some, Ok, Err, Result, IfOk, IfErr, refl, sym, ap, ◌∙◌, subst, inl, inr}
-use Rattle.std.specs.Prelude.{nat_le, nat_lt, is_some, length}
+use Rattle.std.proofs.Common.{◌≡◌, ◌⊎◌, ℕ, Bool, true, false, cond, List, [], ◌∷◌, Option, None, Some, Ok, Err, Result, IfOk, IfErr, refl, sym, ap, ◌∙◌, subst, inl, inr}
+use Rattle.std.specs.Prelude.{nat_le, nat_lt, is_some, length, IsTrue}
+use Rattle.std.specs.List.{AllByRecursion}
 use Rattle.rows_core.specs.declared.file_ref.Digest.{Digest}
 use Rattle.rows_core.specs.declared.file_ref.FileRef.{FileRef}
 use Rattle.rows_core.specs.declared.schema.Column.{Column}
@@ -13,13 +14,13 @@ use Rattle.outside_traits.specs.View.{Counts}
 use Rattle.outside_traits.specs.declared.failed.Failed.{Failed}
 use Rattle.catalog_types.specs.declared.program.Program.{Program}
 use Rattle.estimator.specs.Cuts.{Cuts}
+use Rattle.catalog_core.specs.Named.{file_at}
 use Rattle.catalog_core.specs.Programs.{extents_at, most_text_bytes, program_named, with_program}
 use Rattle.catalog_core.specs.Table.{Table, place_of, most_ticks, most_streams, most_programs, file_end, most_extents, most_extents_in_all, most_extent_bytes, extent_count}
 use Rattle.plan_binder.specs.declared.refusal.BindRefusal.{BindRefusal}
 use Rattle.plan_binder.specs.declared.refusal.BindRefusal.TheVariants as binding
 use Rattle.plan_core.specs.declared.refusal.PlanRefusal.{PlanRefusal}
 use Rattle.plan_core.specs.declared.refusal.PlanRefusal.TheVariants as typing
-use Rattle.plan_core.specs.Columns.{Rows}
 use Rattle.plan_core.specs.PlainPlan.{PlainPlan}
 use Rattle.plan_core.specs.PlanTyping.{Kinds}
 use Rattle.plan_grammar.specs.PlainNamed.{PlainTree}
@@ -29,7 +30,6 @@ use Rattle.growth_laws.specs.Pieces.{pieces_of}
 use Rattle.executor.specs.Runs.{HasRunCause, IsRunFound}
 use Rattle.executor.specs.declared.refusal.RunRefusal.{RunRefusal}
 use Rattle.executor.specs.declared.refusal.RunRefusal.TheVariants as run
-use Rattle.plan_choice.specs.Taken.{IsTaken}
 use Rattle.planning.specs.Appending.{Append, held, append_to, file_bytes, appending, appending_read, IsAppending, IsAppendingAt}
 use Rattle.planning.specs.Fetching.{IsFetching, IsFetchOfAny, counted, fetched_cuts}
 use Rattle.planning.specs.Making.{making, most_columns}
@@ -46,6 +46,7 @@ use Rattle.script_text.specs.declared.item.Command.TheVariants as command
 use Rattle.folder.specs.Sound.{Care, Shown, Whole}
 use Rattle.folder.specs.State.{State, table}
 use Rattle.work_run.specs.Ends.{sources_of}
+use Rattle.work_turns.specs.Turns.{HasCauseInTurns, IsLost}
 use Rattle.folder_session.specs.declared.session.FolderSession.{FolderSession}
 use Rattle.folder_session.specs.Machine.{Outcome, outcome, refused, made, appended, RunsTo, FetchesTo, CollectsTo, IsWorkOn, Performs, IsWant, IsFileEvent, IsEvent, Step}
 use Rattle.folder_session.specs.Causes.{SparesStore, TellsOfNoFile, IsOfFiles, IsOfRun, IsOfFetch, HasByteCause}
@@ -234,24 +235,27 @@ module _ (t : Table) (files : ℕ → List ℕ) where
   of_spared (Ok run) (refusal.Unreadable file at) spares = absurd spares
   of_spared (Ok run) _ spares = tt
 
-  -- by the rewriting that is taken
-  of_taken : (run : Run) (normal : PlainPlan) (r : PlainRewriting) → IsTaken t run.plan normal run.program.cuts r → (why : Refusal) → IsOfFiles t r files why → IsOfRun t (Ok run) files why
-  of_taken run normal r taken (refusal.Damaged file kept found) is = record { normal = normal; rewriting = r; taken = taken; of_files = is }
-  of_taken run normal r taken (refusal.Unreadable file at) is = record { normal = normal; rewriting = r; taken = taken; of_files = is }
-  of_taken run normal r taken _ is = tt
+  -- by the rewritings that are taken
+  of_taken : (run : Run) (why : Refusal) → IsFoundFor t run.plan run.program.cuts files why → IsOfRun t (Ok run) files why
+  of_taken run (refusal.Damaged file kept found) is = is
+  of_taken run (refusal.Unreadable file at) is = is
+  of_taken run _ is = tt
 
   module _ (name : List ℕ) (tree : PlainTree) where
     pub run_refused : (why : Refusal) → running t name tree ≡ Err why ⊎ IsMemory why → HasByteCause t (command.Run name tree) files (answer.Refused why)
     run_refused why either = of_spared (running t name tree) why (running_refuses t name tree why either)
 
-    pub run_found : (run : Run) (normal : PlainPlan) (r : PlainRewriting) → running t name tree ≡ Ok run → IsTaken t run.plan normal run.program.cuts r → (result : Result (FolderSession × Answer) Failed)
-        → IfOk result (λ next. IsFoundFor t r files next.1) → IfOk result (λ next. HasByteCause t (command.Run name tree) files next.1)
-    run_found run normal r is taken (Ok next) found = told next.1 found
+    pub run_found : (run : Run) → running t name tree ≡ Ok run → (why : Refusal) → IsFoundFor t run.plan run.program.cuts files why → HasByteCause t (command.Run name tree) files (answer.Refused why)
+    run_found run is why found = subst (λ (planned : Result Run Refusal). IsOfRun t planned files why) (sym is) (of_taken run why found)
+
+    -- of what is answered when its work is recorded
+    pub run_ends : (result : Result (FolderSession × Answer) Failed) → IfOk result (λ next. (why : Refusal) → next.1 ≡ answer.Refused why → why ≡ refusal.Memory) → IfOk result (λ next. HasByteCause t (command.Run name tree) files next.1)
+    run_ends (Ok next) none = told next.1 none
       where
-        told : (given : Answer) → IsFoundFor t r files given → HasByteCause t (command.Run name tree) files given
-        told (answer.Refused why) found = subst (λ (planned : Result Run Refusal). IsOfRun t planned files why) (sym is) (of_taken run normal r taken why found)
-        told _ found = tt
-    run_found run normal r is taken (Err failed) found = tt
+        told : (given : Answer) → ((why : Refusal) → given ≡ answer.Refused why → why ≡ refusal.Memory) → HasByteCause t (command.Run name tree) files given
+        told (answer.Refused why) none = run_refused why (inr (none why refl))
+        told _ none = tt
+    run_ends (Err failed) none = tt
 
   -- a fetch
   fetch_spared : (name : List ℕ) (as_run : Bool) (why : Refusal) → SparesStore why → IsOfFetch t name as_run files why
@@ -260,28 +264,30 @@ module _ (t : Table) (files : ℕ → List ℕ) where
   fetch_spared name as_run (refusal.Unreadable file at) spares = absurd spares
   fetch_spared name as_run _ spares = tt
 
-  fetch_taken : (name : List ℕ) (as_run : Bool) (target : Target) (normal : PlainPlan) (r : PlainRewriting) → IsFetching t name as_run (Ok target) → IsTaken t target.plan normal target.cuts r → (why : Refusal) → IsOfFiles t r files why → IsOfFetch t name as_run files why
-  fetch_taken name as_run target normal r planned taken refusal.Fault is = (target, planned)
-  fetch_taken name as_run target normal r planned taken (refusal.Damaged file kept found) is = (target, planned, record { normal = normal; rewriting = r; taken = taken; of_files = is })
-  fetch_taken name as_run target normal r planned taken (refusal.Unreadable file at) is = (target, planned, record { normal = normal; rewriting = r; taken = taken; of_files = is })
-  fetch_taken name as_run target normal r planned taken _ is = tt
+  fetch_taken : (name : List ℕ) (as_run : Bool) (target : Target) → IsFetching t name as_run (Ok target) → (why : Refusal) → IsFoundFor t target.plan target.cuts files why → IsOfFetch t name as_run files why
+  fetch_taken name as_run target planned refusal.Fault is = (target, planned)
+  fetch_taken name as_run target planned (refusal.Damaged file kept found) is = (target, planned, is)
+  fetch_taken name as_run target planned (refusal.Unreadable file at) is = (target, planned, is)
+  fetch_taken name as_run target planned _ is = tt
 
   module _ (name : List ℕ) (as_run : Bool) where
     pub fetch_refused : (why : Refusal) → IsFetching t name as_run (Err why) ⊎ IsMemory why → HasByteCause t (command.Fetch name as_run) files (answer.Refused why)
     fetch_refused why either = fetch_spared name as_run why (fetching_refuses t name as_run why either)
 
-    pub fetch_found : (target : Target) (normal : PlainPlan) (r : PlainRewriting) → IsFetching t name as_run (Ok target) → IsTaken t target.plan normal target.cuts r → (result : Result (FolderSession × Answer) Failed)
-        → IfOk result (λ next. IsFoundFor t r files next.1) → IfOk result (λ next. HasByteCause t (command.Fetch name as_run) files next.1)
-    fetch_found target normal r is taken (Ok next) found = told next.1 found
+    pub fetch_found : (target : Target) → IsFetching t name as_run (Ok target) → (why : Refusal) → IsFoundFor t target.plan target.cuts files why → HasByteCause t (command.Fetch name as_run) files (answer.Refused why)
+    fetch_found target is why found = fetch_taken name as_run target is why found
+
+    pub fetch_ends : (result : Result (FolderSession × Answer) Failed) → IfOk result (λ next. (why : Refusal) → next.1 ≡ answer.Refused why → why ≡ refusal.Memory) → IfOk result (λ next. HasByteCause t (command.Fetch name as_run) files next.1)
+    fetch_ends (Ok next) none = told next.1 none
       where
-        told : (given : Answer) → IsFoundFor t r files given → HasByteCause t (command.Fetch name as_run) files given
-        told (answer.Refused why) found = fetch_taken name as_run target normal r is taken why found
-        told _ found = tt
-    fetch_found target normal r is taken (Err failed) found = tt
+        told : (given : Answer) → ((why : Refusal) → given ≡ answer.Refused why → why ≡ refusal.Memory) → HasByteCause t (command.Fetch name as_run) files given
+        told (answer.Refused why) none = fetch_refused why (inr (none why refl))
+        told _ none = tt
+    fetch_ends (Err failed) none = tt
 
   -- ---- work
 
-  -- why it isn't done
+  -- why its files aren't read
   pub work_found : (r : PlainRewriting) (places : FileName → FileRef) (old new : Counts) (why : RunRefusal) → HasRunCause places (files_of r) old new why → IsRunFound (sources_of t files) (pieces_of r) (files_of r) why
       → IsOfFiles t r files (refusal_of why)
   work_found r places old new (run.Damaged file kept found taken) cause is = (taken, is, λ (same : found ≡ kept). cause.3 (same ∙ cause.2))
@@ -291,11 +297,26 @@ module _ (t : Table) (files : ℕ → List ℕ) where
   work_found r places old new run.Fault cause is = tt
   work_found r places old new run.Memory cause is = tt
 
-  -- a result, or want of memory where it was to be recorded
-  pub result_found : (r : PlainRewriting) (rows : Rows) (used kept : List ℕ) (read : ℕ) (result : Result (FolderSession × Answer) Failed) → IfOk result (λ next. next.1 ≡ answer.Result rows used kept read)
-      → IfOk result (λ next. IsFoundFor t r files next.1)
-  result_found r rows used kept read (Ok next) is = subst (λ (a : Answer). IsFoundFor t r files a) (sym is) tt
-  result_found r rows used kept read (Err failed) is = tt
+  -- why turns have no last one
+  pub turns_found : (plan form : PlainPlan) (cuts : Cuts) (old new : Counts) (tells : Bool) → IsTrue tells → (why : RunRefusal) → HasCauseInTurns tells t plan form cuts files old new why → IsFoundFor t plan cuts files (refusal_of why)
+  turns_found plan form cuts old new tells told (run.Damaged file kept found taken) is = record {
+    form = form;
+    rewriting = is.rewriting;
+    after = is.after;
+    of_files = work_found is.rewriting (file_at t) old new (run.Damaged file kept found taken) is.cause (is.found told);
+    of_extent = is.of_extent;
+  }
+  turns_found plan form cuts old new tells told (run.Unreadable file at taken) is = record {
+    form = form;
+    rewriting = is.rewriting;
+    after = is.after;
+    of_files = work_found is.rewriting (file_at t) old new (run.Unreadable file at taken) is.cause (is.found told);
+    of_extent = is.of_extent;
+  }
+  turns_found plan form cuts old new tells told run.Overflow is = tt
+  turns_found plan form cuts old new tells told run.Machine is = tt
+  turns_found plan form cuts old new tells told run.Fault is = tt
+  turns_found plan form cuts old new tells told run.Memory is = tt
 
 -- a command that reads no files tells no failed read
 pub no_fault_in : (old new : ℕ) (result : Result (FolderSession × Answer) Failed) → IfOk result (λ next. TellsOfNoFile next.1) → IfOk result (λ next. next.1 ≡ answer.Refused refusal.Fault → Rose old new)
@@ -323,19 +344,19 @@ appended_spares s (Ok a) why new spares is =
     absurd (cc)
 appended_spares s (Err w) why new spares is = spares_same s why w new is spares
 
-on_spares : (s : State) (program : Option Program) (plan : PlainPlan) (cuts : Cuts) (why : Refusal) (new : State) → IsWorkOn s program plan cuts (answer.Refused why) new → SparesStore why
-on_spares s program plan cuts refusal.Fault new is = absurd is
-on_spares s program plan cuts (refusal.Damaged file kept found) new is = absurd is
-on_spares s program plan cuts (refusal.Unreadable file at) new is = absurd is
-on_spares s program plan cuts _ new is = tt
+on_spares : (care : Care) (held : List ℕ) (s : State) (program : Option Program) (plan : PlainPlan) (cuts : Cuts) (why : Refusal) (new : State) → IsWorkOn care held s program plan cuts (answer.Refused why) new → SparesStore why
+on_spares care held s program plan cuts refusal.Fault new is = absurd is
+on_spares care held s program plan cuts (refusal.Damaged file kept found) new is = absurd is
+on_spares care held s program plan cuts (refusal.Unreadable file at) new is = absurd is
+on_spares care held s program plan cuts _ new is = tt
 
-ran_spares : (s : State) (planned : Result Run Refusal) (why : Refusal) (new : State) → IfErr planned SparesStore → RunsTo s planned (outcome (answer.Refused why) new) → SparesStore why
-ran_spares s (Ok run) why new spares is = on_spares s (Some run.program) run.plan run.program.cuts why new is
-ran_spares s (Err w) why new spares is = spares_same s why w new is spares
+ran_spares : (care : Care) (held : List ℕ) (s : State) (planned : Result Run Refusal) (why : Refusal) (new : State) → IfErr planned SparesStore → RunsTo care held s planned (outcome (answer.Refused why) new) → SparesStore why
+ran_spares care held s (Ok run) why new spares is = on_spares care held s (Some run.program) run.plan run.program.cuts why new is
+ran_spares care held s (Err w) why new spares is = spares_same s why w new is spares
 
-fetched_spares : (s : State) (name : List ℕ) (as_run : Bool) (planned : Result Target Refusal) (why : Refusal) (new : State) → IsFetching (table s) name as_run planned → FetchesTo s planned (outcome (answer.Refused why) new) → SparesStore why
-fetched_spares s name as_run (Ok target) why new planned is = on_spares s None target.plan target.cuts why new is
-fetched_spares s name as_run (Err w) why new planned is = spares_same s why w new is (fetching_spares (table s) name as_run w planned)
+fetched_spares : (care : Care) (held : List ℕ) (s : State) (name : List ℕ) (as_run : Bool) (planned : Result Target Refusal) (why : Refusal) (new : State) → IsFetching (table s) name as_run planned → FetchesTo care held s planned (outcome (answer.Refused why) new) → SparesStore why
+fetched_spares care held s name as_run (Ok target) why new planned is = on_spares care held s None target.plan target.cuts why new is
+fetched_spares care held s name as_run (Err w) why new planned is = spares_same s why w new is (fetching_spares (table s) name as_run w planned)
 
 collected_spares : (full : Bool) (held : List ℕ) (s : State) (reclaim : ℕ) (why : Refusal) (new : State) → CollectsTo full held s reclaim (outcome (answer.Refused why) new) → SparesStore why
 collected_spares true held s reclaim why new is = spares_same s why (refusal.Limit limit.Commands) new is tt
@@ -343,19 +364,19 @@ collected_spares false held s reclaim why new is =
     let same : answer.Refused why ≡ answer.Evicted is.0 is.1 = ap (λ (o : Outcome). o.answer) is.3 in
     absurd (cc)
 
-performed_spares : (held : List ℕ) (s : State) (c : Command) (why : Refusal) (new : State) → Performs held s c (outcome (answer.Refused why) new) → SparesStore why
-performed_spares held s (command.Stream name columns) why new is = made_spares s name columns (making (table s) name columns) why new (making_spares (table s) name columns) is
-performed_spares held s (command.Append name lines) why new is = appended_spares s is.0 why new (appending_at_spares (table s) (place_of (table s).streams name) name lines is.0 is.1) is.2
-performed_spares held s (command.Run name tree) why new is = ran_spares s (running (table s) name tree) why new (bound_spares (table s) name tree (bound_plan (table s).streams tree)) is
-performed_spares held s (command.Fetch name as_run) why new is = fetched_spares s name as_run is.0 why new is.1 is.2
-performed_spares held s (command.Collect reclaim) why new is = collected_spares (nat_le most_ticks s.tick) held s reclaim why new is
-performed_spares held s command.Entries why new is =
+pub performed_spares : (care : Care) (held : List ℕ) (s : State) (c : Command) (why : Refusal) (new : State) → Performs care held s c (outcome (answer.Refused why) new) → SparesStore why
+performed_spares care held s (command.Stream name columns) why new is = made_spares s name columns (making (table s) name columns) why new (making_spares (table s) name columns) is
+performed_spares care held s (command.Append name lines) why new is = appended_spares s is.0 why new (appending_at_spares (table s) (place_of (table s).streams name) name lines is.0 is.1) is.2
+performed_spares care held s (command.Run name tree) why new is = ran_spares care held s (running (table s) name tree) why new (bound_spares (table s) name tree (bound_plan (table s).streams tree)) is
+performed_spares care held s (command.Fetch name as_run) why new is = fetched_spares care held s name as_run is.0 why new is.1 is.2
+performed_spares care held s (command.Collect reclaim) why new is = collected_spares (nat_le most_ticks s.tick) held s reclaim why new is
+performed_spares care held s command.Entries why new is =
     let same : answer.Refused why ≡ answer.Entries _ = ap (λ (o : Outcome). o.answer) is in
     absurd (cc)
-performed_spares held s command.Catalog why new is =
+performed_spares care held s command.Catalog why new is =
     let same : answer.Refused why ≡ answer.Catalog _ = ap (λ (o : Outcome). o.answer) is in
     absurd (cc)
-performed_spares held s _ why new is = absurd is
+performed_spares care held s _ why new is = absurd is
 
 -- ---- what comes in the course of a command: want of memory, a failed read, and damage where files may show it
 
@@ -363,7 +384,7 @@ want_spares : (why : Refusal) → IsWant why → SparesStore why
 want_spares refusal.Memory want = tt
 want_spares _ want = absurd want
 
-file_event_spares : (s : State) (why : Refusal) → IsFileEvent Whole s why → (why ≡ refusal.Fault → ⊥) → SparesStore why
+pub file_event_spares : (s : State) (why : Refusal) → IsFileEvent Whole s why → (why ≡ refusal.Fault → ⊥) → SparesStore why
 file_event_spares s refusal.Fault event none = none refl
 file_event_spares s (refusal.Damaged file kept found) event none =
     let may : Whole ≡ Shown = event.may in
@@ -373,14 +394,14 @@ file_event_spares s why event none = want_spares why event
 event_spares : (s : State) (c : Command) (why : Refusal) → IsEvent Whole s c why → (why ≡ refusal.Fault → ⊥) → SparesStore why
 event_spares s (command.Stream name columns) why event none = want_spares why event
 event_spares s (command.Append name lines) why event none = want_spares why event
-event_spares s (command.Run name tree) why event none = file_event_spares s why event none
-event_spares s (command.Fetch name as_run) why event none = file_event_spares s why event none
+event_spares s (command.Run name tree) why event none = file_event_spares s why event.0 none
+event_spares s (command.Fetch name as_run) why event none = file_event_spares s why event.0 none
 event_spares s (command.Collect reclaim) why event none = want_spares why event
 event_spares s _ why event none = want_spares why event
 
 -- where the files hold their bytes no refusal but that of a failed read is laid to the store
 pub step_spares : (held : List ℕ) (s new : State) (c : Command) (why : Refusal) → Step Whole held s c (answer.Refused why) new → (why ≡ refusal.Fault → ⊥) → SparesStore why
-step_spares held s new c why (inl performs) none = performed_spares held s c why new performs
+step_spares held s new c why (inl performs) none = performed_spares Whole held s c why new performs
 step_spares held s new c why (inr event) none =
     let same : answer.Refused why ≡ answer.Refused event.0 = ap (λ (o : Outcome). o.answer) event.2 in
     let one : event.0 ≡ why = cc in
@@ -388,7 +409,7 @@ step_spares held s new c why (inr event) none =
 
 -- and never is one for unreadable bytes
 pub never_unreadable : (care : Care) (held : List ℕ) (s new : State) (c : Command) (file at : ℕ) → Step care held s c (answer.Refused (refusal.Unreadable file at)) new → ⊥
-never_unreadable care held s new c file at (inl performs) = performed_spares held s c (refusal.Unreadable file at) new performs
+never_unreadable care held s new c file at (inl performs) = performed_spares care held s c (refusal.Unreadable file at) new performs
 never_unreadable care held s new c file at (inr event) =
     let same : answer.Refused (refusal.Unreadable file at) ≡ answer.Refused event.0 = ap (λ (o : Outcome). o.answer) event.2 in
     let one : event.0 ≡ refusal.Unreadable file at = cc in
@@ -397,10 +418,17 @@ never_unreadable care held s new c file at (inr event) =
     unread : (c : Command) → IsEvent care s c (refusal.Unreadable file at) → ⊥
     unread (command.Stream name columns) is = is
     unread (command.Append name lines) is = is
-    unread (command.Run name tree) is = is
-    unread (command.Fetch name as_run) is = is
+    unread (command.Run name tree) is = is.0
+    unread (command.Fetch name as_run) is = is.0
     unread (command.Collect reclaim) is = is
     unread _ is = is
 
 pub never_damaged : (held : List ℕ) (s new : State) (c : Command) (file : ℕ) (kept found : Digest) → Step Whole held s c (answer.Refused (refusal.Damaged file kept found)) new → ⊥
 never_damaged held s new c file kept found step = step_spares held s new c (refusal.Damaged file kept found) step (λ is. absurd (cc))
+
+-- nor is a kept result lost
+pub never_lost : (s : State) (lost : List ℕ) → AllByRecursion (IsLost Whole s) lost → lost ≡ []
+never_lost s [] shown = refl
+never_lost s (id ∷ lost) shown =
+    let may : Whole ≡ Shown = shown.0.shows.may in
+    absurd (cc)

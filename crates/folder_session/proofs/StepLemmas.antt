@@ -33,7 +33,7 @@ use Rattle.folder.specs.State.{State, table}
 use Rattle.work_run.specs.Ends.{IsRefusedWork}
 use Rattle.folder_session.specs.declared.session.FolderSession.{FolderSession}
 use Rattle.folder_session.specs.Machine as machine
-use Rattle.folder_session.specs.Machine.{outcome, refused, made, IsEvent, RunsTo, IsWorkOn, WorkStep}
+use Rattle.folder_session.specs.Machine.{outcome, refused, made, IsEvent, IsOfExtent, RunsTo, IsWorkOn, WorkStep}
 use Rattle.folder_session.specs.Standing.{Stands, Performs, Breaks, Records, KeepsNot, WorksOff, BreaksOff, folder_of}
 use Rattle.folder_session.specs.WorkRefusals.{refusal_of}
 
@@ -61,7 +61,7 @@ module _ (care : Care) (v : View) (session session' : FolderSession) (s : State)
 
   -- a refusal changes nothing
   pub refuses : (held : List ℕ) (c : Command) (why : Refusal) → table_in (folder_of session') ≡ table_in (folder_of session) → journal_of (folder_of session') ≡ journal_of (folder_of session)
-      → machine.Performs held s c (refused s why) ⊎ IsEvent care s c why → Performs care v v held session' s c (answer.Refused why)
+      → machine.Performs care held s c (refused s why) ⊎ IsEvent care s c why → Performs care v v held session' s c (answer.Refused why)
   refuses held c why t j either = record {
     new = s;
     step = elim either [ inl given ↦ inl given | inr event ↦ inr (why, event, refl) ];
@@ -72,59 +72,59 @@ module _ (care : Care) (v : View) (session session' : FolderSession) (s : State)
 -- ---- the outcome of a command
 
 module _ (care : Care) (held : List ℕ) (t : Table) (s : State) (same : t ≡ table s) where
-  pub made_ok : (name : List ℕ) (columns : List Column) (c : Change) → making t name columns ≡ Ok c → machine.Performs held s (command.Stream name columns) (outcome answer.Ok (with_stream s name columns))
+  pub made_ok : (name : List ℕ) (columns : List Column) (c : Change) → making t name columns ≡ Ok c → machine.Performs care held s (command.Stream name columns) (outcome answer.Ok (with_stream s name columns))
   made_ok name columns c is = sym (ap (made s name columns) (subst (λ x. making x name columns ≡ Ok c) same is))
 
-  pub made_err : (name : List ℕ) (columns : List Column) (why : Refusal) → making t name columns ≡ Err why ⊎ (why ≡ refusal.Memory) → machine.Performs held s (command.Stream name columns) (refused s why) ⊎ IsEvent care s (command.Stream name columns) why
+  pub made_err : (name : List ℕ) (columns : List Column) (why : Refusal) → making t name columns ≡ Err why ⊎ (why ≡ refusal.Memory) → machine.Performs care held s (command.Stream name columns) (refused s why) ⊎ IsEvent care s (command.Stream name columns) why
   made_err name columns why either = elim either [
     | inl is ↦ inl (sym (ap (made s name columns) (subst (λ x. making x name columns ≡ Err why) same is)))
     | inr none ↦ inr (subst (λ w. IsEvent care s (command.Stream name columns) w) (sym none) tt)
   ]
 
-  pub appended_ok : (name : List ℕ) (lines : List (List ℕ)) (a : Append) (count : ℕ) → IsAppending t name lines (Ok a) → count ≡ held_after t a → machine.Performs held s (command.Append name lines) (outcome (answer.Held count) (with_rows s a.place a.rows))
+  pub appended_ok : (name : List ℕ) (lines : List (List ℕ)) (a : Append) (count : ℕ) → IsAppending t name lines (Ok a) → count ≡ held_after t a → machine.Performs care held s (command.Append name lines) (outcome (answer.Held count) (with_rows s a.place a.rows))
   appended_ok name lines a count is holds =
       (Ok a, subst (λ x. IsAppending x name lines (Ok a)) same is, ap (λ n. outcome (answer.Held n) (with_rows s a.place a.rows)) (holds ∙ ap (λ x. held_after x a) same))
 
-  pub appended_err : (name : List ℕ) (lines : List (List ℕ)) (why : Refusal) → IsAppending t name lines (Err why) ⊎ (why ≡ refusal.Memory) → machine.Performs held s (command.Append name lines) (refused s why) ⊎ IsEvent care s (command.Append name lines) why
+  pub appended_err : (name : List ℕ) (lines : List (List ℕ)) (why : Refusal) → IsAppending t name lines (Err why) ⊎ (why ≡ refusal.Memory) → machine.Performs care held s (command.Append name lines) (refused s why) ⊎ IsEvent care s (command.Append name lines) why
   appended_err name lines why either = elim either [
     | inl is ↦ inl (Err why, subst (λ x. IsAppending x name lines (Err why)) same is, refl)
     | inr none ↦ inr (subst (λ w. IsEvent care s (command.Append name lines) w) (sym none) tt)
   ]
 
   -- a run before its work
-  pub ran_err : (name : List ℕ) (tree : PlainTree) (why : Refusal) → running t name tree ≡ Err why ⊎ (why ≡ refusal.Memory) → machine.Performs held s (command.Run name tree) (refused s why) ⊎ IsEvent care s (command.Run name tree) why
+  pub ran_err : (name : List ℕ) (tree : PlainTree) (why : Refusal) → running t name tree ≡ Err why ⊎ (why ≡ refusal.Memory) → machine.Performs care held s (command.Run name tree) (refused s why) ⊎ IsEvent care s (command.Run name tree) why
   ran_err name tree why either = elim either [
-    | inl is ↦ inl (subst (λ x. RunsTo s x (refused s why)) (sym (subst (λ x. running x name tree ≡ Err why) same is)) refl)
-    | inr none ↦ inr (subst (λ w. IsEvent care s (command.Run name tree) w) (sym none) tt)
+    | inl is ↦ inl (subst (λ x. RunsTo care held s x (refused s why)) (sym (subst (λ x. running x name tree ≡ Err why) same is)) refl)
+    | inr none ↦ inr (subst (λ w. IsEvent care s (command.Run name tree) w) (sym none) (tt, tt))
   ]
 
   -- its plan was worked off
   pub ran_step : (name : List ℕ) (tree : PlainTree) (r : Run) (program : Program) → running t name tree ≡ Ok r → program ≡ r.program → (given : Answer) (new : State)
-      → WorkStep care s (Some program) r.plan program.cuts given new → machine.Step care held s (command.Run name tree) given new
+      → WorkStep care held s (Some program) r.plan program.cuts given new → machine.Step care held s (command.Run name tree) given new
   ran_step name tree r program is program_is given new (inl works) =
-      inl (subst (λ x. RunsTo s x (outcome given new)) (sym (subst (λ x. running x name tree ≡ Ok r) same is)) (subst (λ (p : Program). IsWorkOn s (Some p) r.plan p.cuts given new) program_is works))
-  ran_step name tree r program is program_is given new (inr event) = inr event
+      inl (subst (λ x. RunsTo care held s x (outcome given new)) (sym (subst (λ x. running x name tree ≡ Ok r) same is)) (subst (λ (p : Program). IsWorkOn care held s (Some p) r.plan p.cuts given new) program_is works))
+  ran_step name tree r program is program_is given new (inr event) = inr (event.0, (event.1, event.2), event.3)
 
   -- a fetch before its work
-  pub fetched_err : (name : List ℕ) (as_run : Bool) (why : Refusal) → IsFetching t name as_run (Err why) ⊎ (why ≡ refusal.Memory) → machine.Performs held s (command.Fetch name as_run) (refused s why) ⊎ IsEvent care s (command.Fetch name as_run) why
+  pub fetched_err : (name : List ℕ) (as_run : Bool) (why : Refusal) → IsFetching t name as_run (Err why) ⊎ (why ≡ refusal.Memory) → machine.Performs care held s (command.Fetch name as_run) (refused s why) ⊎ IsEvent care s (command.Fetch name as_run) why
   fetched_err name as_run why either = elim either [
     | inl is ↦ inl (Err why, subst (λ x. IsFetching x name as_run (Err why)) same is, refl)
-    | inr none ↦ inr (subst (λ w. IsEvent care s (command.Fetch name as_run) w) (sym none) tt)
+    | inr none ↦ inr (subst (λ w. IsEvent care s (command.Fetch name as_run) w) (sym none) (tt, tt))
   ]
 
   -- its plan was worked off
   pub fetched_step : (name : List ℕ) (as_run : Bool) (target : Target) (cuts : Cuts) → IsFetching t name as_run (Ok target) → cuts ≡ target.cuts → (given : Answer) (new : State)
-      → WorkStep care s None target.plan cuts given new → machine.Step care held s (command.Fetch name as_run) given new
+      → WorkStep care held s None target.plan cuts given new → machine.Step care held s (command.Fetch name as_run) given new
   fetched_step name as_run target cuts is cuts_are given new (inl works) =
-      inl (Ok target, subst (λ x. IsFetching x name as_run (Ok target)) same is, subst (λ (c : Cuts). IsWorkOn s None target.plan c given new) cuts_are works)
-  fetched_step name as_run target cuts is cuts_are given new (inr event) = inr event
+      inl (Ok target, subst (λ x. IsFetching x name as_run (Ok target)) same is, subst (λ (c : Cuts). IsWorkOn care held s None target.plan c given new) cuts_are works)
+  fetched_step name as_run target cuts is cuts_are given new (inr event) = inr (event.0, (event.1, event.2), event.3)
 
 -- want of memory may come in the course of any command
 pub want_event : (care : Care) (s : State) (c : Command) → IsEvent care s c refusal.Memory
 want_event care s (command.Stream name columns) = tt
 want_event care s (command.Append name lines) = tt
-want_event care s (command.Run name tree) = tt
-want_event care s (command.Fetch name as_run) = tt
+want_event care s (command.Run name tree) = (tt, tt)
+want_event care s (command.Fetch name as_run) = (tt, tt)
 want_event care s (command.Collect reclaim) = tt
 want_event care s command.Entries = tt
 want_event care s command.Catalog = tt
@@ -135,9 +135,9 @@ want_event care s (command.DropJob job) = tt
 
 -- ---- what is recorded
 
-module _ (care : Care) (held : List ℕ) (u v : View) (s new : State) (c : Command) (given : Answer) (performs : machine.Performs held s c (outcome given new)) where
+module _ (care : Care) (held : List ℕ) (u v : View) (s new : State) (c : Command) (given : Answer) (performs : machine.Performs care held s c (outcome given new)) where
   pub kept_performs : (result : Result (FolderSession × Answer) Failed) → IfOk result (λ next. Records care u v next.0 s new) → IfOk result (λ next. next.1 ≡ given) → IfOk result (λ next. Performs care u v held next.0 s c next.1)
-  kept_performs (Ok next) recorded same = record { new = new; step = inl (subst (λ a. machine.Performs held s c (outcome a new)) (sym same) performs); stands = recorded.stands; since = recorded.since }
+  kept_performs (Ok next) recorded same = record { new = new; step = inl (subst (λ a. machine.Performs care held s c (outcome a new)) (sym same) performs); stands = recorded.stands; since = recorded.since }
   kept_performs (Err failed) recorded same = tt
 
   pub kept_breaks : (result : Result (FolderSession × Answer) Failed) → OnErr result (KeepsNot care u v s new) → OnErr result (Breaks care u v held s c)
@@ -171,40 +171,51 @@ module _ (care : Care) (t u v : View) (s new : State) (before : StaysSound care 
 
 -- ---- work
 
-module _ (care : Care) (u v : View) (s new : State) (program : Option Program) (plan : PlainPlan) (cuts : Cuts) (given : Answer) (works : IsWorkOn s program plan cuts given new) where
-  pub kept_works : (result : Result (FolderSession × Answer) Failed) → IfOk result (λ next. Records care u v next.0 s new) → IfOk result (λ next. next.1 ≡ given) → IfOk result (λ next. WorksOff care u v next.0 s program plan cuts next.1)
-  kept_works (Ok next) recorded same = record { new = new; step = inl (subst (λ a. IsWorkOn s program plan cuts a new) (sym same) works); stands = recorded.stands; since = recorded.since }
+module _ (care : Care) (held : List ℕ) (u v : View) (s new : State) (program : Option Program) (plan : PlainPlan) (cuts : Cuts) (given : Answer) (works : IsWorkOn care held s program plan cuts given new) where
+  pub kept_works : (result : Result (FolderSession × Answer) Failed) → IfOk result (λ next. Records care u v next.0 s new) → IfOk result (λ next. next.1 ≡ given) → IfOk result (λ next. WorksOff care u v held next.0 s program plan cuts next.1)
+  kept_works (Ok next) recorded same = record { new = new; step = inl (subst (λ a. IsWorkOn care held s program plan cuts a new) (sym same) works); stands = recorded.stands; since = recorded.since }
   kept_works (Err failed) recorded same = tt
 
-  pub broken_works : (result : Result (FolderSession × Answer) Failed) → OnErr result (KeepsNot care u v s new) → OnErr result (BreaksOff care u v s program plan cuts)
+  pub broken_works : (result : Result (FolderSession × Answer) Failed) → OnErr result (KeepsNot care u v s new) → OnErr result (BreaksOff care u v held s program plan cuts)
   broken_works (Ok next) broke = tt
   broken_works (Err failed) broke = record { answer = given; new = new; step = inl works; recorded = broke.recorded; since = broke.since; left = broke.left }
 
 -- work that isn't done, as a step
-pub refused_work : (care : Care) (s : State) (program : Option Program) (plan : PlainPlan) (cuts : Cuts) (why : RunRefusal) → IsRefusedWork care s plan cuts why → WorkStep care s program plan cuts (answer.Refused (refusal_of why)) s
-refused_work care s program plan cuts run.Overflow is = inl (is, refl)
-refused_work care s program plan cuts run.Machine is = inl (is, refl)
-refused_work care s program plan cuts run.Fault is = inr (refusal.Fault, tt, refl)
-refused_work care s program plan cuts (run.Damaged file kept found taken) is = inr (refusal.Damaged file kept found, is, refl)
-refused_work care s program plan cuts (run.Unreadable file at taken) is = absurd is
-refused_work care s program plan cuts run.Memory is = inr (refusal.Memory, tt, refl)
+pub refused_work : (care : Care) (held : List ℕ) (s : State) (program : Option Program) (plan : PlainPlan) (cuts : Cuts) (why : RunRefusal) → IsRefusedWork care s plan cuts why → IsOfExtent (table s) (refusal_of why)
+    → WorkStep care held s program plan cuts (answer.Refused (refusal_of why)) s
+refused_work care held s program plan cuts run.Overflow is extent = inl (is, refl)
+refused_work care held s program plan cuts run.Machine is extent = inl (is, refl)
+refused_work care held s program plan cuts run.Fault is extent = inr (refusal.Fault, tt, tt, refl)
+refused_work care held s program plan cuts (run.Damaged file kept found taken) is extent = inr (refusal.Damaged file kept found, is, extent, refl)
+refused_work care held s program plan cuts (run.Unreadable file at taken) is extent = absurd is
+refused_work care held s program plan cuts run.Memory is extent = inr (refusal.Memory, tt, tt, refl)
+
+-- files were read before it
+module _ (care : Care) (u v w : View) (held : List ℕ) (s : State) (program : Option Program) (plan : PlainPlan) (cuts : Cuts) (before : StaysSound care s u v) where
+  pub works_behind : (result : Result (FolderSession × Answer) Failed) → IfOk result (λ next. WorksOff care v w held next.0 s program plan cuts next.1) → IfOk result (λ next. WorksOff care u w held next.0 s program plan cuts next.1)
+  works_behind (Ok next) done = record { new = done.new; step = done.step; stands = done.stands; since = spans_on Everything (IsSoundForOneOf care s done.new) u v w (since_stays care u v w s done.new before done.new) done.since }
+  works_behind (Err failed) done = tt
+
+  pub breaks_off_behind : (result : Result (FolderSession × Answer) Failed) → OnErr result (BreaksOff care v w held s program plan cuts) → OnErr result (BreaksOff care u w held s program plan cuts)
+  breaks_off_behind (Ok next) broke = tt
+  breaks_off_behind (Err failed) broke = record { answer = broke.answer; new = broke.new; step = broke.step; recorded = broke.recorded; since = spans_on Everything (IsSoundForOneOf care s broke.new) u v w (since_stays care u v w s broke.new before broke.new) broke.since; left = broke.left }
 
 -- a run whose work is done, or breaks off
 module _ (care : Care) (held : List ℕ) (u v : View) (s : State) (t : Table) (same : t ≡ table s) (name : List ℕ) (tree : PlainTree) (r : Run) (program : Program) (is : running t name tree ≡ Ok r) (program_is : program ≡ r.program) where
-  pub ran_performs : (result : Result (FolderSession × Answer) Failed) → IfOk result (λ next. WorksOff care u v next.0 s (Some program) r.plan program.cuts next.1) → IfOk result (λ next. Performs care u v held next.0 s (command.Run name tree) next.1)
+  pub ran_performs : (result : Result (FolderSession × Answer) Failed) → IfOk result (λ next. WorksOff care u v held next.0 s (Some program) r.plan program.cuts next.1) → IfOk result (λ next. Performs care u v held next.0 s (command.Run name tree) next.1)
   ran_performs (Ok next) done = record { new = done.new; step = ran_step care held t s same name tree r program is program_is next.1 done.new done.step; stands = done.stands; since = done.since }
   ran_performs (Err failed) done = tt
 
-  pub ran_breaks : (result : Result (FolderSession × Answer) Failed) → OnErr result (BreaksOff care u v s (Some program) r.plan program.cuts) → OnErr result (Breaks care u v held s (command.Run name tree))
+  pub ran_breaks : (result : Result (FolderSession × Answer) Failed) → OnErr result (BreaksOff care u v held s (Some program) r.plan program.cuts) → OnErr result (Breaks care u v held s (command.Run name tree))
   ran_breaks (Ok next) broke = tt
   ran_breaks (Err failed) broke = record { answer = broke.answer; new = broke.new; step = ran_step care held t s same name tree r program is program_is broke.answer broke.new broke.step; recorded = broke.recorded; since = broke.since; left = broke.left }
 
 -- and a fetch
 module _ (care : Care) (held : List ℕ) (u v : View) (s : State) (t : Table) (same : t ≡ table s) (name : List ℕ) (as_run : Bool) (target : Target) (cuts : Cuts) (is : IsFetching t name as_run (Ok target)) (cuts_are : cuts ≡ target.cuts) where
-  pub fetched_performs : (result : Result (FolderSession × Answer) Failed) → IfOk result (λ next. WorksOff care u v next.0 s None target.plan cuts next.1) → IfOk result (λ next. Performs care u v held next.0 s (command.Fetch name as_run) next.1)
+  pub fetched_performs : (result : Result (FolderSession × Answer) Failed) → IfOk result (λ next. WorksOff care u v held next.0 s None target.plan cuts next.1) → IfOk result (λ next. Performs care u v held next.0 s (command.Fetch name as_run) next.1)
   fetched_performs (Ok next) done = record { new = done.new; step = fetched_step care held t s same name as_run target cuts is cuts_are next.1 done.new done.step; stands = done.stands; since = done.since }
   fetched_performs (Err failed) done = tt
 
-  pub fetched_breaks : (result : Result (FolderSession × Answer) Failed) → OnErr result (BreaksOff care u v s None target.plan cuts) → OnErr result (Breaks care u v held s (command.Fetch name as_run))
+  pub fetched_breaks : (result : Result (FolderSession × Answer) Failed) → OnErr result (BreaksOff care u v held s None target.plan cuts) → OnErr result (Breaks care u v held s (command.Fetch name as_run))
   fetched_breaks (Ok next) broke = tt
   fetched_breaks (Err failed) broke = record { answer = broke.answer; new = broke.new; step = fetched_step care held t s same name as_run target cuts is cuts_are broke.answer broke.new broke.step; recorded = broke.recorded; since = broke.since; left = broke.left }

@@ -1,16 +1,13 @@
 -- The bytes that a command takes.
-use Rattle.std.proofs.Common.{◌≡◌, ℕ, Bool, List, Ok, Err, Result, IfOk, sym, ◌∙◌, subst, inl, inr, arith}
+use Rattle.std.proofs.Common.{◌≡◌, ◌⊎◌, ◌+◌, ℕ, Bool, List, Ok, Err, Result, IfOk, sym, ◌∙◌, subst, inl, inr, arith}
 use Rattle.outside_traits.specs.View.{Counts}
-use Rattle.outside_traits.specs.Calls.{MayRaiseWrites}
 use Rattle.outside_traits.specs.declared.failed.Failed.{Failed}
-use Rattle.plan_core.specs.Columns.{Rows}
 use Rattle.plan_core.specs.PlainPlan.{PlainPlan}
 use Rattle.plan_grammar.specs.PlainNamed.{PlainTree}
+use Rattle.estimator.specs.Cuts.{Cuts}
 use Rattle.rewrite_core.specs.Files.{files_of}
-use Rattle.rewrite_core.specs.PlainRewriting.{PlainRewriting}
 use Rattle.catalog_core.specs.Named.{bytes_named}
 use Rattle.catalog_core.specs.Table.{Table}
-use Rattle.plan_choice.specs.Taken.{IsTaken}
 use Rattle.planning.specs.Fetching.{IsFetching}
 use Rattle.planning.specs.Running.{Run, Target, running}
 use Rattle.script_text.specs.declared.answer.Answer.{Answer}
@@ -22,16 +19,17 @@ use Rattle.executor.specs.Running.{TookAtMost}
 use Rattle.work_run.specs.Ends.{CountsRead}
 use Rattle.folder_session.specs.declared.session.FolderSession.{FolderSession}
 use Rattle.folder_session.specs.Causes.{TellsOfNoFile}
-use Rattle.folder_session.specs.Taken.{TakesNone, TakesForRun, TakesFor, TakesAsTold}
+use Rattle.folder_session.specs.Taken.{TakesNone, TakesInTurns, TakesForRun, TakesFor, TakesAsTold}
+use Rattle.folder_session.specs.Working.{TellsRead}
 
 -- ---- counts
 
-pub most_then : (n : ℕ) (old mid new : Counts) → TookAtMost n old mid → MayRaiseWrites mid new → TookAtMost n old new
-most_then n old mid new most counts = omega (arith, most, counts.taken)
+pub most_then : (n : ℕ) (old mid new : Counts) → TookAtMost n old mid → new.taken ≡ mid.taken → TookAtMost n old new
+most_then n old mid new most same = omega (arith, most, same)
 
-pub read_then : (n : ℕ) (old mid new : Counts) → CountsRead n old mid → MayRaiseWrites mid new → CountsRead n old new
-read_then n old mid new (inl taken) counts = inl (counts.taken ∙ taken)
-read_then n old mid new (inr none) counts = inr (none.0, counts.taken ∙ none.1)
+pub read_then : (n : ℕ) (old mid new : Counts) → CountsRead n old mid → new.taken ≡ mid.taken → CountsRead n old new
+read_then n old mid new (inl taken) same = inl (same ∙ taken)
+read_then n old mid new (inr none) same = inr (none.0, same ∙ none.1)
 
 -- ---- what a command may take
 
@@ -48,14 +46,21 @@ none_for t (command.Fetch name as_run) old new none = inl none
 none_for t (command.Collect reclaim) old new none = none
 none_for t _ old new none = none
 
-pub taken_for : (t : Table) (name : List ℕ) (tree : PlainTree) (run : Run) (normal : PlainPlan) (r : PlainRewriting) (old new : Counts) → running t name tree ≡ Ok run → IsTaken t run.plan normal run.program.cuts r
-    → TookAtMost (bytes_named t (files_of r)) old new → TakesFor t (command.Run name tree) old new
-taken_for t name tree run normal r old new is taken most =
-    subst (λ (planned : Result Run Refusal). TakesForRun t planned old new) (sym is) (inr (record { normal = normal; rewriting = r; taken = taken; most = most }))
+-- what was taken in turns, and nothing behind them
+abbrev pub TookForWork : Table → PlainPlan → Cuts → Counts → Counts → Type 0
+TookForWork t plan cuts old new = TakesNone old new ⊎ TakesInTurns t plan cuts old new
 
-pub fetched_for : (t : Table) (name : List ℕ) (as_run : Bool) (target : Target) (normal : PlainPlan) (r : PlainRewriting) (old new : Counts) → IsFetching t name as_run (Ok target) → IsTaken t target.plan normal target.cuts r
-    → TookAtMost (bytes_named t (files_of r)) old new → TakesFor t (command.Fetch name as_run) old new
-fetched_for t name as_run target normal r old new is taken most = inr (target, is, record { normal = normal; rewriting = r; taken = taken; most = most })
+pub turns_then : (t : Table) (plan : PlainPlan) (cuts : Cuts) (old mid new : Counts) → TookForWork t plan cuts old mid → new.taken ≡ mid.taken → TookForWork t plan cuts old new
+turns_then t plan cuts old mid new (inl none) same = inl (same ∙ none)
+turns_then t plan cuts old mid new (inr (form, took)) same =
+    inr (form, record { rewriting = took.rewriting; after = took.after; most = most_then (took.after.bytes + bytes_named t (files_of took.rewriting)) old mid new took.most same })
+
+pub taken_for : (t : Table) (name : List ℕ) (tree : PlainTree) (run : Run) (old new : Counts) → running t name tree ≡ Ok run → TookForWork t run.plan run.program.cuts old new → TakesFor t (command.Run name tree) old new
+taken_for t name tree run old new is took = subst (λ (planned : Result Run Refusal). TakesForRun t planned old new) (sym is) took
+
+pub fetched_for : (t : Table) (name : List ℕ) (as_run : Bool) (target : Target) (old new : Counts) → IsFetching t name as_run (Ok target) → TookForWork t target.plan target.cuts old new → TakesFor t (command.Fetch name as_run) old new
+fetched_for t name as_run target old new is (inl none) = inl none
+fetched_for t name as_run target old new is (inr took) = inr (target, is, took)
 
 -- ---- answers
 
@@ -63,11 +68,18 @@ told_of_none : (given : Answer) (old new : Counts) → TellsOfNoFile given → T
 told_of_none (answer.Result rows used kept read) old new none = absurd none
 told_of_none _ old new none = tt
 
--- a result that was recorded
-pub told_of_result : (rows : Rows) (used kept : List ℕ) (read : ℕ) (old new : Counts) → CountsRead read old new → (result : Result (FolderSession × Answer) Failed) → IfOk result (λ next. next.1 ≡ answer.Result rows used kept read)
-    → IfOk result (λ next. TakesAsTold next.1 old new)
-told_of_result rows used kept read old new counts (Ok next) is = subst (λ (a : Answer). TakesAsTold a old new) (sym is) counts
-told_of_result rows used kept read old new counts (Err failed) is = tt
+-- a result that tells what was read
+told_of : (given : Answer) (bytes : ℕ) (old new : Counts) → CountsRead bytes old new → TellsRead bytes given → TakesAsTold given old new
+told_of (answer.Result rows used kept read) bytes old new counts tells = subst (λ (n : ℕ). CountsRead n old new) (sym tells) counts
+told_of _ bytes old new counts tells = tt
+
+pub told_of_read : (bytes : ℕ) (old new : Counts) → CountsRead bytes old new → (result : Result (FolderSession × Answer) Failed) → IfOk result (λ next. TellsRead bytes next.1) → IfOk result (λ next. TakesAsTold next.1 old new)
+told_of_read bytes old new counts (Ok next) tells = told_of next.1 bytes old new counts tells
+told_of_read bytes old new counts (Err failed) tells = tt
+
+pub tells_given : (bytes : ℕ) (given : Answer) → TellsRead bytes given → (result : Result (FolderSession × Answer) Failed) → IfOk result (λ next. next.1 ≡ given) → IfOk result (λ next. TellsRead bytes next.1)
+tells_given bytes given tells (Ok next) is = subst (TellsRead bytes) (sym is) tells
+tells_given bytes given tells (Err failed) is = tt
 
 pub told_of_any : (old new : Counts) (result : Result (FolderSession × Answer) Failed) → IfOk result (λ next. TellsOfNoFile next.1) → IfOk result (λ next. TakesAsTold next.1 old new)
 told_of_any old new (Ok next) none = told_of_none next.1 old new none

@@ -4,7 +4,6 @@ use Rattle.std.specs.List.{AllByRecursion}
 use Rattle.std.proofs.lemmas.List.{length-map}
 use Rattle.outside_traits.specs.View.{View, Now, Only}
 use Rattle.outside_traits.specs.declared.failed.Failed.{Failed}
-use Rattle.plan_core.specs.Columns.{Rows}
 use Rattle.row_blob.specs.Spelling.{kept_spelling}
 use Rattle.catalog_types.specs.PlainEntry.{PlainNewEntry}
 use Rattle.catalog_types.specs.declared.change.Change.{Change}
@@ -22,6 +21,7 @@ use Rattle.planning.specs.Recorded.{IsRecordOf}
 use Rattle.script_text.specs.Answer.{IsNarrow}
 use Rattle.script_text.specs.declared.answer.Answer.{Answer}
 use Rattle.script_text.specs.declared.answer.Answer.TheVariants as answer
+use Rattle.script_text.specs.declared.answer.Refusal.{Refusal}
 use Rattle.script_text.specs.declared.answer.Refusal.TheVariants as refusal
 use Rattle.folder_session.specs.declared.session.FolderSession.{FolderSession}
 use Rattle.work_plan.specs.Planning.{IsWorkPlan}
@@ -45,9 +45,9 @@ module _ (v : View) (streams : List Stream) where
       )
 
   -- where they were written and the change fits
-  pub are-ready : (t : Table) (program : Option Program) (used : List ℕ) (news : List PlainNewEntry) (files : List (List ℕ)) → Fits (change.Work program used [] news) t → AreNewFiles streams news files
+  pub are-ready : (t : Table) (program : Option Program) (used dropped : List ℕ) (news : List PlainNewEntry) (files : List (List ℕ)) → Fits (change.Work program used dropped news) t → AreNewFiles streams news files
       → AreWritten v (t.next_file + 0) files → AllByRecursion (IsReadyResult v streams) news
-  are-ready t program used news files fits are written =
+  are-ready t program used dropped news files fits are written =
       let same : t.next_file + 0 ≡ t.next_file = omega arith in
       ready t.next_file news files are fits.results.results.kept.files (subst (λ (n : ℕ). AreWritten v n files) same written)
 
@@ -58,11 +58,15 @@ within file (new ∷ news) next low =
     let rest = within (file + 1) news next.2 (omega (arith, number)) in
     omega (arith, rest)
 
-module _ (t : Table) (program : Option Program) (used : List ℕ) (mades : List MadeResult) (plan : WorkPlan) (is : IsWorkPlan t program used [] mades plan) where
+module _ (t : Table) (program : Option Program) (used dropped : List ℕ) (mades : List MadeResult) (plan : WorkPlan) (is : IsWorkPlan t program used dropped mades plan) where
+  -- what it records fits
+  pub work_fits : Fits (change.Work program used dropped (entries_of is.admitted)) t
+  work_fits = subst (λ (c : Change). Fits c t) is.change is.fits
+
   -- there are numbers for them
   pub numbered : t.next_file ≤ file_end → t.next_file + 0 + length plan.files.items ≤ 2 ^ 32
   numbered low =
-      let next = (subst (λ (c : Change). Fits c t) is.change is.fits).results.results.kept.files in
+      let next = work_fits.results.results.kept.files in
       let most = within t.next_file (entries_of is.admitted) next low in
       let entries : length (entries_of is.admitted) ≡ length is.admitted = length-map is.admitted (λ (new : NewResult). new.entry) in
       let files : length plan.files.items ≡ length is.admitted = ap length is.files ∙ length-map is.admitted (λ (new : NewResult). new.bytes) in
@@ -80,7 +84,12 @@ pub narrow_given : (given : Answer) → IsNarrow given → (result : Result (Fol
 narrow_given given narrow (Ok next) is = subst IsNarrow (sym is) narrow
 narrow_given given narrow (Err failed) is = tt
 
-pub no_refusal : (rows : Rows) (used kept : List ℕ) (read : ℕ) (X : Type 0) (result : Result (FolderSession × Answer) Failed) → IfOk result (λ next. next.1 ≡ answer.Result rows used kept read)
-    → IfOk result (λ next. next.1 ≡ answer.Refused refusal.Fault → X)
-no_refusal rows used kept read X (Ok next) is = λ (told : next.1 ≡ answer.Refused refusal.Fault). absurd (cc)
-no_refusal rows used kept read X (Err failed) is = tt
+-- it is no refusal
+pub no_want : (given : Answer) → ((why : Refusal) → given ≡ answer.Refused why → ⊥) → (result : Result (FolderSession × Answer) Failed) → IfOk result (λ next. next.1 ≡ given) → IfOk result (λ next. (why : Refusal) → next.1 ≡ answer.Refused why → why ≡ refusal.Memory)
+no_want given none (Ok next) is = λ why refused. absurd (none why (sym is ∙ refused))
+no_want given none (Err failed) is = tt
+
+-- want of memory is no failed read
+pub no_fault_behind : (X : Type 0) (result : Result (FolderSession × Answer) Failed) → IfOk result (λ next. (why : Refusal) → next.1 ≡ answer.Refused why → why ≡ refusal.Memory) → IfOk result (λ next. next.1 ≡ answer.Refused refusal.Fault → X)
+no_fault_behind X (Ok next) only = λ is. (let none = only refusal.Fault is in absurd (cc))
+no_fault_behind X (Err failed) only = tt

@@ -2,14 +2,14 @@
 use Rattle.std.specs.Prelude.{◌≢◌, ℕ, Bool, List, Result, Ok, Err, ⊤}
 use Rattle.plan_core.specs.PlainPlan.{PlainPlan}
 use Rattle.estimator.specs.Cuts.{Cuts}
-use Rattle.rewrite_core.specs.Files.{files_of}
+use Rattle.rewrite_core.specs.Files.{Extent, files_of}
 use Rattle.rewrite_core.specs.PlainRewriting.{PlainRewriting}
 use Rattle.growth_laws.specs.Pieces.{pieces_of}
+use Rattle.catalog_core.specs.Named.{file_at}
 use Rattle.catalog_core.specs.Table.{Table}
 use Rattle.kept_files.specs.declared.refusal.ReadRefusal.{ReadRefusal}
 use Rattle.kept_files.specs.declared.refusal.ReadRefusal.TheVariants as reading
-use Rattle.executor.specs.Running.{EndsOver}
-use Rattle.plan_choice.specs.Taken.{IsTaken}
+use Rattle.executor.specs.Running.{EndsOver, IsFileAmong}
 use Rattle.planning.specs.Fetching.{IsFetching}
 use Rattle.planning.specs.Running.{Run, Target, running}
 use Rattle.script_text.specs.declared.answer.Answer.{Answer}
@@ -19,6 +19,7 @@ use Rattle.script_text.specs.declared.answer.Refusal.TheVariants as refusal
 use Rattle.script_text.specs.declared.item.Command.{Command}
 use Rattle.script_text.specs.declared.item.Command.TheVariants as command
 use Rattle.work_run.specs.Ends.{sources_of}
+use Rattle.work_turns.specs.Turns.{IsTakenAfter}
 
 -- it isn't: it tells no failed read, and no file that is damaged or unreadable
 abbrev pub SparesStore : Refusal → Type 0
@@ -43,12 +44,20 @@ IsOfFiles t r files (refusal.Damaged file kept found) = (taken : ℕ) × EndsRea
 IsOfFiles t r files (refusal.Unreadable file at) = (taken : ℕ) × EndsReading t r files (reading.Unreadable file at taken)
 IsOfFiles t r files _ = ⊤
 
--- they are those of the rewriting that is taken of a plan at a cut
+-- it is an extent's
+abbrev pub IsOfExtentIn : Table → PlainRewriting → Refusal → Type 0
+IsOfExtentIn t r (refusal.Damaged file kept found) = (stream number : ℕ) × IsFileAmong (file_at t) (files_of r) file (Extent stream number)
+IsOfExtentIn t r (refusal.Unreadable file at) = (stream number : ℕ) × IsFileAmong (file_at t) (files_of r) file (Extent stream number)
+IsOfExtentIn t r _ = ⊤
+
+-- they are those of an extent that a rewriting names which is taken of a plan at a cut, where kept results are left out at whose files
+-- turns were over
 pub record IsOfTaken (t : Table) (plan : PlainPlan) (cuts : Cuts) (files : ℕ → List ℕ) (why : Refusal) : Type 0 where
-  pub normal : PlainPlan
+  pub form : PlainPlan
   pub rewriting : PlainRewriting
-  pub taken : IsTaken t plan normal cuts rewriting
+  pub after : IsTakenAfter t plan form cuts rewriting
   pub of_files : IsOfFiles t rewriting files why
+  pub of_extent : IsOfExtentIn t rewriting why
 
 -- of a run they are so, unless it is refused before it reads
 abbrev pub IsOfRun : Table → Result Run Refusal → (ℕ → List ℕ) → Refusal → Type 0
@@ -64,7 +73,7 @@ IsOfFetch t name as_run files (refusal.Damaged file kept found) = (target : Targ
 IsOfFetch t name as_run files (refusal.Unreadable file at) = (target : Target) × IsFetching t name as_run (Ok target) × IsOfTaken t target.plan target.cuts files (refusal.Unreadable file at)
 IsOfFetch t name as_run files _ = ⊤
 
--- A refusal that is laid to the store is that of a run or a fetch, and damage and unreadable bytes are those of a file that it reads.
+-- A refusal that is laid to the store is that of a run or a fetch, and damage and unreadable bytes are those of an extent that it reads.
 abbrev pub HasByteCause : Table → Command → (ℕ → List ℕ) → Answer → Type 0
 HasByteCause t (command.Run name tree) files (answer.Refused why) = IsOfRun t (running t name tree) files why
 HasByteCause t (command.Fetch name as_run) files (answer.Refused why) = IsOfFetch t name as_run files why

@@ -3,11 +3,13 @@ use Rattle.std.specs.Prelude.{◌≡◌, ◌⊎◌, ℕ, nat_le, Bool, true, fal
 use Rattle.rows_core.specs.declared.schema.Column.{Column}
 use Rattle.plan_core.specs.PlainPlan.{PlainPlan}
 use Rattle.estimator.specs.Cuts.{Cuts}
+use Rattle.rewrite_core.specs.Files.{Extent}
 use Rattle.catalog_types.specs.PlainEntry.{PlainEntry}
 use Rattle.catalog_types.specs.declared.change.Change.{Change}
 use Rattle.catalog_types.specs.declared.program.Program.{Program}
 use Rattle.script_text.specs.declared.answer.Answer.{Answer}
 use Rattle.script_text.specs.declared.answer.Answer.TheVariants as answer
+use Rattle.catalog_core.specs.Named.{HasFile, file_at}
 use Rattle.catalog_core.specs.Table.{Table, most_ticks}
 use Rattle.catalog_line.specs.CatalogText.{catalog_text}
 use Rattle.collection_plan.specs.Collecting.{IsCollection}
@@ -25,8 +27,9 @@ use Rattle.folder.specs.Sound.{Care}
 use Rattle.folder.specs.State.{State, table}
 use Rattle.folder.specs.Damage.{ShowsDamage}
 use Rattle.folder.specs.Next.{with_stream, with_rows, with_collection}
-use Rattle.work_run.specs.Working.{Works, Overflows, IsDear}
+use Rattle.work_run.specs.Working.{Overflows, IsDear}
 use Rattle.work_run.specs.Working as working
+use Rattle.work_turns.specs.Ends.{WorksInTurns}
 
 -- an answer, and the state after it
 pub record Outcome : Type 0 where
@@ -52,23 +55,25 @@ appended s (Err why) = refused s why
 
 -- ---- working a plan off, at a cut
 
--- The rows are the meaning of the plan as it is written, on the extents of the cut, whatever is kept; or it is refused for an
--- overflow, or for a machine time above its limit. A refusal leaves the state.
-abbrev pub IsWorkOn : State → Option Program → PlainPlan → Cuts → Answer → State → Type 0
-IsWorkOn s program plan cuts (answer.Result rows used kept read) new = Works s program plan cuts (working.given rows used kept read) new
-IsWorkOn s program plan cuts (answer.Refused refusal.Overflow) new = Overflows s plan cuts × (new ≡ s)
-IsWorkOn s program plan cuts (answer.Refused (refusal.Limit limit.Machine)) new = IsDear s plan cuts × (new ≡ s)
-IsWorkOn s program plan cuts _ new = ⊥
+-- The rows are the meaning of the plan as it is written, on the extents of the cut, whatever is kept and whatever of it is damaged,
+-- while these kept results are held; or it is refused for an overflow, or for a machine time above its limit. A refusal leaves the
+-- state.
+abbrev pub IsWorkOn : Care → List ℕ → State → Option Program → PlainPlan → Cuts → Answer → State → Type 0
+IsWorkOn care held s program plan cuts (answer.Result rows used kept read) new =
+    (form : PlainPlan) × WorksInTurns care held s program plan form cuts (working.given rows used kept read) new
+IsWorkOn care held s program plan cuts (answer.Refused refusal.Overflow) new = Overflows s plan cuts × (new ≡ s)
+IsWorkOn care held s program plan cuts (answer.Refused (refusal.Limit limit.Machine)) new = IsDear s plan cuts × (new ≡ s)
+IsWorkOn care held s program plan cuts _ new = ⊥
 
 -- a run works its plan off on all extents, and the name then stands for the plan and these extents
-abbrev pub RunsTo : State → Result Run Refusal → Outcome → Type 0
-RunsTo s (Ok run) given = IsWorkOn s (Some run.program) run.plan run.program.cuts given.answer given.state
-RunsTo s (Err why) given = given ≡ refused s why
+abbrev pub RunsTo : Care → List ℕ → State → Result Run Refusal → Outcome → Type 0
+RunsTo care held s (Ok run) given = IsWorkOn care held s (Some run.program) run.plan run.program.cuts given.answer given.state
+RunsTo care held s (Err why) given = given ≡ refused s why
 
 -- a fetch works off the plan that goes by a name, on all extents or on those of its last run; the name goes on standing for it
-abbrev pub FetchesTo : State → Result Target Refusal → Outcome → Type 0
-FetchesTo s (Ok target) given = IsWorkOn s None target.plan target.cuts given.answer given.state
-FetchesTo s (Err why) given = given ≡ refused s why
+abbrev pub FetchesTo : Care → List ℕ → State → Result Target Refusal → Outcome → Type 0
+FetchesTo care held s (Ok target) given = IsWorkOn care held s None target.plan target.cuts given.answer given.state
+FetchesTo care held s (Err why) given = given ≡ refused s why
 
 -- ---- kept results
 
@@ -102,16 +107,17 @@ IsOfJobs (command.Close job) = ⊤
 IsOfJobs (command.DropJob job) = ⊤
 IsOfJobs _ = ⊥
 
--- what the machine does where there is memory and each file is read, while these kept results are held
-abbrev pub Performs : List ℕ → State → Command → Outcome → Type 0
-Performs held s (command.Stream name columns) given = given ≡ made s name columns (making (table s) name columns)
-Performs held s (command.Append name lines) given = (plan : Result Append Refusal) × IsAppending (table s) name lines plan × (given ≡ appended s plan)
-Performs held s (command.Run name tree) given = RunsTo s (running (table s) name tree) given
-Performs held s (command.Fetch name as_run) given = (planned : Result Target Refusal) × IsFetching (table s) name as_run planned × FetchesTo s planned given
-Performs held s (command.Collect reclaim) given = CollectsTo (nat_le most_ticks s.tick) held s reclaim given
-Performs held s command.Entries given = given ≡ outcome (told_entries (table s)) s
-Performs held s command.Catalog given = given ≡ outcome (told_catalog (table s)) s
-Performs held s _ given = ⊥
+-- What the machine does where there is memory and the file of each extent is read, while these kept results are held. So much is known
+-- of the files: only a kept result whose file may show damage may be dropped.
+abbrev pub Performs : Care → List ℕ → State → Command → Outcome → Type 0
+Performs care held s (command.Stream name columns) given = given ≡ made s name columns (making (table s) name columns)
+Performs care held s (command.Append name lines) given = (plan : Result Append Refusal) × IsAppending (table s) name lines plan × (given ≡ appended s plan)
+Performs care held s (command.Run name tree) given = RunsTo care held s (running (table s) name tree) given
+Performs care held s (command.Fetch name as_run) given = (planned : Result Target Refusal) × IsFetching (table s) name as_run planned × FetchesTo care held s planned given
+Performs care held s (command.Collect reclaim) given = CollectsTo (nat_le most_ticks s.tick) held s reclaim given
+Performs care held s command.Entries given = given ≡ outcome (told_entries (table s)) s
+Performs care held s command.Catalog given = given ≡ outcome (told_catalog (table s)) s
+Performs care held s _ given = ⊥
 
 -- want of memory, which may be answered in place of any answer
 abbrev pub IsWant : Refusal → Type 0
@@ -124,16 +130,27 @@ IsFileEvent care s refusal.Fault = ⊤
 IsFileEvent care s (refusal.Damaged file kept found) = ShowsDamage care s file kept found
 IsFileEvent care s why = IsWant why
 
--- what may come in the course of a command; only runs and fetches read files
+-- it is the file of an extent
+abbrev pub IsExtentFile : Table → ℕ → Type 0
+IsExtentFile t file = (stream number : ℕ) × HasFile t (Extent stream number) × (file ≡ (file_at t (Extent stream number)).file)
+
+-- damage is that of an extent's file, where it is told
+abbrev pub IsOfExtent : Table → Refusal → Type 0
+IsOfExtent t (refusal.Damaged file kept found) = IsExtentFile t file
+IsOfExtent t (refusal.Unreadable file at) = IsExtentFile t file
+IsOfExtent t _ = ⊤
+
+-- What may come in the course of a command. Only runs and fetches read files, and damage that they tell is that of extents.
 abbrev pub IsEvent : Care → State → Command → Refusal → Type 0
-IsEvent care s (command.Run name tree) why = IsFileEvent care s why
-IsEvent care s (command.Fetch name as_run) why = IsFileEvent care s why
+IsEvent care s (command.Run name tree) why = IsFileEvent care s why × IsOfExtent (table s) why
+IsEvent care s (command.Fetch name as_run) why = IsFileEvent care s why × IsOfExtent (table s) why
 IsEvent care s _ why = IsWant why
 
 -- one step over files of which so much is known; an event changes nothing
 abbrev pub Step : Care → List ℕ → State → Command → Answer → State → Type 0
-Step care held old given_to given new = Performs held old given_to (outcome given new) ⊎ ((why : Refusal) × IsEvent care old given_to why × (outcome given new ≡ refused old why))
+Step care held old given_to given new = Performs care held old given_to (outcome given new) ⊎ ((why : Refusal) × IsEvent care old given_to why × (outcome given new ≡ refused old why))
 
 -- the same of work
-abbrev pub WorkStep : Care → State → Option Program → PlainPlan → Cuts → Answer → State → Type 0
-WorkStep care old program plan cuts given new = IsWorkOn old program plan cuts given new ⊎ ((why : Refusal) × IsFileEvent care old why × (outcome given new ≡ refused old why))
+abbrev pub WorkStep : Care → List ℕ → State → Option Program → PlainPlan → Cuts → Answer → State → Type 0
+WorkStep care held old program plan cuts given new =
+    IsWorkOn care held old program plan cuts given new ⊎ ((why : Refusal) × IsFileEvent care old why × IsOfExtent (table old) why × (outcome given new ≡ refused old why))

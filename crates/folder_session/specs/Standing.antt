@@ -9,8 +9,9 @@ use Rattle.estimator.specs.Cuts.{Cuts}
 use Rattle.catalog_core.specs.Table.{Table}
 use Rattle.catalog_types.specs.PlainEntry.{PlainEntry}
 use Rattle.catalog_types.specs.declared.program.Program.{Program}
+use Rattle.entry_table.specs.Ids.{is_there}
 use Rattle.script_text.specs.declared.answer.Answer.{Answer}
-use Rattle.script_text.specs.declared.answer.Answer.TheVariants.{Evicted, Refused}
+use Rattle.script_text.specs.declared.answer.Answer.TheVariants.{Refused}
 use Rattle.script_text.specs.declared.item.Command.{Command}
 use Rattle.script_text.specs.declared.item.Command.TheVariants as command
 use Rattle.folder.specs.Folders.{FolderMeans, journal_of, table_in}
@@ -54,17 +55,17 @@ pub record Records (care : Care) (u v : View) (session : FolderSession) (s new :
   pub since : Since care s new u v
 
 -- work was worked off, or was refused: the session means the state after it, and each crash since leaves the one before or that
-pub record WorksOff (care : Care) (u v : View) (session : FolderSession) (s : State) (program : Option Program) (plan : PlainPlan) (cuts : Cuts) (given : Answer) : Type 0 where
+pub record WorksOff (care : Care) (u v : View) (held : List ℕ) (session : FolderSession) (s : State) (program : Option Program) (plan : PlainPlan) (cuts : Cuts) (given : Answer) : Type 0 where
   pub new : State
-  pub step : WorkStep care s program plan cuts given new
+  pub step : WorkStep care held s program plan cuts given new
   pub stands : Stands care v session new
   pub since : Since care s new u v
 
 -- the store failed in the work
-pub record BreaksOff (care : Care) (u v : View) (s : State) (program : Option Program) (plan : PlainPlan) (cuts : Cuts) : Type 0 where
+pub record BreaksOff (care : Care) (u v : View) (held : List ℕ) (s : State) (program : Option Program) (plan : PlainPlan) (cuts : Cuts) : Type 0 where
   pub answer : Answer
   pub new : State
-  pub step : WorkStep care s program plan cuts answer new
+  pub step : WorkStep care held s program plan cuts answer new
   pub recorded : Follows s new
   pub since : Since care s new u v
   pub left : IsLeftWith care v s new
@@ -102,11 +103,20 @@ AppendsAtMost folder u v = Spans (IsAppended folder) (λ image. Unit {0}) u v
 abbrev pub IsOfResult : Folder → ℕ → Type 0
 IsOfResult folder file = (e : PlainEntry) × Contains (table_in folder).entries e × (e.file.file ≡ file)
 
+-- the files that work changes: those that it writes, and those of kept results, which it removes
+abbrev pub IsChangedByWork : Folder → ℕ → Type 0
+IsChangedByWork folder file = IsWritten folder file ⊎ IsOfResult folder file
+
+abbrev pub WorkChangesAtMost : Folder → View → View → Type 0
+WorkChangesAtMost folder u v = Spans (IsChangedByWork folder) (λ image. Unit {0}) u v
+
 -- the files that a command may change: the log in use; an append the next file, a run, a fetch or the close of a job others that no
--- state names yet, and a collection those of kept results, which it removes
+-- state names yet, and a collection, a run or a fetch those of kept results, which it removes
 abbrev pub MayChange : Folder → Command → ℕ → Type 0
 MayChange folder (command.Stream name columns) file = IsLogInUse folder file
 MayChange folder (command.Append name lines) file = IsAppended folder file
+MayChange folder (command.Run name tree) file = IsChangedByWork folder file
+MayChange folder (command.Fetch name as_run) file = IsChangedByWork folder file
 MayChange folder (command.Collect reclaim) file = IsLogInUse folder file ⊎ IsOfResult folder file
 MayChange folder command.Entries file = ⊥
 MayChange folder command.Catalog file = ⊥
@@ -119,11 +129,14 @@ MayChange folder c file = IsWritten folder file
 abbrev pub ChangesAtMost : Folder → Command → View → View → Type 0
 ChangesAtMost folder c u v = Spans (MayChange folder c) (λ image. Unit {0}) u v
 
--- the files of the kept results with these ids aren't there, unless a removal failed
-abbrev pub AreGone : Table → List ℕ → View → Counts → Counts → Type 0
-AreGone t ids v old new = Rose old.removes new.removes ⊎ ((e : PlainEntry) → Contains t.entries e → Contains ids e.id → v.there e.file.file ≡ false)
+-- no file is changed but the log in use and these
+abbrev pub RecordsAndRemoves : Folder → List ℕ → View → View → Type 0
+RecordsAndRemoves folder files u v = Spans (λ file. IsLogInUse folder file ⊎ Contains files file) (λ image. Unit {0}) u v
 
--- so it is with those that a collection tells
-abbrev pub LeavesNoFile : Table → Command → Answer → View → Counts → Counts → Type 0
-LeavesNoFile t (command.Collect reclaim) (Evicted ids bytes) v old new = AreGone t ids v old new
-LeavesNoFile t _ _ v old new = ⊤
+-- no file is changed but those that are written and these
+abbrev pub WritesAndRemoves : Folder → List ℕ → View → View → Type 0
+WritesAndRemoves folder files u v = Spans (λ file. IsWritten folder file ⊎ Contains files file) (λ image. Unit {0}) u v
+
+-- the files of the kept results that the first table has and the second one hasn't aren't there, unless a removal failed
+abbrev pub AreGoneSince : Table → Table → View → Counts → Counts → Type 0
+AreGoneSince t u v old new = Rose old.removes new.removes ⊎ ((e : PlainEntry) → Contains t.entries e → is_there u.entries e.id ≡ false → v.there e.file.file ≡ false)

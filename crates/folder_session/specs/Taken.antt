@@ -3,11 +3,7 @@ use Rattle.std.specs.Prelude.{◌≡◌, ◌⊎◌, ℕ, Bool, List, Result, Ok,
 use Rattle.outside_traits.specs.View.{Counts}
 use Rattle.plan_core.specs.PlainPlan.{PlainPlan}
 use Rattle.estimator.specs.Cuts.{Cuts}
-use Rattle.rewrite_core.specs.Files.{files_of}
-use Rattle.rewrite_core.specs.PlainRewriting.{PlainRewriting}
-use Rattle.catalog_core.specs.Named.{bytes_named}
 use Rattle.catalog_core.specs.Table.{Table}
-use Rattle.plan_choice.specs.Taken.{IsTaken}
 use Rattle.planning.specs.Fetching.{IsFetching}
 use Rattle.planning.specs.Running.{Run, Target, running}
 use Rattle.script_text.specs.declared.answer.Answer.{Answer}
@@ -15,29 +11,26 @@ use Rattle.script_text.specs.declared.answer.Answer.TheVariants as answer
 use Rattle.script_text.specs.declared.answer.Refusal.{Refusal}
 use Rattle.script_text.specs.declared.item.Command.{Command}
 use Rattle.script_text.specs.declared.item.Command.TheVariants as command
-use Rattle.executor.specs.Running.{TookAtMost}
 use Rattle.work_run.specs.Ends.{CountsRead}
+use Rattle.work_turns.specs.Turns.{TookInTurns}
 
 -- no byte is taken
 abbrev pub TakesNone : Counts → Counts → Type 0
 TakesNone old new = new.taken ≡ old.taken
 
--- at most as many are as the files have that the rewriting names which is taken of a plan at a cut
-pub record TakesForTaken (t : Table) (plan : PlainPlan) (cuts : Cuts) (old new : Counts) : Type 0 where
-  pub normal : PlainPlan
-  pub rewriting : PlainRewriting
-  pub taken : IsTaken t plan normal cuts rewriting
-  pub most : TookAtMost (bytes_named t (files_of rewriting)) old new
+-- at most as many are as the files have that the rewritings name which are taken of a plan at a cut, one after another
+abbrev pub TakesInTurns : Table → PlainPlan → Cuts → Counts → Counts → Type 0
+TakesInTurns t plan cuts old new = (form : PlainPlan) × TookInTurns t plan form cuts old new
 
 -- a run that is refused before its work reads none
 abbrev pub TakesForRun : Table → Result Run Refusal → Counts → Counts → Type 0
-TakesForRun t (Ok run) old new = TakesNone old new ⊎ TakesForTaken t run.plan run.program.cuts old new
+TakesForRun t (Ok run) old new = TakesNone old new ⊎ TakesInTurns t run.plan run.program.cuts old new
 TakesForRun t (Err why) old new = TakesNone old new
 
 -- nor does a fetch
 abbrev pub TakesForFetch : Table → List ℕ → Bool → Counts → Counts → Type 0
 TakesForFetch t name as_run old new =
-    TakesNone old new ⊎ ((target : Target) × IsFetching t name as_run (Ok target) × TakesForTaken t target.plan target.cuts old new)
+    TakesNone old new ⊎ ((target : Target) × IsFetching t name as_run (Ok target) × TakesInTurns t target.plan target.cuts old new)
 
 -- only runs and fetches read files
 abbrev pub TakesFor : Table → Command → Counts → Counts → Type 0

@@ -18,7 +18,7 @@ ghost use Rattle.folder_session.specs.WorkRefusals.{collection_refusal};
 use crate::refusals::collection_refusal;
 use crate::session::FolderSession;
 use collection_plan::{CollectionPlan, plan_collection, same_collection_in_any_order};
-use folder::{files_that_went, left_stores, next_states};
+use folder::{files_that_went, next_states};
 use outside_traits::{Failed, Store};
 use planning::Recording;
 use rows_core::Seq;
@@ -26,7 +26,7 @@ use script_text::{Answer, Refusal};
 
 impl FolderSession {
     ghost use Rattle.folder_session.specs.Standing.{Stands, Performs, Breaks, Records, KeepsNot, folder_of};
-    ghost use Rattle.folder_session.specs.Standing.{LeavesWhereRefused, ChangesAtMost, LeavesNoFile, AreGone};
+    ghost use Rattle.folder_session.specs.Standing.{LeavesWhereRefused, ChangesAtMost, AreGoneSince};
 
     /// Evicts kept results that aren't held until their files had so many bytes together, or none is left
     /// that may go.
@@ -44,8 +44,8 @@ impl FolderSession {
         ensures narrow { IfOk result (λ next. IsNarrow next.1) }
         ensures alone { ChangesAtMost (folder_of self) (command.Collect reclaim) (D.view store.old)
             (D.view store.new) }
-        ensures gone { IsTrue D.tells → IfOk result (λ next. LeavesNoFile (table_in (folder_of self))
-            (command.Collect reclaim) next.1 (D.view store.new) (D.counts store.old) (D.counts store.new)) }
+        ensures gone { IsTrue D.tells → IfOk result (λ next. AreGoneSince (table_in (folder_of self))
+            (table_in (folder_of next.0)) (D.view store.new) (D.counts store.old) (D.counts store.new)) }
         ensures later { IfOk result (λ next.
             IsLater held.now (table_in (folder_of self)) (table_in (folder_of next.0))) }
         ensures cause { OnErr result (Rose (D.counts store.old).writes (D.counts store.new).writes) }
@@ -89,8 +89,8 @@ impl FolderSession {
         ensures answer { IfOk result (λ next. next.1 ≡ Answer.Evicted plan.ids.items plan.bytes) }
         ensures alone { (reclaim : ℕ) → ChangesAtMost (folder_of self) (command.Collect reclaim)
             (D.view store.old) (D.view store.new) }
-        ensures gone { IsTrue D.tells → OnOk result (AreGone (table_in (folder_of self)) plan.ids.items
-            (D.view store.new) (D.counts store.old) (D.counts store.new)) }
+        ensures gone { IsTrue D.tells → IfOk result (λ next. AreGoneSince (table_in (folder_of self))
+            (table_in (folder_of next.0)) (D.view store.new) (D.counts store.old) (D.counts store.new)) }
         ensures later { (held : List ℕ) → SparesHeld held plan.change → IfOk result (λ next.
             IsLater held (table_in (folder_of self)) (table_in (folder_of next.0))) }
         ensures cause { OnErr result (Rose (D.counts store.old).writes (D.counts store.new).writes) }
@@ -102,7 +102,6 @@ impl FolderSession {
         ensures counts { Rises (D.counts store.old) (D.counts store.new) }
     {
         next_states::<D>();
-        left_stores::<D>();
         files_that_went();
         same_collection_in_any_order();
         let CollectionPlan {
@@ -118,12 +117,6 @@ impl FolderSession {
             ids: Seq::new(ids),
             bytes,
         };
-        match self.record(store, Recording { change, body }, answer) {
-            Ok((session, answer)) => {
-                session.folder.remove_files(store, &files);
-                Ok((session, answer))
-            }
-            Err(Failed) => Err(Failed),
-        }
+        self.record_and_remove(store, Recording { change, body }, answer, &files)
     }
 }

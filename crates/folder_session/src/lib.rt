@@ -7,9 +7,10 @@ pub mod laws;
 mod listing;
 pub mod refusals;
 pub mod session;
+mod turning;
 mod working;
 
-pub use choosing::chosen;
+pub use choosing::{NormalChoice, chosen};
 pub use folder::LoadRefusal;
 pub use laws::{files_are_read, one_outcome, refusals_have_causes};
 pub use refusals::refusal_of;

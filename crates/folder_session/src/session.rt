@@ -1,6 +1,7 @@
 //! A folder that was loaded, and the commands performed over it that concern no job.
 ghost use Rattle.std.specs.Prelude.{◌≡◌, ◌⊎◌, ℕ, ◌+◌, ◌<◌, ◌≤◌, ◌^◌, false, List, length};
 ghost use Rattle.std.specs.Prelude.{IsTrue, IfOk, IsErrOf, OnOk, OnErr};
+ghost use Rattle.std.specs.List.{All};
 ghost use Rattle.outside_traits.specs.Counts.{Rose};
 ghost use Rattle.outside_traits.specs.View.{View, Counts, Now, Only};
 ghost use Rattle.outside_traits.specs.Calls.{Rises, MayRaiseReads, MayRaiseWrites};
@@ -12,6 +13,7 @@ ghost use Rattle.folder.specs.Folders.{catalog_of, journal_of, table_in, FolderS
 ghost use Rattle.folder.specs.InUse.{IsInUse, IsLoadedAsItIs};
 ghost use Rattle.folder.specs.Unnamed.{HasRoot, HasOnlyNamed, ChangesUnnamed, ChangesLogsOrUnnamed};
 ghost use Rattle.folder.specs.Left.{IsLeft, IsLeftWith, Since};
+ghost use Rattle.folder.specs.Removing.{AreGone, IsFree};
 ghost use Rattle.folder.specs.Replay.{ReadsAs, StopsReading, is_checkpoint};
 ghost use Rattle.folder.specs.Sound.{Care};
 ghost use Rattle.folder.specs.Standing.{IsNext};
@@ -50,7 +52,7 @@ pub struct FolderSession {
 
 impl FolderSession {
     ghost use Rattle.folder_session.specs.Standing.{Stands, Performs, Breaks, Records, KeepsNot, folder_of};
-    ghost use Rattle.folder_session.specs.Standing.{LeavesWhereRefused, ChangesAtMost, LeavesNoFile};
+    ghost use Rattle.folder_session.specs.Standing.{LeavesWhereRefused, ChangesAtMost, AreGoneSince};
 
     /// Loads a folder, which is made where its making isn't finished. `NotAStore` comes exactly where its log
     /// files have no reading, with the first byte where reading stops, unless the store fails or memory is
@@ -123,9 +125,10 @@ impl FolderSession {
     }
 
     /// Performs a command that concerns no job, while jobs hold the kept results with these ids, and answers
-    /// it. A refused command changes nothing. All memory is taken before the
-    /// first write; from then on only a failed write or sync ends the command, which is `Failed`: then the
-    /// store is left with the state before the command and the one after it.
+    /// it. A run or a fetch drops the results whose files it found damaged, but those that are held. A refused
+    /// command changes nothing. All memory is taken before the first write; from then on only a failed write or
+    /// sync ends the command, which is `Failed`: then the store is left with the state before the command and the
+    /// one after it.
     pub fn step<D: Store>(
         self,
         store: &mut D,
@@ -143,9 +146,9 @@ impl FolderSession {
         // Whatever the answer, only the log in use and files that no state names yet are written, by an
         // append the next one alone, and only files of kept results are removed.
         ensures alone { ChangesAtMost (folder_of self) command (D.view store.old) (D.view store.new) }
-        // After a collection no file of a kept result that went is there, unless a removal failed.
-        ensures gone { IsTrue D.tells → IfOk result (λ next. LeavesNoFile (table_in (folder_of self)) command
-            next.1 (D.view store.new) (D.counts store.old) (D.counts store.new)) }
+        // No file of a kept result that went is there, unless a removal failed.
+        ensures gone { IsTrue D.tells → IfOk result (λ next. AreGoneSince (table_in (folder_of self))
+            (table_in (folder_of next.0)) (D.view store.new) (D.counts store.old) (D.counts store.new)) }
         // What stands in the table goes on standing in it, and so do the kept results that are held.
         ensures later { IfOk result (λ next.
             IsLater held.now (table_in (folder_of self)) (table_in (folder_of next.0))) }
@@ -160,11 +163,12 @@ impl FolderSession {
         ensures only_fault { IfOk result (λ next. (next.1 ≡ Answer.Refused Refusal.Fault → ⊥)
             → (D.counts store.new).reads ≡ (D.counts store.old).reads) }
         ensures looks { OnErr result ((D.counts store.new).reads ≡ (D.counts store.old).reads) }
-        // Where the store tells its files, damage and unreadable bytes are those of a file that a run or a
-        // fetch reads.
+        // Where the store tells its files, damage and unreadable bytes are those of an extent's file that a run
+        // or a fetch reads.
         ensures found { IsTrue D.tells → IfOk result (λ next. HasByteCause (table_in (folder_of self)) command
             (D.view store.old).files next.1) }
-        // A result has taken the bytes that it tells, and no command more than the files that it reads have.
+        // A result has taken the bytes that it tells, and no command more than the files that it reads in its
+        // turns have.
         ensures taken { IsTrue D.tells → (care : Care) (s : State) → Stands care (D.view store.old) self s
             → IfOk result (λ next. TakesAsTold next.1 (D.counts store.old) (D.counts store.new)) }
         ensures most { IsTrue D.tells
@@ -177,8 +181,8 @@ impl FolderSession {
         match command {
             Command::Stream { name, columns } => self.make(store, name, columns),
             Command::Append { name, lines } => self.append(store, name, lines),
-            Command::Run { name, plan } => self.run(store, name, &plan),
-            Command::Fetch { name, as_run } => self.fetch(store, name, as_run),
+            Command::Run { name, plan } => self.run(store, name, &plan, held),
+            Command::Fetch { name, as_run } => self.fetch(store, name, as_run, held),
             Command::Collect { bytes } => self.collect(store, bytes, held),
             Command::Entries => Ok(self.tell_entries()),
             Command::Catalog => Ok(self.tell_catalog()),
@@ -270,7 +274,7 @@ impl FolderSession {
 
 impl FolderSession {
     ghost use Rattle.folder_session.specs.Standing.{Stands, Performs, Breaks, Records, KeepsNot, folder_of};
-    ghost use Rattle.folder_session.specs.Standing.{AppendsAtMost};
+    ghost use Rattle.folder_session.specs.Standing.{AppendsAtMost, RecordsAndRemoves};
 
     // Records a change for which the folder is ready.
     pub(crate) fn record<D: Store>(
@@ -307,6 +311,51 @@ impl FolderSession {
         let Recording { change, body } = recording;
         match folder.record(store, change, &body) {
             Ok(folder) => Ok((FolderSession { folder, alloc }, answer)),
+            Err(Failed) => Err(Failed),
+        }
+    }
+
+    /// Records a change for which the folder is ready, and then removes these files, which the table after it
+    /// names no more.
+    pub(crate) fn record_and_remove<D: Store>(
+        self,
+        store: &mut D,
+        recording: Recording,
+        answer: Answer,
+        files: &[u64],
+    ) -> Result<(FolderSession, Answer), Failed>
+        requires ready { IsReady (catalog_of (folder_of self)) recording.change }
+        requires record { IsRecordOf (table_in (folder_of self)) recording.change recording.body.items }
+        requires no_checkpoint { is_checkpoint recording.change ≡ false }
+        requires free { All (IsFree (after recording.change (table_in (folder_of self)))) files.now }
+        ensures ok { IsTrue D.tells → (care : Care) (s new : State) → Stands care (D.view store.old) self s
+            → IsNext care (D.view store.old) s recording.change new
+            → IfOk result (λ next. Records care (D.view store.old) (D.view store.new) next.0 s new) }
+        ensures err { IsTrue D.tells → (care : Care) (s new : State) → Stands care (D.view store.old) self s
+            → IsNext care (D.view store.old) s recording.change new
+            → OnErr result (KeepsNot care (D.view store.old) (D.view store.new) s new) }
+        ensures answer { IfOk result (λ next. next.1 ≡ answer) }
+        ensures table { IfOk result (λ next. table_in (folder_of next.0)
+            ≡ after recording.change (table_in (folder_of self))) }
+        ensures later { (held : List ℕ) → SparesHeld held recording.change → IfOk result (λ next.
+            IsLater held (table_in (folder_of self)) (table_in (folder_of next.0))) }
+        ensures alone { RecordsAndRemoves (folder_of self) files.now (D.view store.old) (D.view store.new) }
+        ensures gone { IsTrue D.tells → OnOk result (Rose (D.counts store.old).removes (D.counts store.new).removes
+            ⊎ AreGone (D.view store.new) files.now) }
+        ensures cause { OnErr result (Rose (D.counts store.old).writes (D.counts store.new).writes) }
+        ensures no_fault { OnOk result ((D.counts store.new).writes ≡ (D.counts store.old).writes) }
+        ensures crash { IsTrue D.tells → FolderStands (D.view store.old) (folder_of self)
+            → IfOk result (λ next. FolderStands (D.view store.new) (folder_of next.0)) }
+        ensures reads { (D.counts store.new).reads ≡ (D.counts store.old).reads }
+        ensures taken { (D.counts store.new).taken ≡ (D.counts store.old).taken }
+        ensures counts { Rises (D.counts store.old) (D.counts store.new) }
+    {
+        left_stores::<D>();
+        match self.record(store, recording, answer) {
+            Ok((session, answer)) => {
+                session.folder.remove_files(store, files);
+                Ok((session, answer))
+            }
             Err(Failed) => Err(Failed),
         }
     }

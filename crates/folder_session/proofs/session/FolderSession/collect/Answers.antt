@@ -13,7 +13,8 @@ use Rattle.folder_session.specs.Causes.{SparesStore}
 use Rattle.folder_session.specs.Machine.{refused, IsEvent}
 use Rattle.folder_session.specs.Machine as machine
 use Rattle.folder_session.specs.Standing.{folder_of}
-use Rattle.folder_session.proofs.CollectLemmas.{collected_err, collection_no_checkpoint, collected_ok, collection_spares, changes_prepared, left_as_told, gone_prepared}
+use Rattle.folder_session.proofs.CollectLemmas.{collected_err, collection_no_checkpoint, collected_ok, collection_spares, changes_prepared}
+use Rattle.folder_session.proofs.DroppedLemmas.{gone_as_prepared, gone_from_none}
 use Rattle.folder_session.proofs.LeavingLemmas.{changes_none, leaves_given}
 use Rattle.folder_session.proofs.StepLemmas.{refuses, stands_prepared, table_prepared, kept_performs, kept_breaks}
 use Rattle.folder_session.proofs.TakenLemmas.{of_no_file}
@@ -30,7 +31,7 @@ pub returns-in-Err-clause-ok : goal.returns-in-Err-clause-ok
 returns-in-Err-clause-ok g c = λ told care s stands.
     let same = ap table_of c.catalog.ensures ∙ stands.means.table_is in
     refuses care _ c.args.self c.args.self s stands c.args.held.now (command.Collect c.args.reclaim) c.collection_refusal.result refl refl
-    (subst (λ (why : Refusal). machine.Performs c.args.held.now s (command.Collect c.args.reclaim) (refused s why) ⊎ IsEvent care s (command.Collect c.args.reclaim) why) (sym c.collection_refusal.ensures)
+    (subst (λ (why : Refusal). machine.Performs care c.args.held.now s (command.Collect c.args.reclaim) (refused s why) ⊎ IsEvent care s (command.Collect c.args.reclaim) why) (sym c.collection_refusal.ensures)
     (collected_err care c.args.held.now (table_of c.catalog.result.now) s same c.args.reclaim c.in-Err.refusal c.in-Err.ensures.commands))
 
 pub returns-in-Err-clause-of_no_file : goal.returns-in-Err-clause-of_no_file
@@ -90,9 +91,15 @@ returns-in-Ok-prepare-clause-alone g c = changes_prepared _ _ c.args.reclaim c.a
 
 pub returns-in-Ok-prepare-clause-gone : goal.returns-in-Ok-prepare-clause-gone
 returns-in-Ok-prepare-clause-gone g c = λ told.
-    left_as_told (table_in (folder_of c.args.self)) c.args.reclaim c.in-Ok.plan.ids.items c.in-Ok.plan.bytes (g.D.Store.view c.record_collection.new.store) (g.D.Store.counts c.args.store.now) (g.D.Store.counts c.record_collection.new.store) _
-    c.record_collection.ensures.answer (gone_prepared _ (table_in (folder_of c.args.self)) (table_in (folder_of c.prepare.new.self)) c.in-Ok.plan.ids.items (g.D.Store.view c.record_collection.new.store) (g.D.Store.counts c.args.store.now) (g.D.Store.counts c.record_collection.new.store)
-    c.prepare.ensures.table (c.record_collection.ensures.gone told))
+    gone_as_prepared (table_in (folder_of c.args.self)) (table_in (folder_of c.prepare.new.self)) c.prepare.ensures.table (g.D.Store.view c.record_collection.new.store) (g.D.Store.counts c.args.store.now) (g.D.Store.counts c.record_collection.new.store)
+    c.record_collection.result (c.record_collection.ensures.gone told)
+
+pub returns-in-Err-clause-gone : goal.returns-in-Err-clause-gone
+returns-in-Err-clause-gone g c = λ told. (let t = table_in (folder_of c.args.self) in gone_from_none t t refl (g.D.Store.view c.args.store.now) (g.D.Store.counts c.args.store.now) (g.D.Store.counts c.args.store.now))
+
+pub returns-in-Err-prepare-clause-gone : goal.returns-in-Err-prepare-clause-gone
+returns-in-Err-prepare-clause-gone g c = λ told.
+    gone_from_none (table_in (folder_of c.args.self)) (table_in (folder_of c.prepare.new.self)) c.prepare.ensures.table (g.D.Store.view c.args.store.now) (g.D.Store.counts c.args.store.now) (g.D.Store.counts c.args.store.now)
 
 -- ---- what goes on standing
 

@@ -5,9 +5,10 @@ use Rattle.folder.specs.Folders.{table_in, FolderStands}
 use Rattle.folder_session.specs.declared.session.FolderSession.{FolderSession}
 use Rattle.folder_session.specs.Causes.{HasByteCause}
 use Rattle.folder_session.specs.Machine.{told_catalog, told_entries}
-use Rattle.folder_session.specs.Standing.{Performs, ChangesAtMost, LeavesNoFile, folder_of}
+use Rattle.folder_session.specs.Standing.{Performs, ChangesAtMost, folder_of}
 use Rattle.folder_session.specs.Taken.{TakesFor}
-use Rattle.folder_session.proofs.CollectLemmas.{nothing_left, tells_list, list_leaves, list_narrow, list_tells}
+use Rattle.folder_session.proofs.CollectLemmas.{tells_list, list_leaves, list_narrow, list_tells}
+use Rattle.folder_session.proofs.DroppedLemmas.{gone_from_none, none_gone}
 use Rattle.folder_session.proofs.RefusalLemmas.{stream_causes, append_causes, collect_causes, entries_causes, catalog_causes, no_fault_in}
 use Rattle.folder_session.proofs.TakenLemmas.{told_of_any, none_for}
 use Rattle.folder_session.proofs.LeavingLemmas.{changes_none, looked_before, failed_after}
@@ -24,7 +25,7 @@ returns-in-Append-clause-ok g c = λ told care s stands.
 
 pub returns-in-Run-clause-ok : goal.returns-in-Run-clause-ok
 returns-in-Run-clause-ok g c = λ told care s stands.
-    subst (λ (x : Command). IfOk c.run.result (λ next. Performs care (g.D.Store.view c.args.store.now) (g.D.Store.view c.run.new.store) c.args.held.now next.0 s x next.1)) (sym c.in-Run.is) (c.run.ensures.ok told care c.args.held.now s stands)
+    subst (λ (x : Command). IfOk c.run.result (λ next. Performs care (g.D.Store.view c.args.store.now) (g.D.Store.view c.run.new.store) c.args.held.now next.0 s x next.1)) (sym c.in-Run.is) (c.run.ensures.ok told care s stands)
 
 pub returns-in-Stream-clause-taken : goal.returns-in-Stream-clause-taken
 returns-in-Stream-clause-taken g c = λ told care s stands. told_of_any (g.D.Store.counts c.args.store.now) (g.D.Store.counts c.make.new.store) _ c.make.ensures.of_no_file
@@ -74,33 +75,23 @@ pub returns-in-Stream-clause-alone : goal.returns-in-Stream-clause-alone
 returns-in-Stream-clause-alone g c = subst (λ (x : Command). ChangesAtMost (folder_of c.args.self) x (g.D.Store.view c.args.store.now) (g.D.Store.view c.make.new.store)) (sym c.in-Stream.is) c.make.ensures.alone
 
 pub returns-in-Stream-clause-gone : goal.returns-in-Stream-clause-gone
-returns-in-Stream-clause-gone g c = λ told.
-    subst (λ (x : Command). IfOk c.make.result (λ next. LeavesNoFile (table_in (folder_of c.args.self)) x next.1 (g.D.Store.view c.make.new.store) (g.D.Store.counts c.args.store.now) (g.D.Store.counts c.make.new.store))) (sym c.in-Stream.is) (nothing_left tt c.make.result)
+returns-in-Stream-clause-gone g c = λ told. none_gone (table_in (folder_of c.args.self)) (g.D.Store.view c.make.new.store) (g.D.Store.counts c.args.store.now) (g.D.Store.counts c.make.new.store) c.make.result c.make.ensures.later
 
 pub returns-in-Append-clause-alone : goal.returns-in-Append-clause-alone
 returns-in-Append-clause-alone g c = subst (λ (x : Command). ChangesAtMost (folder_of c.args.self) x (g.D.Store.view c.args.store.now) (g.D.Store.view c.append.new.store)) (sym c.in-Append.is) c.append.ensures.alone
 
 pub returns-in-Append-clause-gone : goal.returns-in-Append-clause-gone
-returns-in-Append-clause-gone g c = λ told.
-    subst (λ (x : Command). IfOk c.append.result (λ next. LeavesNoFile (table_in (folder_of c.args.self)) x next.1 (g.D.Store.view c.append.new.store) (g.D.Store.counts c.args.store.now) (g.D.Store.counts c.append.new.store))) (sym c.in-Append.is) (nothing_left tt c.append.result)
+returns-in-Append-clause-gone g c = λ told. none_gone (table_in (folder_of c.args.self)) (g.D.Store.view c.append.new.store) (g.D.Store.counts c.args.store.now) (g.D.Store.counts c.append.new.store) c.append.result c.append.ensures.later
 
 pub returns-in-Run-clause-alone : goal.returns-in-Run-clause-alone
 returns-in-Run-clause-alone g c = subst (λ (x : Command). ChangesAtMost (folder_of c.args.self) x (g.D.Store.view c.args.store.now) (g.D.Store.view c.run.new.store)) (sym c.in-Run.is) c.run.ensures.alone
 
-pub returns-in-Run-clause-gone : goal.returns-in-Run-clause-gone
-returns-in-Run-clause-gone g c = λ told.
-    subst (λ (x : Command). IfOk c.run.result (λ next. LeavesNoFile (table_in (folder_of c.args.self)) x next.1 (g.D.Store.view c.run.new.store) (g.D.Store.counts c.args.store.now) (g.D.Store.counts c.run.new.store))) (sym c.in-Run.is) (nothing_left tt c.run.result)
-
 pub returns-in-Fetch-clause-alone : goal.returns-in-Fetch-clause-alone
 returns-in-Fetch-clause-alone g c = subst (λ (x : Command). ChangesAtMost (folder_of c.args.self) x (g.D.Store.view c.args.store.now) (g.D.Store.view c.fetch.new.store)) (sym c.in-Fetch.is) c.fetch.ensures.alone
 
-pub returns-in-Fetch-clause-gone : goal.returns-in-Fetch-clause-gone
-returns-in-Fetch-clause-gone g c = λ told.
-    subst (λ (x : Command). IfOk c.fetch.result (λ next. LeavesNoFile (table_in (folder_of c.args.self)) x next.1 (g.D.Store.view c.fetch.new.store) (g.D.Store.counts c.args.store.now) (g.D.Store.counts c.fetch.new.store))) (sym c.in-Fetch.is) (nothing_left tt c.fetch.result)
-
 pub returns-in-Fetch-clause-ok : goal.returns-in-Fetch-clause-ok
 returns-in-Fetch-clause-ok g c = λ told care s stands.
-    subst (λ (x : Command). IfOk c.fetch.result (λ next. Performs care (g.D.Store.view c.args.store.now) (g.D.Store.view c.fetch.new.store) c.args.held.now next.0 s x next.1)) (sym c.in-Fetch.is) (c.fetch.ensures.ok told care c.args.held.now s stands)
+    subst (λ (x : Command). IfOk c.fetch.result (λ next. Performs care (g.D.Store.view c.args.store.now) (g.D.Store.view c.fetch.new.store) c.args.held.now next.0 s x next.1)) (sym c.in-Fetch.is) (c.fetch.ensures.ok told care s stands)
 
 pub returns-in-Fetch-clause-most : goal.returns-in-Fetch-clause-most
 returns-in-Fetch-clause-most g c = λ told.
@@ -118,10 +109,6 @@ returns-in-Collect-clause-ok g c = λ told care s stands.
 
 pub returns-in-Collect-clause-alone : goal.returns-in-Collect-clause-alone
 returns-in-Collect-clause-alone g c = subst (λ (x : Command). ChangesAtMost (folder_of c.args.self) x (g.D.Store.view c.args.store.now) (g.D.Store.view c.collect.new.store)) (sym c.in-Collect.is) c.collect.ensures.alone
-
-pub returns-in-Collect-clause-gone : goal.returns-in-Collect-clause-gone
-returns-in-Collect-clause-gone g c = λ told.
-    subst (λ (x : Command). IfOk c.collect.result (λ next. LeavesNoFile (table_in (folder_of c.args.self)) x next.1 (g.D.Store.view c.collect.new.store) (g.D.Store.counts c.args.store.now) (g.D.Store.counts c.collect.new.store))) (sym c.in-Collect.is) (c.collect.ensures.gone told)
 
 pub returns-in-Collect-clause-taken : goal.returns-in-Collect-clause-taken
 returns-in-Collect-clause-taken g c = λ told care s stands. told_of_any (g.D.Store.counts c.args.store.now) (g.D.Store.counts c.collect.new.store) _ c.collect.ensures.of_no_file
@@ -159,7 +146,7 @@ returns-in-Entries-clause-alone g c = changes_none (folder_of c.args.self) c.arg
 
 pub returns-in-Entries-clause-gone : goal.returns-in-Entries-clause-gone
 returns-in-Entries-clause-gone g c = λ told.
-    subst (λ (x : Command). LeavesNoFile (table_in (folder_of c.args.self)) x c.tell_entries.result.1 (g.D.Store.view c.args.store.now) (g.D.Store.counts c.args.store.now) (g.D.Store.counts c.args.store.now)) (sym c.in-Entries.is) tt
+    gone_from_none (table_in (folder_of c.args.self)) (table_in (folder_of c.tell_entries.result.0)) (ap (λ (x : FolderSession). table_in (folder_of x)) c.tell_entries.ensures.session) (g.D.Store.view c.args.store.now) (g.D.Store.counts c.args.store.now) (g.D.Store.counts c.args.store.now)
 
 pub returns-in-Entries-clause-taken : goal.returns-in-Entries-clause-taken
 returns-in-Entries-clause-taken g c = λ told care s stands. told_of_any (g.D.Store.counts c.args.store.now) (g.D.Store.counts c.args.store.now) (Ok c.tell_entries.result) (list_tells told_entries (table_in (folder_of c.args.self)) _ c.tell_entries.ensures.told tt)
@@ -195,7 +182,7 @@ returns-in-Catalog-clause-alone g c = changes_none (folder_of c.args.self) c.arg
 
 pub returns-in-Catalog-clause-gone : goal.returns-in-Catalog-clause-gone
 returns-in-Catalog-clause-gone g c = λ told.
-    subst (λ (x : Command). LeavesNoFile (table_in (folder_of c.args.self)) x c.tell_catalog.result.1 (g.D.Store.view c.args.store.now) (g.D.Store.counts c.args.store.now) (g.D.Store.counts c.args.store.now)) (sym c.in-Catalog.is) tt
+    gone_from_none (table_in (folder_of c.args.self)) (table_in (folder_of c.tell_catalog.result.0)) (ap (λ (x : FolderSession). table_in (folder_of x)) c.tell_catalog.ensures.session) (g.D.Store.view c.args.store.now) (g.D.Store.counts c.args.store.now) (g.D.Store.counts c.args.store.now)
 
 pub returns-in-Catalog-clause-taken : goal.returns-in-Catalog-clause-taken
 returns-in-Catalog-clause-taken g c = λ told care s stands. told_of_any (g.D.Store.counts c.args.store.now) (g.D.Store.counts c.args.store.now) (Ok c.tell_catalog.result) (list_tells told_catalog (table_in (folder_of c.args.self)) _ c.tell_catalog.ensures.told tt)
@@ -230,7 +217,7 @@ pub returns-in-Append-clause-later : goal.returns-in-Append-clause-later
 returns-in-Append-clause-later g c = c.append.ensures.later c.args.held.now
 
 pub returns-in-Run-clause-later : goal.returns-in-Run-clause-later
-returns-in-Run-clause-later g c = c.run.ensures.later c.args.held.now
+returns-in-Run-clause-later g c = c.run.ensures.later
 
 pub returns-in-Fetch-clause-later : goal.returns-in-Fetch-clause-later
-returns-in-Fetch-clause-later g c = c.fetch.ensures.later c.args.held.now
+returns-in-Fetch-clause-later g c = c.fetch.ensures.later
