@@ -1,11 +1,10 @@
 -- For which cause a refusal comes, and what it leaves.
-use Rattle.std.proofs.Common.{◌≡◌, ◌⊎◌, inl, inr, refl, sym, ap, ◌∙◌, subst, ℕ, Bool, true, false, cond, List, [], ◌∷◌, length, Option, Some, None, Result, Ok, Err, arith}
+use Rattle.std.proofs.Common.{◌≡◌, inl, inr, refl, sym, ap, ◌∙◌, subst, ℕ, Bool, true, false, cond, List, [], ◌∷◌, length, Option, Some, None, Result, Ok, Err}
 use Rattle.estimator.specs.Bytes.{capped}
 use Rattle.rewrite_core.specs.Files.{files_of}
 use Rattle.rows_core.specs.declared.file_ref.Digest.{Digest}
 use Rattle.planning.specs.Opening.{opening}
 use Rattle.planning.specs.Running.{Run, storing}
-use Rattle.script_text.specs.declared.answer.Answer.{Answer}
 use Rattle.script_text.specs.declared.answer.Answer.TheVariants as answer
 use Rattle.script_text.specs.declared.answer.LimitKind.TheVariants as limit
 use Rattle.script_text.specs.declared.answer.Refusal.{Refusal}
@@ -19,7 +18,7 @@ use Rattle.folder_session.specs.Machine.{IsFileEvent}
 use Rattle.folder_session.specs.Refusals.{IsRefusedOn}
 use Rattle.folder_session.specs.Refusals as of_folder_refused
 use Rattle.folder_session.proofs.OutcomeLemmas as of_folder
-use Rattle.session.specs.Machine.{Job, Machine, Outcome, outcome, refused, is_named, is_open, job_named, left_of, stepped, steps_of, put_for, read_to, read_whole, with_jobs, OpensTo, StepsTo, ClosesTo, ClosesBy, IsClosing, DropsTo, Performs, PerformsBeside, IsReadOn, IsEvent, Remains, Step, held_by}
+use Rattle.session.specs.Machine.{Job, Machine, Outcome, outcome, refused, is_named, is_open, job_named, left_of, stepped, steps_of, put_for, read_whole, OpensTo, StepsTo, ClosesTo, ClosesBy, IsClosing, DropsTo, Performs, PerformsBeside, IsReadOn, IsEvent, Remains, Step, held_by}
 use Rattle.session.specs.Refusals.{IsUnknown, IsClosingRefused, IsCloseRefused, IsRefusedFor, HasReadTo, StaysBut}
 use Rattle.session.proofs.SparingLemmas.{performed_spares, step_spares}
 
@@ -53,21 +52,21 @@ module _ (m new : Machine) (why : Refusal) where
   closed_cause name (Some job) is = closing_cause name job (storing (table m.state) job.run) is
   closed_cause name None is = sym (same_refusal m new why (refusal.Unknown name) is)
 
-  beside_cause : (c : Command) → PerformsBeside m c (outcome (answer.Refused why) new) → of_folder_refused.IsRefusedFor m.state c why
-  beside_cause c beside = of_folder.cause_of (held_by m.jobs) m.state new.state c why beside.of_folder
+  beside_cause : (care : Care) (c : Command) → PerformsBeside care m c (outcome (answer.Refused why) new) → of_folder_refused.IsRefusedFor m.state c why
+  beside_cause care c beside = of_folder.cause_of care (held_by m.jobs) m.state new.state c why beside.of_folder
 
-  pub cause_of : (c : Command) → Performs m c (outcome (answer.Refused why) new) → IsRefusedFor m c why
-  cause_of (command.OpenJob job name tree) is = opened_cause job (opening (table m.state) (is_open m.jobs job) (length m.jobs) job name tree) is
-  cause_of (command.Step job) is = stepped_cause job (job_named m.jobs job) is
-  cause_of (command.Close job) is = closed_cause job (job_named m.jobs job) is
-  cause_of (command.DropJob job) is = dropped_cause job (job_named m.jobs job) is
-  cause_of (command.Stream name columns) is = beside_cause (command.Stream name columns) is
-  cause_of (command.Append name lines) is = beside_cause (command.Append name lines) is
-  cause_of (command.Run name tree) is = beside_cause (command.Run name tree) is
-  cause_of (command.Fetch name as_run) is = beside_cause (command.Fetch name as_run) is
-  cause_of (command.Collect reclaim) is = beside_cause (command.Collect reclaim) is
-  cause_of command.Entries is = beside_cause command.Entries is
-  cause_of command.Catalog is = beside_cause command.Catalog is
+  pub cause_of : (care : Care) (c : Command) → Performs care m c (outcome (answer.Refused why) new) → IsRefusedFor m c why
+  cause_of care (command.OpenJob job name tree) is = opened_cause job (opening (table m.state) (is_open m.jobs job) (length m.jobs) job name tree) is
+  cause_of care (command.Step job) is = stepped_cause job (job_named m.jobs job) is
+  cause_of care (command.Close job) is = closed_cause job (job_named m.jobs job) is
+  cause_of care (command.DropJob job) is = dropped_cause job (job_named m.jobs job) is
+  cause_of care (command.Stream name columns) is = beside_cause care (command.Stream name columns) is
+  cause_of care (command.Append name lines) is = beside_cause care (command.Append name lines) is
+  cause_of care (command.Run name tree) is = beside_cause care (command.Run name tree) is
+  cause_of care (command.Fetch name as_run) is = beside_cause care (command.Fetch name as_run) is
+  cause_of care (command.Collect reclaim) is = beside_cause care (command.Collect reclaim) is
+  cause_of care command.Entries is = beside_cause care command.Entries is
+  cause_of care command.Catalog is = beside_cause care command.Catalog is
 
   -- ---- what it leaves
 
@@ -86,9 +85,9 @@ module _ (m new : Machine) (why : Refusal) where
   dropped_left name (Some job) is = let answers : answer.Refused why ≡ answer.Ok = ap (λ (o : Outcome). o.answer) is in absurd (cc)
   dropped_left name None is = left_as (refusal.Unknown name) is
 
-  beside_left : (c : Command) → PerformsBeside m c (outcome (answer.Refused why) new) → new ≡ m
-  beside_left c beside =
-      let state = of_folder.state_kept Whole (held_by m.jobs) m.state new.state c why (inl beside.of_folder) in
+  beside_left : (care : Care) (c : Command) → PerformsBeside care m c (outcome (answer.Refused why) new) → new ≡ m
+  beside_left care c beside =
+      let state = of_folder.state_kept care (held_by m.jobs) m.state new.state c why (inl beside.of_folder) in
       λ i. record { state = state i; jobs = beside.jobs i }
 
 -- a job put in its own place
@@ -147,13 +146,13 @@ unchanged care m new (command.OpenJob job name tree) why (inl is) = opened_left 
 unchanged care m new (command.Step job) why (inl is) = stepped_left m new why job (job_named m.jobs job) is
 unchanged care m new (command.Close job) why (inl is) = closed_left m new why job (job_named m.jobs job) refl is
 unchanged care m new (command.DropJob job) why (inl is) = dropped_left m new why job (job_named m.jobs job) is
-unchanged care m new (command.Stream name columns) why (inl is) = beside_left m new why (command.Stream name columns) is
-unchanged care m new (command.Append name lines) why (inl is) = beside_left m new why (command.Append name lines) is
-unchanged care m new (command.Run name tree) why (inl is) = beside_left m new why (command.Run name tree) is
-unchanged care m new (command.Fetch name as_run) why (inl is) = beside_left m new why (command.Fetch name as_run) is
-unchanged care m new (command.Collect reclaim) why (inl is) = beside_left m new why (command.Collect reclaim) is
-unchanged care m new command.Entries why (inl is) = beside_left m new why command.Entries is
-unchanged care m new command.Catalog why (inl is) = beside_left m new why command.Catalog is
+unchanged care m new (command.Stream name columns) why (inl is) = beside_left m new why care (command.Stream name columns) is
+unchanged care m new (command.Append name lines) why (inl is) = beside_left m new why care (command.Append name lines) is
+unchanged care m new (command.Run name tree) why (inl is) = beside_left m new why care (command.Run name tree) is
+unchanged care m new (command.Fetch name as_run) why (inl is) = beside_left m new why care (command.Fetch name as_run) is
+unchanged care m new (command.Collect reclaim) why (inl is) = beside_left m new why care (command.Collect reclaim) is
+unchanged care m new command.Entries why (inl is) = beside_left m new why care command.Entries is
+unchanged care m new command.Catalog why (inl is) = beside_left m new why care command.Catalog is
 
 -- ---- where the files are read
 
@@ -167,8 +166,8 @@ unread_event care s file at is = is
 unread_folder : (care : Care) (m : Machine) (c : Command) (file at : ℕ) → folder.IsEvent care m.state c (refusal.Unreadable file at) → ⊥
 unread_folder care m (command.Stream name columns) file at is = is
 unread_folder care m (command.Append name lines) file at is = is
-unread_folder care m (command.Run name tree) file at is = is
-unread_folder care m (command.Fetch name as_run) file at is = is
+unread_folder care m (command.Run name tree) file at is = is.0
+unread_folder care m (command.Fetch name as_run) file at is = is.0
 unread_folder care m (command.Collect reclaim) file at is = is
 unread_folder care m _ file at is = is
 
@@ -180,7 +179,7 @@ unread care m (command.DropJob job) file at is = is
 unread care m c file at is = unread_folder care m c file at is
 
 pub never_unreadable : (care : Care) (m new : Machine) (c : Command) (file at : ℕ) → Step care m c (answer.Refused (refusal.Unreadable file at)) new → ⊥
-never_unreadable care m new c file at (inl performs) = performed_spares m c (refusal.Unreadable file at) new performs (λ is. absurd (cc))
+never_unreadable care m new c file at (inl performs) = performed_spares care m c (refusal.Unreadable file at) new performs
 never_unreadable care m new c file at (inr event) =
     let same : answer.Refused (refusal.Unreadable file at) ≡ answer.Refused event.0 = event.2 in
     let one : event.0 ≡ refusal.Unreadable file at = cc in

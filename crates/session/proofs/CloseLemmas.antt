@@ -1,38 +1,30 @@
 -- A job that is closed, or isn't.
-use Rattle.std.proofs.Common.{◌≡◌, ◌⊎◌, inl, inr, refl, sym, ap, ◌∙◌, subst, ℕ, zero, suc, ◌+◌, ◌≤◌, List, [], ◌∷◌, ◌++◌, length, Option, Some, None, Result, Ok, Err, arith}
+use Rattle.std.proofs.Common.{◌≡◌, inl, inr, refl, sym, ap, subst, ℕ, zero, suc, ◌≤◌, List, [], ◌∷◌, Option, Some, None, Result, Ok, Err}
 use Rattle.std.proofs.Math.ListN.{set}
 use Rattle.std.specs.List.{remove}
-use Rattle.outside_traits.specs.View.{View}
-use Rattle.plan_canon.specs.Normal.{IsNormalFormOf}
-use Rattle.rewrite_core.specs.Files.{FileName, files_of}
 use Rattle.rewrite_core.specs.PlainRewriting.{PlainRewriting}
-use Rattle.plan_core.specs.PlainPlan.{PlainPlan}
-use Rattle.catalog_core.specs.Table.{Table}
-use Rattle.catalog_types.specs.PlainEntry.{PlainNewEntry}
 use Rattle.catalog_types.specs.declared.program.Program.{Program}
 use Rattle.planning.specs.Running.{Run, storing}
 use Rattle.script_text.specs.declared.answer.Answer.{Answer}
 use Rattle.script_text.specs.declared.answer.Answer.TheVariants as answer
 use Rattle.script_text.specs.declared.answer.LimitKind.TheVariants as limit
-use Rattle.script_text.specs.declared.answer.LimitKind.{LimitKind}
 use Rattle.script_text.specs.declared.answer.Refusal.{Refusal}
 use Rattle.script_text.specs.declared.answer.Refusal.TheVariants as refusal
 use Rattle.script_text.specs.declared.item.Command.TheVariants as command
 use Rattle.folder.specs.Next.{with_work}
 use Rattle.folder.specs.Sound.{Care}
-use Rattle.folder.specs.State.{State, kinds_in, table}
+use Rattle.folder.specs.State.{State, table}
 use Rattle.folder_session.specs.Machine.{IsFileEvent}
 use Rattle.folder_session.specs.Working.{answer_of}
 use Rattle.job_table.specs.declared.table.OpenJob.{OpenJob}
-use Rattle.work_run.specs.Opened.{files_left, opened_rewriting}
-use Rattle.work_run.specs.Ends.{ComesBy, given_of}
+use Rattle.work_run.specs.Opened.{opened_rewriting}
+use Rattle.work_run.specs.Ends.{given_of}
 use Rattle.work_run.specs.Working.{WorksBy, Overflows, IsDear}
 use Rattle.work_run.specs.declared.open.OpenWork.{OpenWork}
 use Rattle.work_run.specs.declared.work.Work.{Work}
-use Rattle.session.specs.Jobs.{OpenJobs, IsJob, AreJobs}
-use Rattle.session.specs.Machine.{Job, Machine, Step, Performs, IsEvent, Remains, IsReadOn, ClosesTo, ClosesBy, IsClosing, Closes, job_named, put_for, read_to, steps_of, outcome, refused, with_jobs, read_whole}
-use Rattle.session.specs.Work as work
-use Rattle.session.specs.Work.{IsClosed, IsNotClosed, IsReadWhole, run_of}
+use Rattle.session.specs.Jobs.{IsJob}
+use Rattle.session.specs.Machine.{Job, Machine, Step, Performs, IsReadOn, ClosesTo, ClosesBy, IsClosing, job_named, put_for, read_to, steps_of, outcome, refused, with_jobs, read_whole}
+use Rattle.session.specs.Work.{IsClosed, IsReadWhole, run_of}
 
 -- what is taken out of a list doesn't hang on what it is
 pub removed_same : {A : Type 0} (xs : List A) (at : ℕ) (y : A) → remove (set xs at y) at ≡ remove xs at
@@ -46,7 +38,7 @@ pub same_run : (s : State) (job : Job) (o : OpenJob OpenWork) → IsJob s job o 
 same_run s job o is = ap (λ (p : Program). record { plan = job.run.plan; program = p }) is.program
 
 module _ (care : Care) (m : Machine) (name : List ℕ) (job : Job) (named : job_named m.jobs name ≡ Some job) where
-  closes_as : (given : Answer) (new : Machine) → ClosesBy m name job (storing (table m.state) job.run) (outcome given new) → Performs m (command.Close name) (outcome given new)
+  closes_as : (given : Answer) (new : Machine) → ClosesBy m name job (storing (table m.state) job.run) (outcome given new) → Performs care m (command.Close name) (outcome given new)
   closes_as given new closes = subst (λ (found : Option Job). ClosesTo m name found (outcome given new)) (sym named) closes
 
   within_as : (given : Answer) (new : Machine) → storing (table m.state) job.run ≡ Ok job.run → IsClosing m name job given new → ClosesBy m name job (storing (table m.state) job.run) (outcome given new)

@@ -1,5 +1,5 @@
 -- The step of the machine in which a job is closed, or isn't.
-use Rattle.std.proofs.Common.{◌≡◌, ◌⊎◌, inl, inr, refl, sym, ap, ◌∙◌, subst, ℕ, ◌+◌, ◌≤◌, List, [], ◌∷◌, length, Option, Some, None, Result, Ok, Err, IfOk, OnErr, get_or, arith}
+use Rattle.std.proofs.Common.{◌≡◌, inl, inr, sym, ap, ◌∙◌, subst, ℕ, ◌+◌, ◌≤◌, List, [], ◌∷◌, length, Some, Result, Ok, Err, IfOk, OnErr, get_or, arith}
 use Rattle.std.proofs.Math.ListN.{set}
 use Rattle.std.specs.List.{remove}
 use Rattle.outside_traits.specs.View.{View}
@@ -30,7 +30,7 @@ use Rattle.work_run.specs.Opened.{IsOpen, HasRead, IsSameWork, files_left, opene
 use Rattle.work_run.specs.declared.open.OpenWork.{OpenWork}
 use Rattle.work_run.specs.declared.work.Work.{Work}
 use Rattle.session.specs.Jobs.{OpenJobs, IsJob, AreJobs}
-use Rattle.session.specs.Machine.{Job, Machine, Step, job_named, put_for, read_to, steps_of, with_jobs, read_whole}
+use Rattle.session.specs.Machine.{Job, Machine, Step, job_named, put_for, read_to, steps_of, with_jobs}
 use Rattle.session.specs.Standing.{Stands, Performs, Breaks, folder_of, jobs_of}
 use Rattle.session.specs.Work.{IsClosed, IsNotClosed, IsReadOn, IsEnded, IsRecorded, run_of}
 use Rattle.session.specs.declared.session.Session.{Session}

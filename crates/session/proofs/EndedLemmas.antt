@@ -1,20 +1,18 @@
 -- What else is said of a close.
-use Rattle.std.proofs.Common.{◌≡◌, ◌⊎◌, inl, inr, refl, sym, ap, ◌∙◌, subst, ℕ, ◌+◌, ◌≤◌, List, Option, Some, None, Result, Ok, Err, IfOk, get_or}
-use Rattle.std.proofs.Math.ListN.{set}
+use Rattle.std.proofs.Common.{◌≡◌, inl, inr, refl, sym, subst, ℕ, List, [], ◌∷◌, Option, Some, None, Result, Ok, Err, IfOk, get_or, arith}
 use Rattle.std.specs.List.{remove}
 use Rattle.outside_traits.specs.View.{View, Counts}
-use Rattle.outside_traits.specs.Calls.{MayRaiseWrites}
 use Rattle.outside_traits.specs.Runs.{Narrows}
 use Rattle.outside_traits.specs.declared.failed.Failed.{Failed}
 use Rattle.catalog_core.specs.IsTable.{IsTable}
 use Rattle.catalog_core.specs.Table.{Table}
-use Rattle.executor.specs.Running.{TookAtMost}
 use Rattle.script_text.specs.declared.answer.Answer.{Answer}
 use Rattle.script_text.specs.declared.answer.Answer.TheVariants as answer
 use Rattle.script_text.specs.declared.answer.Refusal.TheVariants as refusal
 use Rattle.script_text.specs.declared.item.Command.TheVariants as command
 use Rattle.folder.specs.Folders.{table_in}
-use Rattle.folder_session.specs.Standing.{LeavesWhereRefused}
+use Rattle.folder_session.specs.Standing.{AreGoneSince, LeavesWhereRefused}
+use Rattle.folder_session.proofs.DroppedLemmas.{gone_read}
 use Rattle.folder_session.proofs.TakenLemmas.{read_then}
 use Rattle.outside_traits.proofs.RunLemmas.{narrows_on}
 use Rattle.catalog_core.specs.Named.{bytes_named}
@@ -25,7 +23,9 @@ use Rattle.work_run.specs.Opened.{files_left}
 use Rattle.work_run.specs.declared.open.OpenWork.{OpenWork}
 use Rattle.session.specs.Causes.{HasByteCause, IsOfJob}
 use Rattle.session.specs.Taken.{TakesAsTold}
-use Rattle.later_states.specs.Later.{IsLater}
+use Rattle.catalog_types.specs.PlainEntry.{PlainEntry}
+use Rattle.later_states.specs.Later.{AreFree, IsLater}
+use Rattle.work_turns.specs.Ends.{files_among}
 use Rattle.work_run.specs.declared.work.Work.{Work}
 use Rattle.session.specs.Jobs.{OpenJobs, IsHeldOver, AreHeldOver, open_named}
 use Rattle.session.specs.Standing.{HoldsJobs, folder_of, jobs_of}
@@ -34,6 +34,14 @@ use Rattle.session.specs.declared.session.Session.{Session}
 use Rattle.session.proofs.FoundLemmas.{close_taken}
 use Rattle.session.proofs.Places.{each_but}
 use Rattle.session.proofs.StayLemmas.{StaysOpen, all_held, holds_of, still_held_over}
+
+-- none of none is held, and none has files
+pub none_free : (held : List ℕ) → AreFree held []
+none_free held = λ id has. absurd (omega (arith, has.1))
+
+pub no_files : (es : List PlainEntry) → files_among [] es ≡ []
+no_files [] = refl
+no_files (e ∷ es) = no_files es
 
 -- the jobs that are left are open over the table after it
 ended_over : StaysOpen → (t u : Table) → IsTable t → IsTable u → ((held : List ℕ) → IsLater held t u) → (opens new : OpenJobs) (closed : Work) (at : ℕ) (given : Answer) → IsEnded closed at opens new given → AreHeldOver t opens → AreHeldOver u new
@@ -58,8 +66,13 @@ refused_since u w v first (Ok next) leaves = by next.1 leaves
     by _ then = tt
 refused_since u w v first (Err failed) leaves = tt
 
+pub closed_gone : (t : Table) (v : View) (old mid new : Counts) → mid.removes ≡ old.removes → (result : Result (Session × Answer) Failed) → IfOk result (λ next. AreGoneSince t (table_in (folder_of next.0)) v mid new)
+    → IfOk result (λ next. AreGoneSince t (table_in (folder_of next.0)) v old new)
+closed_gone t v old mid new same (Ok next) gone = gone_read t (table_in (folder_of next.0)) v old mid new same gone
+closed_gone t v old mid new same (Err failed) gone = tt
+
 -- the bytes that it takes are those of the files that were left
-pub ended_taken : (t : Table) (jobs mid : OpenJobs) (name : List ℕ) (at : ℕ) (o : OpenJob OpenWork) → place_of jobs name ≡ Some at → o ≡ get_or jobs at o → (closed : Work) (old half new : Counts) → CountsRead (bytes_named t (files_left o.job)) old half → MayRaiseWrites half new
+pub ended_taken : (t : Table) (jobs mid : OpenJobs) (name : List ℕ) (at : ℕ) (o : OpenJob OpenWork) → place_of jobs name ≡ Some at → o ≡ get_or jobs at o → (closed : Work) (old half new : Counts) → CountsRead (bytes_named t (files_left o.job)) old half → new.taken ≡ half.taken
     → (result : Result (Session × Answer) Failed) → IfOk result (λ next. IsEnded closed at mid (jobs_of next.0) next.1) → IfOk result (λ next. TakesAsTold t jobs (command.Close name) next.1 old new)
 ended_taken t jobs mid name at o place stood closed old half new counts rises (Ok next) ended =
     close_taken jobs name at o place stood t closed old new (read_then _ old half new counts rises) next.1 (elim ended [ inl is ↦ inl is.0 | inr is ↦ inr is.0 ])

@@ -1,5 +1,5 @@
 -- A step of the folder's machine, as one of the machine with jobs.
-use Rattle.std.proofs.Common.{◌≡◌, ◌⊎◌, inl, inr, refl, sym, ap, ◌∙◌, subst, ℕ, zero, suc, Bool, true, false, nat_le, List, [], ◌∷◌, ◌++◌, Option, Some, None, Result, Ok, Err}
+use Rattle.std.proofs.Common.{◌≡◌, inl, inr, refl, sym, ap, subst, ℕ, zero, suc, Bool, true, false, nat_le, List, [], ◌∷◌, ◌++◌, Option, Some, None, Result, Ok, Err}
 use Rattle.std.proofs.lemmas.List.{append-nil}
 use Rattle.rows_core.specs.declared.schema.Column.{Column}
 use Rattle.catalog_types.specs.declared.change.Change.{Change}
@@ -23,7 +23,7 @@ use Rattle.folder.specs.State.{Extent, Stream, State, table}
 use Rattle.folder_session.specs.Machine as folder
 use Rattle.folder_session.specs.Machine.{IsOfJobs, RunsTo, FetchesTo, CollectsTo, IsWorkOn}
 use Rattle.later_states.specs.Later.{HaveMoreRows}
-use Rattle.session.specs.Machine.{Machine, Step, Performs, IsEvent, Remains, outcome, held_by, with_jobs}
+use Rattle.session.specs.Machine.{Machine, Step, Performs, IsEvent, Remains, outcome, held_by}
 
 -- ---- the streams of the state after it
 
@@ -55,36 +55,36 @@ module _ (s : State) where
   appended_more (Ok a) given is = subst (λ (o : folder.Outcome). More s o.state) (sym is) (rows_grown (new_extent s.next_file a.rows) s.streams a.place)
   appended_more (Err why) given is = subst (λ (o : folder.Outcome). More s o.state) (sym is) (same_rows s.streams)
 
-  worked_more : (program : Option Program) (plan : PlainPlan) (cuts : Cuts) (given : Answer) (new : State) → IsWorkOn s program plan cuts given new → More s new
-  worked_more program plan cuts (answer.Result rows used kept read) new works = subst (More s) (sym works.by.after) (same_rows s.streams)
-  worked_more program plan cuts (answer.Refused refusal.Overflow) new works = kept_more s new works.1
-  worked_more program plan cuts (answer.Refused (refusal.Limit limit.Machine)) new works = kept_more s new works.1
-  worked_more program plan cuts _ new works = absurd works
+  worked_more : (care : Care) (held : List ℕ) (program : Option Program) (plan : PlainPlan) (cuts : Cuts) (given : Answer) (new : State) → IsWorkOn care held s program plan cuts given new → More s new
+  worked_more care held program plan cuts (answer.Result rows used kept read) new works = subst (More s) (sym works.1.after) (same_rows s.streams)
+  worked_more care held program plan cuts (answer.Refused refusal.Overflow) new works = kept_more s new works.1
+  worked_more care held program plan cuts (answer.Refused (refusal.Limit limit.Machine)) new works = kept_more s new works.1
+  worked_more care held program plan cuts _ new works = absurd works
 
-  ran_more : (planned : Result Run Refusal) (given : folder.Outcome) → RunsTo s planned given → More s given.state
-  ran_more (Ok run) given works = worked_more (Some run.program) run.plan run.program.cuts given.answer given.state works
-  ran_more (Err why) given is = kept_more s given.state (ap (λ (o : folder.Outcome). o.state) is)
+  ran_more : (care : Care) (held : List ℕ) (planned : Result Run Refusal) (given : folder.Outcome) → RunsTo care held s planned given → More s given.state
+  ran_more care held (Ok run) given works = worked_more care held (Some run.program) run.plan run.program.cuts given.answer given.state works
+  ran_more care held (Err why) given is = kept_more s given.state (ap (λ (o : folder.Outcome). o.state) is)
 
-  fetched_more : (planned : Result Target Refusal) (given : folder.Outcome) → FetchesTo s planned given → More s given.state
-  fetched_more (Ok target) given works = worked_more None target.plan target.cuts given.answer given.state works
-  fetched_more (Err why) given is = kept_more s given.state (ap (λ (o : folder.Outcome). o.state) is)
+  fetched_more : (care : Care) (held : List ℕ) (planned : Result Target Refusal) (given : folder.Outcome) → FetchesTo care held s planned given → More s given.state
+  fetched_more care held (Ok target) given works = worked_more care held None target.plan target.cuts given.answer given.state works
+  fetched_more care held (Err why) given is = kept_more s given.state (ap (λ (o : folder.Outcome). o.state) is)
 
   collected_more : (full : Bool) (held : List ℕ) (reclaim : ℕ) (given : folder.Outcome) → CollectsTo full held s reclaim given → More s given.state
   collected_more true held reclaim given is = kept_more s given.state (ap (λ (o : folder.Outcome). o.state) is)
   collected_more false held reclaim given is = subst (λ (o : folder.Outcome). More s o.state) (sym is.3) (same_rows s.streams)
 
-  performed_more : (held : List ℕ) (c : Command) (given : folder.Outcome) → folder.Performs held s c given → More s given.state
-  performed_more held (command.Stream name columns) given is = made_more name columns (making (table s) name columns) given is
-  performed_more held (command.Append name lines) given is = appended_more is.0 given is.2
-  performed_more held (command.Run name tree) given is = ran_more (running (table s) name tree) given is
-  performed_more held (command.Fetch name as_run) given is = fetched_more is.0 given is.2
-  performed_more held (command.Collect reclaim) given is = collected_more (nat_le most_ticks s.tick) held reclaim given is
-  performed_more held command.Entries given is = kept_more s given.state (ap (λ (o : folder.Outcome). o.state) is)
-  performed_more held command.Catalog given is = kept_more s given.state (ap (λ (o : folder.Outcome). o.state) is)
-  performed_more held _ given is = absurd is
+  performed_more : (care : Care) (held : List ℕ) (c : Command) (given : folder.Outcome) → folder.Performs care held s c given → More s given.state
+  performed_more care held (command.Stream name columns) given is = made_more name columns (making (table s) name columns) given is
+  performed_more care held (command.Append name lines) given is = appended_more is.0 given is.2
+  performed_more care held (command.Run name tree) given is = ran_more care held (running (table s) name tree) given is
+  performed_more care held (command.Fetch name as_run) given is = fetched_more care held is.0 given is.2
+  performed_more care held (command.Collect reclaim) given is = collected_more (nat_le most_ticks s.tick) held reclaim given is
+  performed_more care held command.Entries given is = kept_more s given.state (ap (λ (o : folder.Outcome). o.state) is)
+  performed_more care held command.Catalog given is = kept_more s given.state (ap (λ (o : folder.Outcome). o.state) is)
+  performed_more care held _ given is = absurd is
 
 pub more_by_step : (care : Care) (held : List ℕ) (s new : State) (c : Command) (given : Answer) → folder.Step care held s c given new → HaveMoreRows s.streams new.streams
-more_by_step care held s new c given (inl done) = performed_more s held c (folder.outcome given new) done
+more_by_step care held s new c given (inl done) = performed_more s care held c (folder.outcome given new) done
 more_by_step care held s new c given (inr event) = kept_more s new (ap (λ (o : folder.Outcome). o.state) event.2)
 
 -- ---- the step
@@ -93,7 +93,7 @@ module _ (care : Care) (m : Machine) (new : State) where
   abbrev next : Machine
   next = record { state = new; jobs = m.jobs }
 
-  beside : (c : Command) (given : Answer) → (IsOfJobs c → ⊥) → folder.Performs (held_by m.jobs) m.state c (folder.outcome given new) → Performs m c (outcome given next)
+  beside : (c : Command) (given : Answer) → (IsOfJobs c → ⊥) → folder.Performs care (held_by m.jobs) m.state c (folder.outcome given new) → Performs care m c (outcome given next)
   beside (command.Stream name columns) given other done = record { of_folder = done; jobs = refl }
   beside (command.Append name lines) given other done = record { of_folder = done; jobs = refl }
   beside (command.Run name tree) given other done = record { of_folder = done; jobs = refl }

@@ -1,5 +1,5 @@
 -- What a command on a job finds and takes, by the job of its name.
-use Rattle.std.proofs.Common.{◌≡◌, ◌⊎◌, inl, inr, refl, sym, ap, ◌∙◌, subst, ℕ, ◌<◌, List, [], length, Option, Some, None, get_or}
+use Rattle.std.proofs.Common.{◌≡◌, ◌⊎◌, inl, inr, refl, sym, ap, ◌∙◌, subst, ℕ, List, Option, Some, None, get_or}
 use Rattle.std.proofs.Math.ListN.{set}
 use Rattle.outside_traits.specs.View.{Counts}
 use Rattle.plan_core.specs.PlainPlan.{PlainPlan}

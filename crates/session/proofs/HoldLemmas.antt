@@ -1,13 +1,10 @@
 -- What goes on standing as a job is opened, and what is asked before.
-use Rattle.std.proofs.Common.{◌≡◌, ◌⊎◌, inl, inr, refl, sym, ap, ◌∙◌, subst, ℕ, Bool, true, false, List, [], ◌∷◌, ◌++◌, Option, Some, None}
-use Rattle.std.specs.List.{AllByRecursion}
+use Rattle.std.proofs.Common.{◌≡◌, inl, inr, refl, sym, ap, ◌∙◌, subst, ℕ, List, [], ◌∷◌, Option, Some, None}
 use Rattle.std.specs.Option.{is_some}
 use Rattle.catalog_core.specs.Table.{Table}
 use Rattle.planning.specs.Running.{Run}
 use Rattle.script_text.specs.Answer.{IsNarrow}
 use Rattle.script_text.specs.declared.answer.Answer.{Answer}
-use Rattle.script_text.specs.declared.answer.Answer.TheVariants as answer
-use Rattle.script_text.specs.declared.answer.Refusal.TheVariants as refusal
 use Rattle.folder.specs.Folders.{table_in}
 use Rattle.folder.specs.State.{State}
 use Rattle.folder_session.specs.Causes.{TellsOfNoFile}
@@ -17,7 +14,7 @@ use Rattle.job_table.specs.Jobs.{place_of}
 use Rattle.job_table.specs.declared.table.OpenJob.{OpenJob}
 use Rattle.work_run.specs.Opened.{IsOpen}
 use Rattle.work_run.specs.declared.open.OpenWork.{OpenWork}
-use Rattle.session.specs.Jobs.{OpenJobs, Admitted, IsAdmitted, IsHeldOver, AreHeldOver, IsJob, AreJobs}
+use Rattle.session.specs.Jobs.{OpenJobs, IsAdmitted, IsHeldOver, AreHeldOver, IsJob, AreJobs}
 use Rattle.session.specs.Machine.{Job, is_open}
 use Rattle.session.specs.Standing.{HoldsJobs, folder_of, jobs_of}
 use Rattle.session.specs.Work.{IsOpened}

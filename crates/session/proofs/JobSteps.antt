@@ -1,5 +1,5 @@
 -- Steps of the machine in which a job is read on, or given up.
-use Rattle.std.proofs.Common.{◌≡◌, ◌⊎◌, inl, inr, refl, sym, ap, ◌∙◌, subst, ℕ, zero, suc, ◌+◌, List, [], ◌∷◌, length, Option, Some, None, get_or, arith}
+use Rattle.std.proofs.Common.{◌≡◌, inl, inr, refl, sym, ap, ◌∙◌, subst, ℕ, zero, suc, ◌+◌, List, [], ◌∷◌, length, Option, Some, None, get_or, arith}
 use Rattle.std.proofs.Math.ListN.{set}
 use Rattle.std.specs.List.{remove}
 use Rattle.outside_traits.specs.View.{View}
@@ -8,19 +8,17 @@ use Rattle.estimator.specs.Bytes.{capped}
 use Rattle.row_blob.specs.Kept.{AreEach}
 use Rattle.script_text.specs.declared.answer.Answer.{Answer}
 use Rattle.script_text.specs.declared.answer.Answer.TheVariants as answer
-use Rattle.script_text.specs.declared.answer.Refusal.{Refusal}
 use Rattle.script_text.specs.declared.answer.Refusal.TheVariants as refusal
 use Rattle.script_text.specs.declared.item.Command.TheVariants as command
 use Rattle.folder.specs.Left.{Since}
 use Rattle.folder.specs.Sound.{Care}
 use Rattle.folder.specs.State.{State, table}
-use Rattle.folder_session.specs.Machine.{IsFileEvent}
 use Rattle.folder_session.specs.Standing as folder
 use Rattle.job_table.specs.Jobs.{place_of}
 use Rattle.job_table.specs.declared.table.OpenJob.{OpenJob}
 use Rattle.work_run.specs.Opened.{IsOpen, HasRead, IsSameWork, files_left}
 use Rattle.work_run.specs.declared.open.OpenWork.{OpenWork}
-use Rattle.session.specs.Jobs.{OpenJobs, IsJob, AreJobs}
+use Rattle.session.specs.Jobs.{IsJob, AreJobs}
 use Rattle.session.specs.Machine.{Job, Machine, DropsTo, StepsTo, HasLeft, job_named, put_for, left_of, read_to, stepped, outcome, refused, with_jobs}
 use Rattle.session.specs.Standing.{Stands, Performs, jobs_of}
 use Rattle.session.specs.Work.{StepsOn, HasReadOn}

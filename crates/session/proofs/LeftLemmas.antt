@@ -1,5 +1,5 @@
 -- The files that are left of open work, and why it isn't read on.
-use Rattle.std.proofs.Common.{◌≡◌, ◌≢◌, refl, sym, ap, ◌∙◌, subst, ℕ, ◌+◌, ◌≤◌, List, [], ◌∷◌, ◌++◌, Ok, Err, arith}
+use Rattle.std.proofs.Common.{◌≡◌, ◌≢◌, refl, ap, ◌∙◌, ℕ, ◌+◌, List, [], ◌∷◌, Ok, Err, arith}
 use Rattle.std.proofs.lemmas.List.Sums.{sum_by-append, sum_by-cons}
 use Rattle.outside_traits.specs.View.{Counts}
 use Rattle.plan_core.specs.PlainPlan.{PlainPlan}

@@ -1,5 +1,5 @@
 -- Why a session isn't loaded: for what its folder session isn't.
-use Rattle.std.proofs.Common.{◌≡◌, ◌⊎◌, inl, inr, refl, ap, ℕ, Result, Ok, Err}
+use Rattle.std.proofs.Common.{◌≡◌, ◌⊎◌, inl, inr, ap, ℕ, Result, Ok, Err}
 use Rattle.std.specs.Prelude.{IsErrOf}
 use Rattle.folder.specs.declared.refusal.LoadRefusal.{LoadRefusal}
 use Rattle.folder.specs.declared.refusal.LoadRefusal.TheVariants.{Fault, NotAStore, Memory}

@@ -1,8 +1,8 @@
 -- A job that is opened, and commands on jobs that change nothing.
-use Rattle.std.proofs.Common.{◌≡◌, ◌⊎◌, inl, inr, refl, sym, ap, ◌∙◌, subst, ℕ, ◌≤◌, Bool, List, [], ◌∷◌, ◌++◌, length, Option, Some, None, Result, Ok, Err, arith}
+use Rattle.std.proofs.Common.{◌≡◌, ◌⊎◌, inl, inr, refl, sym, ap, ◌∙◌, subst, ℕ, Bool, List, [], ◌∷◌, ◌++◌, length, Result, Ok, Err, arith}
 use Rattle.outside_traits.specs.View.{View}
 use Rattle.estimator.specs.Bytes.{capped}
-use Rattle.rewrite_core.specs.Files.{AreIdsOf, FileName, files_of}
+use Rattle.rewrite_core.specs.Files.{FileName}
 use Rattle.plan_grammar.specs.PlainNamed.{PlainTree}
 use Rattle.catalog_core.specs.Table.{Table}
 use Rattle.plan_choice.specs.Taken.{IsTaken}
@@ -17,7 +17,6 @@ use Rattle.script_text.specs.declared.item.Command.TheVariants as command
 use Rattle.folder.specs.Left.{Since}
 use Rattle.folder.specs.Sound.{Care}
 use Rattle.folder.specs.State.{State, table}
-use Rattle.job_table.specs.declared.table.OpenJob.{OpenJob}
 use Rattle.folder_session.specs.Standing as folder
 use Rattle.folder_session.specs.declared.session.FolderSession.{FolderSession}
 use Rattle.folder_session.proofs.StepLemmas.{since_none}

@@ -1,5 +1,5 @@
 -- A command that concerns no job, performed beside the jobs.
-use Rattle.std.proofs.Common.{◌≡◌, inr, refl, sym, ap, ◌∙◌, subst, ℕ, List, Result, Ok, Err}
+use Rattle.std.proofs.Common.{◌≡◌, inr, refl, sym, ◌∙◌, subst, ℕ, List, Result, Ok, Err}
 use Rattle.outside_traits.specs.View.{View, Counts}
 use Rattle.catalog_core.specs.IsTable.{IsTable}
 use Rattle.catalog_core.specs.Table.{Table}
@@ -98,10 +98,6 @@ want_of_command t _ files = tt
 
 pub want_found : (t : Table) (jobs : OpenJobs) (c : Command) (files : ℕ → List ℕ) → (IsOfJobs c → ⊥) → HasByteCause t jobs c files (answer.Refused refusal.Memory)
 want_found t jobs c files other = found_beside t jobs c files (answer.Refused refusal.Memory) other (want_of_command t c files)
-
-pub want_gone : (t : Table) (c : Command) (v : View) (old new : Counts) → folder.LeavesNoFile t c (answer.Refused refusal.Memory) v old new
-want_gone t (command.Collect reclaim) v old new = tt
-want_gone t _ v old new = tt
 
 most_beside : (t : Table) (jobs : OpenJobs) (c : Command) (old new : Counts) → (IsOfJobs c → ⊥) → taken.TakesFor t c old new → TakesFor t jobs c old new
 most_beside t jobs (command.Step job) old new other most = absurd (other tt)

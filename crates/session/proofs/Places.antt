@@ -1,7 +1,7 @@
 -- The job of a name, in the machine and in the session.
-use Rattle.std.proofs.Common.{◌≡◌, refl, sym, ap, ◌∙◌, subst, ℕ, zero, suc, ◌+◌, ◌<◌, Bool, true, false, cond, ◌||◌, List, [], ◌∷◌, ◌++◌, length, Option, None, Some, bytes_eq, get_or, arith}
+use Rattle.std.proofs.Common.{◌≡◌, refl, sym, ap, ◌∙◌, subst, ℕ, zero, suc, ◌+◌, ◌<◌, Bool, true, false, cond, ◌||◌, List, [], ◌∷◌, ◌++◌, length, None, Some, bytes_eq, get_or, arith}
 use Rattle.std.proofs.Math.ListN.{set}
-use Rattle.std.specs.List.{AllByRecursion, position, position_from, position_or_len, remove, flat_map}
+use Rattle.std.specs.List.{AllByRecursion, position, position_from, remove}
 use Rattle.std.proofs.lemmas.Iterator.Adapters.{position_from-zero}
 use Rattle.row_blob.specs.Kept.{AreEach}
 use Rattle.job_table.specs.declared.table.OpenJob.{OpenJob}

@@ -1,12 +1,10 @@
 -- How far a job is read.
-use Rattle.std.proofs.Common.{◌≡◌, ◌≢◌, ◌⊎◌, inl, inr, refl, sym, ap, ◌∙◌, subst, ℕ, zero, suc, ◌+◌, ◌-◌, ◌<◌, ◌≤◌, min, List, [], ◌∷◌, ◌++◌, length, drop, length-drop, length-append, Option, Some, None, arith}
-use Rattle.estimator.specs.Bytes.{capped}
+use Rattle.std.proofs.Common.{◌≡◌, ◌≢◌, refl, sym, ap, ◌∙◌, subst, ℕ, zero, suc, ◌+◌, ◌-◌, ◌<◌, ◌≤◌, min, List, [], ◌∷◌, ◌++◌, length, drop, length-drop, length-append, arith}
 use Rattle.rewrite_core.specs.Files.{FileName, files_of}
 use Rattle.rewrite_core.specs.PlainRewriting.{rewriting_of}
 use Rattle.folder.specs.State.{State, table}
-use Rattle.plan_core.specs.PlainPlan.{PlainPlan}
 use Rattle.job_table.specs.declared.table.OpenJob.{OpenJob}
-use Rattle.work_run.specs.Opened.{IsOpen, HasRead, IsSameWork, files_left, opened_rewriting}
+use Rattle.work_run.specs.Opened.{IsOpen, HasRead, IsSameWork, files_left}
 use Rattle.work_run.specs.declared.open.OpenWork.{OpenWork}
 use Rattle.session.specs.Jobs.{IsJob}
 use Rattle.session.specs.Machine.{Job, steps_of, left_of, read_to, stepped}

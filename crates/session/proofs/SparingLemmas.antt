@@ -12,14 +12,13 @@ use Rattle.estimator.specs.Bytes.{capped}
 use Rattle.rewrite_core.specs.Files.{files_of}
 use Rattle.planning.specs.Opening.{most_jobs, admitting, refused_job, opening_typed, opening_bound, opening}
 use Rattle.planning.specs.Running.{Run, bound_plan, typing_of, run_of, storing, unbound, untyped}
-use Rattle.script_text.specs.declared.answer.Answer.{Answer}
 use Rattle.script_text.specs.declared.answer.Answer.TheVariants as answer
 use Rattle.script_text.specs.declared.answer.LimitKind.TheVariants as limit
 use Rattle.script_text.specs.declared.answer.Refusal.{Refusal}
 use Rattle.script_text.specs.declared.answer.Refusal.TheVariants as refusal
 use Rattle.script_text.specs.declared.item.Command.{Command}
 use Rattle.script_text.specs.declared.item.Command.TheVariants as command
-use Rattle.folder.specs.Sound.{Whole}
+use Rattle.folder.specs.Sound.{Care, Whole}
 use Rattle.folder.specs.State.{State, table}
 use Rattle.folder_session.specs.Causes.{SparesStore}
 use Rattle.folder_session.specs.Machine as folder
@@ -97,16 +96,16 @@ dropped_spares m name (Some job) why new is =
     absurd (cc)
 dropped_spares m name None why new is = refused_spares m why (refusal.Unknown name) new is tt
 
-beside_spares : (m : Machine) (c : Command) (why : Refusal) (new : Machine) → PerformsBeside m c (outcome (answer.Refused why) new) → (why ≡ refusal.Fault → ⊥) → SparesStore why
-beside_spares m c why new beside none = of_folder.step_spares (held_by m.jobs) m.state new.state c why (inl beside.of_folder) none
+beside_spares : (care : Care) (m : Machine) (c : Command) (why : Refusal) (new : Machine) → PerformsBeside care m c (outcome (answer.Refused why) new) → SparesStore why
+beside_spares care m c why new beside = of_folder.performed_spares care (held_by m.jobs) m.state c why new.state beside.of_folder
 
-pub performed_spares : (m : Machine) (c : Command) (why : Refusal) (new : Machine) → Performs m c (outcome (answer.Refused why) new) → (why ≡ refusal.Fault → ⊥) → SparesStore why
-performed_spares m (command.OpenJob job name tree) why new is none =
+pub performed_spares : (care : Care) (m : Machine) (c : Command) (why : Refusal) (new : Machine) → Performs care m c (outcome (answer.Refused why) new) → SparesStore why
+performed_spares care m (command.OpenJob job name tree) why new is =
     opened_spares m job (opening (table m.state) (is_open m.jobs job) (length m.jobs) job name tree) why new (opening_spares (table m.state) (is_open m.jobs job) (length m.jobs) job name tree) is
-performed_spares m (command.Step job) why new is none = stepped_spares m job (job_named m.jobs job) why new is
-performed_spares m (command.Close job) why new is none = closed_spares m job (job_named m.jobs job) why new is
-performed_spares m (command.DropJob job) why new is none = dropped_spares m job (job_named m.jobs job) why new is
-performed_spares m c why new is none = beside_spares m c why new is none
+performed_spares care m (command.Step job) why new is = stepped_spares m job (job_named m.jobs job) why new is
+performed_spares care m (command.Close job) why new is = closed_spares m job (job_named m.jobs job) why new is
+performed_spares care m (command.DropJob job) why new is = dropped_spares m job (job_named m.jobs job) why new is
+performed_spares care m c why new is = beside_spares care m c why new is
 
 -- ---- what comes in the course of a command
 
@@ -114,17 +113,17 @@ performed_spares m c why new is none = beside_spares m c why new is none
 of_command : (s : State) (c : Command) (why : Refusal) → folder.IsEvent Whole s c why → (why ≡ refusal.Fault → ⊥) → SparesStore why
 of_command s c why event none = of_folder.step_spares [] s s c why (inr (why, event, refl)) none
 
--- reading files meets what it meets in a fetch, and want of memory comes in any command
+-- reading files meets a failed read, and damage where files may show it, and want of memory comes in any command
 event_spares : (m : Machine) (c : Command) (why : Refusal) → IsEvent Whole m c why → (why ≡ refusal.Fault → ⊥) → SparesStore why
 event_spares m (command.OpenJob job name tree) why event none = of_command m.state command.Entries why event none
-event_spares m (command.Step job) why event none = of_command m.state (command.Fetch [] false) why event.1 none
-event_spares m (command.Close job) why event none = of_command m.state (command.Fetch [] false) why event none
+event_spares m (command.Step job) why event none = of_folder.file_event_spares m.state why event.1 none
+event_spares m (command.Close job) why event none = of_folder.file_event_spares m.state why event none
 event_spares m (command.DropJob job) why event none = absurd event
 event_spares m c why event none = of_command m.state c why event none
 
 -- where the files hold their bytes no refusal but that of a failed read is laid to the store
 pub step_spares : (m new : Machine) (c : Command) (why : Refusal) → Step Whole m c (answer.Refused why) new → (why ≡ refusal.Fault → ⊥) → SparesStore why
-step_spares m new c why (inl performs) none = performed_spares m c why new performs none
+step_spares m new c why (inl performs) none = performed_spares Whole m c why new performs
 step_spares m new c why (inr event) none =
     let same : answer.Refused why ≡ answer.Refused event.0 = event.2 in
     let one : event.0 ≡ why = cc in

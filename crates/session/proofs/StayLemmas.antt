@@ -1,8 +1,7 @@
 -- Open jobs stay as other commands follow.
-use Rattle.std.proofs.Common.{◌≡◌, sym, ap, ◌∙◌, subst, ℕ, List, [], ◌∷◌, ◌++◌, arith}
-use Rattle.std.specs.List.{AllByRecursion, Contains, flat_map}
+use Rattle.std.proofs.Common.{◌≡◌, sym, ◌∙◌, subst, ℕ, List, [], ◌∷◌, ◌++◌}
+use Rattle.std.specs.List.{AllByRecursion, flat_map}
 use Rattle.std.proofs.lemmas.List.Elements.{Contains-append_left, Contains-append_right}
-use Rattle.row_blob.specs.Kept.{AreEach}
 use Rattle.plan_core.specs.PlainPlan.{PlainPlan}
 use Rattle.catalog_core.specs.IsTable.{IsTable}
 use Rattle.catalog_core.specs.Table.{Table}
@@ -11,7 +10,7 @@ use Rattle.job_table.specs.declared.table.OpenJob.{OpenJob}
 use Rattle.later_states.specs.Later.{AreHeld, IsLater, IsLaterState}
 use Rattle.work_run.specs.Opened.{IsOpen, HasRead}
 use Rattle.work_run.specs.declared.open.OpenWork.{OpenWork}
-use Rattle.session.specs.Jobs.{OpenJobs, IsHeldOver, AreHeldOver, IsJob, AreJobs}
+use Rattle.session.specs.Jobs.{OpenJobs, AreHeldOver, IsJob, AreJobs}
 use Rattle.session.specs.Machine.{Job, held_by}
 
 -- what open jobs hold

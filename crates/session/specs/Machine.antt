@@ -1,8 +1,7 @@
 -- The abstract machine: a folder's state and the open jobs, what is answered to each command, and what is held then.
-use Rattle.std.specs.Prelude.{◌≡◌, ◌⊎◌, ℕ, ◌+◌, ◌-◌, ◌≤◌, ◌<◌, min, bytes_eq, if◌then◌else◌, Bool, List, [], ◌∷◌, ◌++◌, length, flat_map, Option, None, Some, Result, Ok, Err, ⊤}
+use Rattle.std.specs.Prelude.{◌≡◌, ◌⊎◌, ℕ, ◌+◌, ◌-◌, ◌≤◌, ◌<◌, min, bytes_eq, if◌then◌else◌, Bool, List, [], ◌∷◌, ◌++◌, length, flat_map, Option, None, Some, Result, Ok, Err}
 use Rattle.std.specs.List.{find, list_any}
 use Rattle.plan_core.specs.PlainPlan.{PlainPlan}
-use Rattle.plan_grammar.specs.PlainNamed.{PlainTree}
 use Rattle.estimator.specs.Bytes.{capped}
 use Rattle.rewrite_core.specs.Files.{AreIdsOf, files_of}
 use Rattle.rewrite_core.specs.PlainRewriting.{PlainRewriting}
@@ -152,17 +151,18 @@ DropsTo m name None given = given ≡ refused m (refusal.Unknown name)
 -- ---- the steps of the machine
 
 -- any other command is the folder's, while the jobs hold what they read
-pub record PerformsBeside (m : Machine) (c : Command) (given : Outcome) : Type 0 where
-  pub of_folder : folder.Performs (held_by m.jobs) m.state c (folder.outcome given.answer given.machine.state)
+pub record PerformsBeside (care : Care) (m : Machine) (c : Command) (given : Outcome) : Type 0 where
+  pub of_folder : folder.Performs care (held_by m.jobs) m.state c (folder.outcome given.answer given.machine.state)
   pub jobs : given.machine.jobs ≡ m.jobs
 
--- what the machine does where there is memory and each file is read
-abbrev pub Performs : Machine → Command → Outcome → Type 0
-Performs m (command.OpenJob job name tree) given = OpensTo m job (opening (table m.state) (is_open m.jobs job) (length m.jobs) job name tree) given
-Performs m (command.Step job) given = StepsTo m job (job_named m.jobs job) given
-Performs m (command.Close job) given = ClosesTo m job (job_named m.jobs job) given
-Performs m (command.DropJob job) given = DropsTo m job (job_named m.jobs job) given
-Performs m c given = PerformsBeside m c given
+-- What the machine does where there is memory and the file of each extent, and of each kept result that a job reads, is read. So much is
+-- known of the files.
+abbrev pub Performs : Care → Machine → Command → Outcome → Type 0
+Performs care m (command.OpenJob job name tree) given = OpensTo m job (opening (table m.state) (is_open m.jobs job) (length m.jobs) job name tree) given
+Performs care m (command.Step job) given = StepsTo m job (job_named m.jobs job) given
+Performs care m (command.Close job) given = ClosesTo m job (job_named m.jobs job) given
+Performs care m (command.DropJob job) given = DropsTo m job (job_named m.jobs job) given
+Performs care m c given = PerformsBeside care m c given
 
 -- a file of the job is left
 abbrev pub HasLeft : Option Job → Type 0
@@ -190,4 +190,4 @@ Remains m c new = new ≡ m
 
 -- one step over files of which so much is known
 abbrev pub Step : Care → Machine → Command → Answer → Machine → Type 0
-Step care old given_to given new = Performs old given_to (outcome given new) ⊎ ((why : Refusal) × IsEvent care old given_to why × (given ≡ answer.Refused why) × Remains old given_to new)
+Step care old given_to given new = Performs care old given_to (outcome given new) ⊎ ((why : Refusal) × IsEvent care old given_to why × (given ≡ answer.Refused why) × Remains old given_to new)

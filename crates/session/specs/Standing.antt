@@ -1,5 +1,4 @@
 -- How a session stands to its store, and what a step does to both.
-use Rattle.std.specs.Prelude.{◌≡◌, ℕ, List}
 use Rattle.outside_traits.specs.View.{View}
 use Rattle.script_text.specs.declared.answer.Answer.{Answer}
 use Rattle.script_text.specs.declared.item.Command.{Command}

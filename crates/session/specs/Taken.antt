@@ -1,5 +1,5 @@
 -- The bytes that a command takes of the files of a state.
-use Rattle.std.specs.Prelude.{ℕ, List, [], ◌∷◌, Option, None, Some, ⊤}
+use Rattle.std.specs.Prelude.{List, [], ◌∷◌, Option, None, Some, ⊤}
 use Rattle.outside_traits.specs.View.{Counts}
 use Rattle.outside_traits.specs.Calls.{CountsTaken}
 use Rattle.rewrite_core.specs.Files.{FileName, files_of}

@@ -1,5 +1,5 @@
 -- Open work of a command: as it is opened, read on and closed.
-use Rattle.std.specs.Prelude.{◌≡◌, ◌≢◌, ◌⊎◌, ℕ, List, [], ◌∷◌, ◌++◌, length, Some, Result, Ok, Err, ⊤}
+use Rattle.std.specs.Prelude.{◌≡◌, ◌≢◌, ◌⊎◌, ℕ, List, [], ◌∷◌, ◌++◌, length, Some, Ok, Err, ⊤}
 use Rattle.std.specs.List.{remove}
 use Rattle.outside_traits.specs.View.{View}
 use Rattle.plan_core.specs.PlainPlan.{PlainPlan}
@@ -7,7 +7,6 @@ use Rattle.plan_canon.specs.Normal.{IsNormalFormOf}
 use Rattle.estimator.specs.Bytes.{capped}
 use Rattle.rewrite_core.specs.Files.{FileName, AreIdsOf, files_of}
 use Rattle.catalog_core.specs.Table.{Table}
-use Rattle.folder.specs.Damage.{ShowsDamage}
 use Rattle.folder.specs.Sound.{Care}
 use Rattle.folder.specs.State.{State, kinds_in, table}
 use Rattle.plan_choice.specs.Taken.{IsTaken}

@@ -3,7 +3,7 @@ ghost use Rattle.std.specs.Prelude.{◌≡◌, ◌≢◌, ◌⊎◌, ◌<◌, �
 ghost use Rattle.std.specs.Prelude.{IsTrue, IfOk, IfErr, OnOk, OnErr};
 ghost use Rattle.outside_traits.specs.Counts.{Rose};
 ghost use Rattle.outside_traits.specs.View.{View, Counts};
-ghost use Rattle.outside_traits.specs.Calls.{Rises, MayRaiseReads, MayRaiseWrites};
+ghost use Rattle.outside_traits.specs.Calls.{Rises, MayRaiseReads};
 ghost use Rattle.outside_traits.specs.Runs.{Narrows};
 ghost use Rattle.plan_core.specs.PlainPlan.{PlainPlan};
 ghost use Rattle.plan_grammar.specs.Counts.{IsWithinLimits};
@@ -25,7 +25,7 @@ ghost use Rattle.script_text.specs.Answer.{IsNarrow};
 ghost use Rattle.script_text.specs.declared.answer.Refusal.{Refusal};
 ghost use Rattle.script_text.specs.declared.item.Command.TheVariants as command;
 ghost use Rattle.folder_session.specs.Causes.{TellsOfNoFile};
-ghost use Rattle.folder_session.specs.Standing.{LeavesWhereRefused, WritesAtMost};
+ghost use Rattle.folder_session.specs.Standing.{AreGoneSince, LeavesWhereRefused, WritesAtMost};
 ghost use Rattle.folder_session.specs.Standing as folder;
 ghost use Rattle.session.specs.Causes.{HasByteCause};
 ghost use Rattle.session.specs.Jobs.{IsAdmitted};
@@ -147,6 +147,8 @@ impl Session {
             → OnErr result (Breaks care (D.view store.old) (D.view store.new) m (command.Close name)) }
         ensures narrow { IfOk result (λ next. IsNarrow next.1) }
         ensures alone { WritesAtMost (folder_of self) (D.view store.old) (D.view store.new) }
+        ensures gone { IfOk result (λ next. AreGoneSince (table_in (folder_of self))
+            (table_in (folder_of next.0)) (D.view store.new) (D.counts store.old) (D.counts store.new)) }
         ensures cause { OnErr result (Rose (D.counts store.old).writes (D.counts store.new).writes) }
         ensures no_fault { OnOk result ((D.counts store.new).writes ≡ (D.counts store.old).writes) }
         ensures refused { IfOk result
@@ -215,20 +217,24 @@ impl Session {
             IsLater held (table_in (folder_of self)) (table_in (folder_of next.0))) }
         ensures table { IfOk result (λ next. IsTable (table_in (folder_of next.0))) }
         ensures alone { WritesAtMost (folder_of self) (D.view store.old) (D.view store.new) }
+        ensures gone { IfOk result (λ next. AreGoneSince (table_in (folder_of self))
+            (table_in (folder_of next.0)) (D.view store.new) (D.counts store.old) (D.counts store.new)) }
         ensures cause { OnErr result (Rose (D.counts store.old).writes (D.counts store.new).writes) }
         ensures no_fault { OnOk result ((D.counts store.new).writes ≡ (D.counts store.old).writes) }
         ensures refused { IfOk result
             (λ next. LeavesWhereRefused next.1 (D.view store.old) (D.view store.new)) }
         ensures crash { IsTrue D.tells → FolderStands (D.view store.old) (folder_of self)
             → IfOk result (λ next. FolderStands (D.view store.new) (folder_of next.0)) }
-        ensures counts { MayRaiseWrites (D.counts store.old) (D.counts store.new) }
+        ensures reads { (D.counts store.new).reads ≡ (D.counts store.old).reads }
+        ensures taken { (D.counts store.new).taken ≡ (D.counts store.old).taken }
+        ensures counts { Rises (D.counts store.old) (D.counts store.new) }
     {
         let mut session = self;
         match session.base.prepare(&work.plan.change) {
             Ok(()) => {
                 session.jobs.jobs.remove(at);
                 let Session { base, jobs, alloc } = session;
-                match base.record_work(store, work) {
+                match base.record_work(store, work, &[]) {
                     Ok((base, answer)) => {
                         know_table(base.catalog());
                         Ok((Session { base, jobs, alloc }, answer))

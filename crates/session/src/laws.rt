@@ -20,8 +20,8 @@ pub fn files_are_read()
 /// Where there is memory and each file is read a command is refused only where the cause of that refusal
 /// holds. No refusal changes the machine, but that a job whose close is refused has read on.
 pub fn refusals_have_causes()
-    ensures cause { (m new : Machine) (given_to : Command) (why : Refusal)
-        → Performs m given_to (outcome (Answer.Refused why) new) → IsRefusedFor m given_to why }
+    ensures cause { (care : Care) (m new : Machine) (given_to : Command) (why : Refusal)
+        → Performs care m given_to (outcome (Answer.Refused why) new) → IsRefusedFor m given_to why }
     ensures unchanged { (care : Care) (m new : Machine) (given_to : Command) (why : Refusal)
         → Step care m given_to (Answer.Refused why) new → StaysBut m given_to new }
 {}

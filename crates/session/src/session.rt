@@ -17,7 +17,7 @@ ghost use Rattle.script_text.specs.Answer.{IsNarrow};
 ghost use Rattle.script_text.specs.Script.{IsWhole};
 ghost use Rattle.script_text.specs.declared.answer.Refusal.{Refusal};
 ghost use Rattle.folder_session.specs.Machine.{IsOfJobs};
-ghost use Rattle.folder_session.specs.Standing.{LeavesWhereRefused, ChangesAtMost, LeavesNoFile};
+ghost use Rattle.folder_session.specs.Standing.{LeavesWhereRefused, ChangesAtMost, AreGoneSince};
 ghost use Rattle.session.specs.Causes.{HasByteCause};
 ghost use Rattle.session.specs.Machine.{Machine, without_jobs};
 ghost use Rattle.session.specs.Taken.{TakesAsTold, TakesFor};
@@ -135,9 +135,9 @@ impl Session {
         // Whatever the answer, only the log in use and files that no state names yet are written, by an
         // append the next one alone, and only files of kept results are removed.
         ensures alone { ChangesAtMost (folder_of self) command (D.view store.old) (D.view store.new) }
-        // After a collection no file of a kept result that went is there, unless a removal failed.
-        ensures gone { IsTrue D.tells → IfOk result (λ next. LeavesNoFile (table_in (folder_of self)) command
-            next.1 (D.view store.new) (D.counts store.old) (D.counts store.new)) }
+        // No file of a kept result that went is there, unless a removal failed.
+        ensures gone { IsTrue D.tells → IfOk result (λ next. AreGoneSince (table_in (folder_of self))
+            (table_in (folder_of next.0)) (D.view store.new) (D.counts store.old) (D.counts store.new)) }
         ensures cause { OnErr result (Rose (D.counts store.old).writes (D.counts store.new).writes) }
         ensures no_fault { OnOk result ((D.counts store.new).writes ≡ (D.counts store.old).writes) }
         // A refused command changes no file: at most it has read.
@@ -188,8 +188,8 @@ impl Session {
             → OnErr result (Breaks care (D.view store.old) (D.view store.new) m command) }
         ensures narrow { IfOk result (λ next. IsNarrow next.1) }
         ensures alone { ChangesAtMost (folder_of self) command (D.view store.old) (D.view store.new) }
-        ensures gone { IsTrue D.tells → IfOk result (λ next. LeavesNoFile (table_in (folder_of self)) command
-            next.1 (D.view store.new) (D.counts store.old) (D.counts store.new)) }
+        ensures gone { IsTrue D.tells → IfOk result (λ next. AreGoneSince (table_in (folder_of self))
+            (table_in (folder_of next.0)) (D.view store.new) (D.counts store.old) (D.counts store.new)) }
         ensures cause { OnErr result (Rose (D.counts store.old).writes (D.counts store.new).writes) }
         ensures no_fault { OnOk result ((D.counts store.new).writes ≡ (D.counts store.old).writes) }
         ensures refused { IfOk result

@@ -60,10 +60,10 @@ pub(crate) fn opened(
         Ok(plan) => plan,
         Err(refusal) => return Err(refusal),
     };
-    let Ok(choice) = chosen(alloc, catalog, typed, program.cuts.items()) else {
+    let Ok(taken) = chosen(alloc, catalog, typed, program.cuts.items()) else {
         return Err(Refusal::Memory);
     };
-    match open_work(alloc, program, choice, catalog) {
+    match open_work(alloc, program, taken.choice, catalog) {
         Ok(work) => Ok(work),
         Err(Memory) => Err(Refusal::Memory),
     }

@@ -12,7 +12,7 @@ pub open_work-requires-clause-chosen : goal.open_work-requires-clause-chosen
 open_work-requires-clause-chosen c =
     let t = table_of c.args.catalog.now in
     let planned = c.in-Ok.ensures.ok in
-    (planned.0.plan, chosen_at t t refl (target_of planned.0) c.in-Ok.plan.typed c.in-Ok.plan.program.cuts c.items.result.now c.items.ensures c.in-Ok-chosen.choice planned.2.typed_at (λ other is. c.in-Ok-chosen.ensures other is))
+    (planned.0.plan, chosen_at t t refl (target_of planned.0) c.in-Ok.plan.typed c.in-Ok.plan.program.cuts c.items.result.now c.items.ensures c.in-Ok-chosen.taken.choice planned.2.typed_at (λ other is. c.in-Ok-chosen.ensures.chosen other is))
 
 pub returns-in-Ok-open_work-clause-ok : goal.returns-in-Ok-open_work-clause-ok
 returns-in-Ok-open_work-clause-ok c =
@@ -20,9 +20,9 @@ returns-in-Ok-open_work-clause-ok c =
     let planned = c.in-Ok.ensures.ok in
     let run = planned.0 in
     let cuts = c.in-Ok.plan.program.cuts in
-    let choice = c.in-Ok-chosen.choice in
+    let choice = c.in-Ok-chosen.taken.choice in
     let typed = planned.2.typed_at in
-    let chosen = chosen_at t t refl (target_of run) c.in-Ok.plan.typed cuts c.items.result.now c.items.ensures choice typed (λ other is. c.in-Ok-chosen.ensures other is) in
+    let chosen = chosen_at t t refl (target_of run) c.in-Ok.plan.typed cuts c.items.result.now c.items.ensures choice typed (λ other is. c.in-Ok-chosen.ensures.chosen other is) in
     let same = sym c.in-Ok-open_work.ensures.rewriting in (
       run,
       planned.1,

@@ -1,4 +1,4 @@
-use Rattle.std.proofs.Common.{sym, ap, ◌∙◌, subst, List, [], length}
+use Rattle.std.proofs.Common.{sym, ap, ◌∙◌, subst, List, length}
 use Rattle.rewrite_core.specs.Files.{FileName}
 use Rattle.estimator.specs.Bytes.{capped}
 use Rattle.executor.specs.Progress.{left_in}

@@ -1,4 +1,4 @@
-use Rattle.std.proofs.Common.{◌≡◌, IfOk, inl, refl, sym, ap, ◌∙◌, subst, Some}
+use Rattle.std.proofs.Common.{IfOk, inl, refl, sym, ◌∙◌, subst}
 use Rattle.std.proofs.Math.ListN.{set}
 use Rattle.outside_traits.proofs.RunLemmas.{spans_narrowed}
 use Rattle.plan_core.specs.PlainPlan.{PlainPlan}
@@ -15,6 +15,7 @@ use Rattle.folder.specs.Folders.{table_in}
 use Rattle.folder.specs.Left.{Everything, IsSoundForOneOf}
 use Rattle.folder.specs.Sound.{IsSound}
 use Rattle.folder_session.specs.Causes.{IsOfFiles}
+use Rattle.folder_session.proofs.DroppedLemmas.{gone_from_none}
 use Rattle.folder_session.proofs.LeavingLemmas.{reads_only, writes_on}
 use Rattle.folder_session.proofs.TakenLemmas.{most_then}
 use Rattle.job_table.specs.declared.table.OpenJob.{OpenJob}
@@ -25,7 +26,7 @@ use Rattle.session.specs.Standing.{folder_of, jobs_of}
 use Rattle.session.specs.Taken.{TakesAsTold}
 use Rattle.session.proofs.CloseLemmas.{unknown_close}
 use Rattle.session.proofs.ClosingLemmas.{closed_breaks, closed_result, found, not_closed_performs}
-use Rattle.session.proofs.EndedLemmas.{ended_found, ended_holds, ended_taken, refused_since}
+use Rattle.session.proofs.EndedLemmas.{closed_gone, ended_found, ended_holds, ended_taken, refused_since}
 use Rattle.session.proofs.FoundLemmas.{close_found, close_most, held_at, read_held}
 use Rattle.session.proofs.JobSteps.{same_name}
 use Rattle.session.proofs.OpenLemmas.{stays}
@@ -39,6 +40,9 @@ returns-in_default-clause-ok g c = λ told care m stands.
     let jobs = jobs_of c.args.self in
     let without = none_named c.args.name (IsJob m.state) (same_name m.state) m.jobs jobs stands.jobs (none_at c.args.name jobs (sym c.place_of.ensures ∙ c.in_default.is)) in
     stays care (g.D.Store.view c.args.store.now) c.args.self c.args.self m (command.Close c.args.name) (answer.Refused (refusal.Unknown c.args.name)) stands refl refl (unknown_close care m c.args.name without.0)
+
+pub returns-in_default-clause-gone : goal.returns-in_default-clause-gone
+returns-in_default-clause-gone g c = (let t = table_in (folder_of c.args.self) in gone_from_none t t refl (g.D.Store.view c.args.store.now) (g.D.Store.counts c.args.store.now) (g.D.Store.counts c.args.store.now))
 
 pub close_work-closed-requires : goal.close_work-closed-requires
 close_work-closed-requires g c =
@@ -104,6 +108,11 @@ returns-in-Ok-clause-err g c = λ told care m stands.
 pub returns-in-Ok-clause-alone : goal.returns-in-Ok-clause-alone
 returns-in-Ok-clause-alone g c = writes_on (folder_of c.args.self) _ _ _ (reads_only (folder_of c.args.self) _ _ c.in-Ok.ensures.narrows) c.record_closed.ensures.alone
 
+pub returns-in-Ok-clause-gone : goal.returns-in-Ok-clause-gone
+returns-in-Ok-clause-gone g c =
+    closed_gone (table_in (folder_of c.args.self)) (g.D.Store.view c.record_closed.new.store) (g.D.Store.counts c.args.store.now) (g.D.Store.counts c.close_work-closed.new.store) (g.D.Store.counts c.record_closed.new.store) c.in-Ok.ensures.counts.removes c.record_closed.result
+    c.record_closed.ensures.gone
+
 pub returns-in-Ok-clause-refused : goal.returns-in-Ok-clause-refused
 returns-in-Ok-clause-refused g c = refused_since _ _ _ c.in-Ok.ensures.narrows c.record_closed.result c.record_closed.ensures.refused
 
@@ -119,7 +128,7 @@ returns-in-Ok-clause-taken g c = λ told care m stands.
     let new : OpenJob OpenWork = record { name = o.name; job = c.close_work-closed.new.work; holds = o.holds } in
     subst (λ (x : Table). IfOk c.record_closed.result (λ next. TakesAsTold x jobs (command.Close c.args.name) next.1 (g.D.Store.counts c.args.store.now) (g.D.Store.counts c.record_closed.new.store))) c.catalog-2.ensures
     (ended_taken (table_of c.catalog-2.result.now) jobs (set jobs c.in-Some.at new) c.args.name c.in-Some.at o place c.index_mut.ensures.value c.in-Ok.work (g.D.Store.counts c.args.store.now) (g.D.Store.counts c.close_work-closed.new.store) (g.D.Store.counts c.record_closed.new.store)
-    (c.in-Ok.ensures.taken told care m.state stands.base.left e is_job.read) c.record_closed.ensures.counts c.record_closed.result c.record_closed.ensures.ended)
+    (c.in-Ok.ensures.taken told care m.state stands.base.left e is_job.read) c.record_closed.ensures.taken c.record_closed.result c.record_closed.ensures.ended)
 
 pub returns-in-Ok-clause-most : goal.returns-in-Ok-clause-most
 returns-in-Ok-clause-most g c = λ told.
@@ -128,7 +137,7 @@ returns-in-Ok-clause-most g c = λ told.
     let half = g.D.Store.counts c.close_work-closed.new.store in
     let new = g.D.Store.counts c.record_closed.new.store in
     close_most (jobs_of c.args.self) c.args.name c.in-Some.at o (sym c.place_of.ensures ∙ c.in-Some.is) c.index_mut.ensures.value (table_in (folder_of c.args.self)) old new
-    (most_then _ old half new (subst (λ (x : Table). TookAtMost (bytes_named x (files_of (opened_rewriting o.job))) old half) c.catalog-2.ensures (c.in-Ok.ensures.most told)) c.record_closed.ensures.counts)
+    (most_then _ old half new (subst (λ (x : Table). TookAtMost (bytes_named x (files_of (opened_rewriting o.job))) old half) c.catalog-2.ensures (c.in-Ok.ensures.most told)) c.record_closed.ensures.taken)
 
 pub returns-in-Ok-clause-crash : goal.returns-in-Ok-clause-crash
 returns-in-Ok-clause-crash g c = λ told stands. c.record_closed.ensures.crash told (c.left_stores.ensures.stands c.args.store.now c.close_work-closed.new.store _ _ c.in-Ok.ensures.narrows stands)
@@ -141,6 +150,9 @@ returns-in-Ok-clause-found g c = λ told.
     c.record_closed.ensures.ended
 
 -- ---- not closed
+
+pub returns-clause-gone : goal.returns-clause-gone
+returns-clause-gone g c = (let t = table_in (folder_of c.args.self) in gone_from_none t t refl (g.D.Store.view c.close_work-closed.new.store) (g.D.Store.counts c.args.store.now) (g.D.Store.counts c.close_work-closed.new.store))
 
 pub returns-clause-holds : goal.returns-clause-holds
 returns-clause-holds g c =

@@ -3,9 +3,10 @@ use Rattle.catalog_core.specs.IsTable.{IsTable}
 use Rattle.script_text.specs.declared.answer.Answer.TheVariants as answer
 use Rattle.script_text.specs.declared.answer.Refusal.TheVariants as refusal
 use Rattle.folder.specs.Folders.{table_in}
+use Rattle.folder_session.proofs.DroppedLemmas.{gone_from_none}
 use Rattle.session.specs.Standing.{folder_of, jobs_of}
 use Rattle.session.proofs.OpenLemmas.{stays}
-use Rattle.session.proofs.PerformLemmas.{breaks_beside, found_beside, performs_beside, taken_beside, want_beside, want_found, want_gone, want_most}
+use Rattle.session.proofs.PerformLemmas.{breaks_beside, found_beside, performs_beside, taken_beside, want_beside, want_found, want_most}
 use Rattle.session.proofs.StayLemmas.{AreAllHeld, all_held, still_held_over}
 use Rattle.session.proofs.session.Session.perform.Goals as goal
 
@@ -15,7 +16,7 @@ pub returns-in-Err-clause-ok : goal.returns-in-Err-clause-ok
 returns-in-Err-clause-ok g c = λ told care m stands. stays care (g.D.Store.view c.args.store.now) c.args.self c.args.self m c.args.command (answer.Refused refusal.Memory) stands refl refl (want_beside care m c.args.command c.requires.of_folder)
 
 pub returns-in-Err-clause-gone : goal.returns-in-Err-clause-gone
-returns-in-Err-clause-gone g c = λ told. want_gone (table_in (folder_of c.args.self)) c.args.command (g.D.Store.view c.args.store.now) (g.D.Store.counts c.args.store.now) (g.D.Store.counts c.args.store.now)
+returns-in-Err-clause-gone g c = λ told. (let t = table_in (folder_of c.args.self) in gone_from_none t t refl (g.D.Store.view c.args.store.now) (g.D.Store.counts c.args.store.now) (g.D.Store.counts c.args.store.now))
 
 pub returns-in-Err-clause-found : goal.returns-in-Err-clause-found
 returns-in-Err-clause-found g c = λ told. want_found (table_in (folder_of c.args.self)) (jobs_of c.args.self) c.args.command (g.D.Store.view c.args.store.now).files c.requires.of_folder

@@ -17,7 +17,7 @@ use Rattle.job_table.specs.declared.table.OpenJob.{OpenJob}
 use Rattle.work_run.specs.Opened.{IsOpen}
 use Rattle.work_run.specs.declared.open.OpenWork.{OpenWork}
 use Rattle.session.specs.Causes.{HasByteCause}
-use Rattle.session.specs.Jobs.{OpenJobs, AreHeldOver, IsJob}
+use Rattle.session.specs.Jobs.{AreHeldOver, IsJob}
 use Rattle.session.specs.Standing.{Performs, folder_of, jobs_of}
 use Rattle.session.specs.Taken.{TakesAsTold, TakesFor}
 use Rattle.session.specs.declared.session.Session.{Session}
