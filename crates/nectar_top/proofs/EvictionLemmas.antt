@@ -1,24 +1,23 @@
 -- Which files a step leaves, and which went in a run.
-use Rattle.std.proofs.Common.{◌≡◌, ◌⊎◌, ◌∙◌, ℕ, ◌<◌, ◌≤◌, Bool, true, false, List, [], length, Option, None, Some, Ok, Err, Result, sym, ap, subst, inl, inr, arith}
+use Rattle.std.proofs.Common.{refl, ◌≡◌, ◌⊎◌, ◌∙◌, ℕ, ◌<◌, ◌≤◌, Bool, true, false, List, [], length, Option, None, Some, Ok, Err, Result, sym, ap, subst, inl, inr, arith}
 use Rattle.std.specs.Prelude.{nat_le}
 use Rattle.std.specs.List.{Contains}
 use Rattle.outside_traits.specs.View.{View, Counts}
 use Rattle.plan_core.specs.PlainPlan.{PlainPlan}
 use Rattle.estimator.specs.Cuts.{Cuts}
-use Rattle.catalog_types.specs.PlainEntry.{PlainEntry}
+use Rattle.entry_table.specs.Ids.{is_there, without}
 use Rattle.catalog_types.specs.declared.change.Change.{Change}
 use Rattle.catalog_types.specs.declared.program.Program.{Program}
 use Rattle.catalog_core.specs.IsTable.{IsTable}
 use Rattle.catalog_core.specs.Table.{Table, most_ticks}
-use Rattle.catalog_core.proofs.OwnNumbers.{result-given, result-own, result-apart}
 use Rattle.rows_core.specs.declared.schema.Column.{Column}
 use Rattle.planning.specs.Appending.{Append}
 use Rattle.planning.specs.Making.{making}
 use Rattle.planning.specs.Opening.{opening}
 use Rattle.planning.specs.Running.{Run, Target, running, storing}
 use Rattle.work_run.specs.Working.{Given, WorksBy}
+use Rattle.work_turns.specs.Ends.{WorksInTurns, free_of, those_among}
 use Rattle.rewrite_core.specs.PlainRewriting.{PlainRewriting}
-use Rattle.script_text.specs.Script.{Given as Gives}
 use Rattle.script_text.specs.declared.answer.Answer.{Answer}
 use Rattle.script_text.specs.declared.answer.Answer.TheVariants as answer
 use Rattle.script_text.specs.declared.answer.LimitKind.TheVariants as limit
@@ -29,165 +28,123 @@ use Rattle.script_text.specs.declared.item.Command.TheVariants as command
 use Rattle.script_text.specs.declared.item.Item.{Item}
 use Rattle.script_text.specs.declared.item.Item.TheVariants as item
 use Rattle.folder.specs.Folders.{journal_of, table_in}
-use Rattle.folder.specs.Next.{with_collection}
 use Rattle.folder.specs.Removing.{IsFree}
 use Rattle.folder.specs.Sound.{Care}
 use Rattle.folder.specs.State.{State, IsValid, table}
 use Rattle.folder.specs.declared.folder.Folder.{Folder}
-use Rattle.folder.proofs.Collecting.{went_free}
 use Rattle.folder.proofs.Tables.{stands-table}
 use Rattle.folder_session.specs.Machine as folder
 use Rattle.folder_session.specs.Standing as of_folder
-use Rattle.folder_session.proofs.CollectLemmas.{has_id}
 use Rattle.session.specs.Machine.{Job, Machine, Outcome, outcome, job_named, is_open, OpensTo, StepsTo, IsClosing, ClosesBy, ClosesTo, DropsTo, Performs, PerformsBeside, Remains}
 use Rattle.session.specs.Machine as session
 use Rattle.session.specs.Standing.{folder_of}
 use Rattle.session.specs.Standing as standing
 use Rattle.session.specs.declared.session.Session.{Session}
-use Rattle.nectar_top.specs.Eviction.{Evicts, AreGone}
+use Rattle.nectar_top.specs.Eviction.{Went, AreGone}
 use Rattle.nectar_top.specs.Machine.{Refuses, Step}
 use Rattle.nectar_top.specs.Progress.{LeavesFree}
 use Rattle.nectar_top.proofs.CauseLemmas.{Rose-since, Rose-later}
-use Rattle.nectar_top.proofs.FreeLemmas.{KeepsFree, free_same, free_stream, free_rows, free_work, free_collection, news_from}
+use Rattle.nectar_top.proofs.FreeLemmas.{LetsGo, none_there, free_same, free_stream, free_rows, free_work, free_collection, news_from}
 
 -- ---- no step names a file again
 
-made_free : (s new : State) (a : Answer) (name : List ℕ) (columns : List Column) (planned : Result Change Refusal) → folder.outcome a new ≡ folder.made s name columns planned → KeepsFree s new
-made_free s new a name columns (Ok change) is = subst (KeepsFree s) (sym (ap (λ (o : folder.Outcome). o.state) is)) (free_stream s name columns)
+made_free : (s new : State) (a : Answer) (name : List ℕ) (columns : List Column) (planned : Result Change Refusal) → folder.outcome a new ≡ folder.made s name columns planned → LetsGo s new
+made_free s new a name columns (Ok change) is = subst (LetsGo s) (sym (ap (λ (o : folder.Outcome). o.state) is)) (free_stream s name columns)
 made_free s new a name columns (Err why) is = free_same s new (ap (λ (o : folder.Outcome). o.state) is)
 
-appended_free : (s new : State) (a : Answer) (planned : Result Append Refusal) → folder.outcome a new ≡ folder.appended s planned → KeepsFree s new
-appended_free s new a (Ok plan) is = subst (KeepsFree s) (sym (ap (λ (o : folder.Outcome). o.state) is)) (free_rows s plan.place plan.rows)
+appended_free : (s new : State) (a : Answer) (planned : Result Append Refusal) → folder.outcome a new ≡ folder.appended s planned → LetsGo s new
+appended_free s new a (Ok plan) is = subst (LetsGo s) (sym (ap (λ (o : folder.Outcome). o.state) is)) (free_rows s plan.place plan.rows)
 appended_free s new a (Err why) is = free_same s new (ap (λ (o : folder.Outcome). o.state) is)
 
-by_free : (s new : State) (program : Option Program) (plan normal : PlainPlan) (cuts : Cuts) (r : PlainRewriting) (is : Given) → WorksBy s program plan normal cuts r is new → KeepsFree s new
+by_free : (s new : State) (program : Option Program) (plan normal : PlainPlan) (cuts : Cuts) (r : PlainRewriting) (is : Given) → WorksBy s program plan normal cuts r is new → LetsGo s new
 by_free s new program plan normal cuts r is by =
-    subst (KeepsFree s) (sym by.after) (free_work s program is.used [] by.news (news_from s.entries s.next_file by.keeps.mades by.keeps.admitted by.news by.keeps.admits by.keeps.news_are))
+    subst (LetsGo s) (sym by.after) (free_work s program is.used [] by.news (news_from s.entries s.next_file by.keeps.mades by.keeps.admitted by.news by.keeps.admits by.keeps.news_are))
 
-worked_free : (s new : State) (program : Option Program) (plan : PlainPlan) (cuts : Cuts) (a : Answer) → folder.IsWorkOn s program plan cuts a new → KeepsFree s new
-worked_free s new program plan cuts (answer.Result rows used kept read) works = by_free s new program plan works.normal cuts works.rewriting _ works.by
-worked_free s new program plan cuts (answer.Refused refusal.Overflow) over = free_same s new over.1
-worked_free s new program plan cuts (answer.Refused (refusal.Limit limit.Machine)) dear = free_same s new dear.1
-worked_free s new program plan cuts _ works = absurd works
+turns_free : (care : Care) (held : List ℕ) (s new : State) (program : Option Program) (plan form : PlainPlan) (cuts : Cuts) (is : Given) → WorksInTurns care held s program plan form cuts is new → LetsGo s new
+turns_free care held s new program plan form cuts is works =
+    let gone = free_of held works.lost in
+    let keeps = works.keeps in
+    subst (LetsGo s) (sym works.after)
+    (free_work s program is.used (those_among gone s.entries) works.news (news_from (without gone s.entries) s.next_file keeps.mades keeps.admitted works.news keeps.admits keeps.news_are))
 
-ran_free : (s new : State) (a : Answer) (planned : Result Run Refusal) → folder.RunsTo s planned (folder.outcome a new) → KeepsFree s new
-ran_free s new a (Ok run) works = worked_free s new (Some run.program) run.plan run.program.cuts a works
-ran_free s new a (Err why) is = free_same s new (ap (λ (o : folder.Outcome). o.state) is)
+worked_free : (care : Care) (held : List ℕ) (s new : State) (program : Option Program) (plan : PlainPlan) (cuts : Cuts) (a : Answer) → folder.IsWorkOn care held s program plan cuts a new → LetsGo s new
+worked_free care held s new program plan cuts (answer.Result rows used kept read) works = turns_free care held s new program plan works.0 cuts _ works.1
+worked_free care held s new program plan cuts (answer.Refused refusal.Overflow) over = free_same s new over.1
+worked_free care held s new program plan cuts (answer.Refused (refusal.Limit limit.Machine)) dear = free_same s new dear.1
+worked_free care held s new program plan cuts _ works = absurd works
 
-fetched_free : (s new : State) (a : Answer) (planned : Result Target Refusal) → folder.FetchesTo s planned (folder.outcome a new) → KeepsFree s new
-fetched_free s new a (Ok target) works = worked_free s new None target.plan target.cuts a works
-fetched_free s new a (Err why) is = free_same s new (ap (λ (o : folder.Outcome). o.state) is)
+ran_free : (care : Care) (held : List ℕ) (s new : State) (a : Answer) (planned : Result Run Refusal) → folder.RunsTo care held s planned (folder.outcome a new) → LetsGo s new
+ran_free care held s new a (Ok run) works = worked_free care held s new (Some run.program) run.plan run.program.cuts a works
+ran_free care held s new a (Err why) is = free_same s new (ap (λ (o : folder.Outcome). o.state) is)
 
-collected_free : (full : Bool) (held_ids : List ℕ) (s new : State) (a : Answer) (reclaim : ℕ) → folder.CollectsTo full held_ids s reclaim (folder.outcome a new) → KeepsFree s new
+fetched_free : (care : Care) (held : List ℕ) (s new : State) (a : Answer) (planned : Result Target Refusal) → folder.FetchesTo care held s planned (folder.outcome a new) → LetsGo s new
+fetched_free care held s new a (Ok target) works = worked_free care held s new None target.plan target.cuts a works
+fetched_free care held s new a (Err why) is = free_same s new (ap (λ (o : folder.Outcome). o.state) is)
+
+collected_free : (full : Bool) (held_ids : List ℕ) (s new : State) (a : Answer) (reclaim : ℕ) → folder.CollectsTo full held_ids s reclaim (folder.outcome a new) → LetsGo s new
 collected_free true held_ids s new a reclaim is = free_same s new (ap (λ (o : folder.Outcome). o.state) is)
-collected_free false held_ids s new a reclaim is = subst (KeepsFree s) (sym (ap (λ (o : folder.Outcome). o.state) is.3)) (free_collection s is.0)
+collected_free false held_ids s new a reclaim is = subst (LetsGo s) (sym (ap (λ (o : folder.Outcome). o.state) is.3)) (free_collection s is.0)
 
-folder_free : (held_ids : List ℕ) (s new : State) (c : Command) (a : Answer) → folder.Performs held_ids s c (folder.outcome a new) → KeepsFree s new
-folder_free held_ids s new (command.Stream name columns) a is = made_free s new a name columns (making (table s) name columns) is
-folder_free held_ids s new (command.Append name lines) a is = appended_free s new a is.0 is.2
-folder_free held_ids s new (command.Run name tree) a is = ran_free s new a (running (table s) name tree) is
-folder_free held_ids s new (command.Fetch name as_run) a is = fetched_free s new a is.0 is.2
-folder_free held_ids s new (command.Collect reclaim) a is = collected_free (nat_le most_ticks s.tick) held_ids s new a reclaim is
-folder_free held_ids s new command.Entries a is = free_same s new (ap (λ (o : folder.Outcome). o.state) is)
-folder_free held_ids s new command.Catalog a is = free_same s new (ap (λ (o : folder.Outcome). o.state) is)
-folder_free held_ids s new _ a is = absurd is
+folder_free : (care : Care) (held_ids : List ℕ) (s new : State) (c : Command) (a : Answer) → folder.Performs care held_ids s c (folder.outcome a new) → LetsGo s new
+folder_free care held_ids s new (command.Stream name columns) a is = made_free s new a name columns (making (table s) name columns) is
+folder_free care held_ids s new (command.Append name lines) a is = appended_free s new a is.0 is.2
+folder_free care held_ids s new (command.Run name tree) a is = ran_free care held_ids s new a (running (table s) name tree) is
+folder_free care held_ids s new (command.Fetch name as_run) a is = fetched_free care held_ids s new a is.0 is.2
+folder_free care held_ids s new (command.Collect reclaim) a is = collected_free (nat_le most_ticks s.tick) held_ids s new a reclaim is
+folder_free care held_ids s new command.Entries a is = free_same s new (ap (λ (o : folder.Outcome). o.state) is)
+folder_free care held_ids s new command.Catalog a is = free_same s new (ap (λ (o : folder.Outcome). o.state) is)
+folder_free care held_ids s new _ a is = absurd is
 
-opened_free : (m new : Machine) (a : Answer) (name : List ℕ) (planned : Result Run Refusal) → OpensTo m name planned (outcome a new) → KeepsFree m.state new.state
+opened_free : (m new : Machine) (a : Answer) (name : List ℕ) (planned : Result Run Refusal) → OpensTo m name planned (outcome a new) → LetsGo m.state new.state
 opened_free m new a name (Ok run) opens = free_same m.state new.state (ap (λ (o : Outcome). o.machine.state) opens.is)
 opened_free m new a name (Err why) is = free_same m.state new.state (ap (λ (o : Outcome). o.machine.state) is)
 
-stepped_free : (m new : Machine) (a : Answer) (name : List ℕ) (job : Option Job) → StepsTo m name job (outcome a new) → KeepsFree m.state new.state
+stepped_free : (m new : Machine) (a : Answer) (name : List ℕ) (job : Option Job) → StepsTo m name job (outcome a new) → LetsGo m.state new.state
 stepped_free m new a name (Some job) is = free_same m.state new.state (ap (λ (o : Outcome). o.machine.state) is)
 stepped_free m new a name None is = free_same m.state new.state (ap (λ (o : Outcome). o.machine.state) is)
 
-closing_free : (m new : Machine) (a : Answer) (name : List ℕ) (job : Job) → IsClosing m name job a new → KeepsFree m.state new.state
+closing_free : (m new : Machine) (a : Answer) (name : List ℕ) (job : Job) → IsClosing m name job a new → LetsGo m.state new.state
 closing_free m new (answer.Result rows used kept read) name job closes = by_free m.state new.state (Some job.run.program) job.run.plan closes.normal job.run.program.cuts job.rewriting _ closes.works
 closing_free m new (answer.Refused refusal.Overflow) name job over = free_same m.state new.state (ap (λ (x : Machine). x.state) over.1)
 closing_free m new (answer.Refused (refusal.Limit limit.Machine)) name job dear = free_same m.state new.state (ap (λ (x : Machine). x.state) dear.1)
 closing_free m new _ name job closes = absurd closes
 
-closed_by_free : (m new : Machine) (a : Answer) (name : List ℕ) (job : Job) (planned : Result Run Refusal) → ClosesBy m name job planned (outcome a new) → KeepsFree m.state new.state
+closed_by_free : (m new : Machine) (a : Answer) (name : List ℕ) (job : Job) (planned : Result Run Refusal) → ClosesBy m name job planned (outcome a new) → LetsGo m.state new.state
 closed_by_free m new a name job (Ok run) closes = closing_free m new a name job closes
 closed_by_free m new a name job (Err why) is = free_same m.state new.state (ap (λ (o : Outcome). o.machine.state) is)
 
-closed_free : (m new : Machine) (a : Answer) (name : List ℕ) (job : Option Job) → ClosesTo m name job (outcome a new) → KeepsFree m.state new.state
+closed_free : (m new : Machine) (a : Answer) (name : List ℕ) (job : Option Job) → ClosesTo m name job (outcome a new) → LetsGo m.state new.state
 closed_free m new a name (Some job) closes = closed_by_free m new a name job (storing (table m.state) job.run) closes
 closed_free m new a name None is = free_same m.state new.state (ap (λ (o : Outcome). o.machine.state) is)
 
-dropped_free : (m new : Machine) (a : Answer) (name : List ℕ) (job : Option Job) → DropsTo m name job (outcome a new) → KeepsFree m.state new.state
+dropped_free : (m new : Machine) (a : Answer) (name : List ℕ) (job : Option Job) → DropsTo m name job (outcome a new) → LetsGo m.state new.state
 dropped_free m new a name (Some job) is = free_same m.state new.state (ap (λ (o : Outcome). o.machine.state) is)
 dropped_free m new a name None is = free_same m.state new.state (ap (λ (o : Outcome). o.machine.state) is)
 
-beside_free : (m new : Machine) (c : Command) (a : Answer) → PerformsBeside m c (outcome a new) → KeepsFree m.state new.state
-beside_free m new c a beside = folder_free (session.held_by m.jobs) m.state new.state c a beside.of_folder
+beside_free : (care : Care) (m new : Machine) (c : Command) (a : Answer) → PerformsBeside care m c (outcome a new) → LetsGo m.state new.state
+beside_free care m new c a beside = folder_free care (session.held_by m.jobs) m.state new.state c a beside.of_folder
 
-performed_free : (m new : Machine) (c : Command) (a : Answer) → Performs m c (outcome a new) → KeepsFree m.state new.state
-performed_free m new (command.OpenJob job name tree) a is = opened_free m new a job (opening (table m.state) (is_open m.jobs job) (length m.jobs) job name tree) is
-performed_free m new (command.Step job) a is = stepped_free m new a job (job_named m.jobs job) is
-performed_free m new (command.Close job) a is = closed_free m new a job (job_named m.jobs job) is
-performed_free m new (command.DropJob job) a is = dropped_free m new a job (job_named m.jobs job) is
-performed_free m new c a is = beside_free m new c a is
+performed_free : (care : Care) (m new : Machine) (c : Command) (a : Answer) → Performs care m c (outcome a new) → LetsGo m.state new.state
+performed_free care m new (command.OpenJob job name tree) a is = opened_free m new a job (opening (table m.state) (is_open m.jobs job) (length m.jobs) job name tree) is
+performed_free care m new (command.Step job) a is = stepped_free m new a job (job_named m.jobs job) is
+performed_free care m new (command.Close job) a is = closed_free m new a job (job_named m.jobs job) is
+performed_free care m new (command.DropJob job) a is = dropped_free m new a job (job_named m.jobs job) is
+performed_free care m new c a is = beside_free care m new c a is
 
 -- an event leaves the state
-remains_free : (m new : Machine) (c : Command) → Remains m c new → KeepsFree m.state new.state
+remains_free : (m new : Machine) (c : Command) → Remains m c new → LetsGo m.state new.state
 remains_free m new (command.Close job) remains = free_same m.state new.state remains.0
 remains_free m new c remains = free_same m.state new.state (ap (λ (x : Machine). x.state) remains)
 
-refused_free : (why : Refusal) (m new : Machine) (a : Answer) → Refuses why m a new → KeepsFree m.state new.state
+refused_free : (why : Refusal) (m new : Machine) (a : Answer) → Refuses why m a new → LetsGo m.state new.state
 refused_free why m new a is = free_same m.state new.state (ap (λ (o : Outcome). o.machine.state) is)
 
-pub step_free : (care : Care) (m new : Machine) (i : Item) (a : Answer) → Step care m i a new → KeepsFree m.state new.state
-step_free care m new (item.Command c) a (inl (inl performs)) = performed_free m new c a performs
+pub step_free : (care : Care) (m new : Machine) (i : Item) (a : Answer) → Step care m i a new → LetsGo m.state new.state
+step_free care m new (item.Command c) a (inl (inl performs)) = performed_free care m new c a performs
 step_free care m new (item.Command c) a (inl (inr event)) = remains_free m new c event.3
 step_free care m new (item.Command c) a (inr is) = refused_free refusal.Memory m new a is
 step_free care m new (item.Refused why) a (inl is) = refused_free why m new a is
 step_free care m new (item.Refused why) a (inr is) = refused_free refusal.Memory m new a is
-
--- ---- what a collection evicts
-
--- the files of results that went are named by the state no more
-went : (s : State) (ids : List ℕ) (e : PlainEntry) → IsTable (table s) → Contains s.entries e → Contains ids e.id → IsFree (table (with_collection s ids)) e.file.file
-went s ids e is has named =
-    went_free (table s) ids e (result-given (table s) e is has) (λ other also same. result-own (table s) e other is has also same)
-    (λ stream extent of_table of_stream. result-apart (table s) e stream extent is has of_table of_stream) (has_id ids e.id named)
-
-not_evicted : {P : Type 0} (ids : List ℕ) (bytes : ℕ) (why : Refusal) → answer.Evicted ids bytes ≡ answer.Refused why → P
-not_evicted ids bytes why is = absurd (cc)
-
-collected : (full : Bool) (held_ids : List ℕ) (s new : State) (reclaim : ℕ) (ids : List ℕ) (bytes : ℕ) → folder.CollectsTo full held_ids s reclaim (folder.outcome (answer.Evicted ids bytes) new) → new ≡ with_collection s ids
-collected true held_ids s new reclaim ids bytes is = not_evicted ids bytes (refusal.Limit limit.Commands) (ap (λ (o : folder.Outcome). o.answer) is)
-collected false held_ids s new reclaim ids bytes is =
-    let told : answer.Evicted ids bytes ≡ answer.Evicted is.0 is.1 = ap (λ (o : folder.Outcome). o.answer) is.3 in
-    let same : is.0 ≡ ids = cc in
-    ap (λ (o : folder.Outcome). o.state) is.3 ∙ ap (with_collection s) same
-
-evicted_state : (care : Care) (m new : Machine) (reclaim : ℕ) (ids : List ℕ) (bytes : ℕ) → Step care m (item.Command (command.Collect reclaim)) (answer.Evicted ids bytes) new → new.state ≡ with_collection m.state ids
-evicted_state care m new reclaim ids bytes (inl (inl performs)) = collected (nat_le most_ticks m.state.tick) (session.held_by m.jobs) m.state new.state reclaim ids bytes performs.of_folder
-evicted_state care m new reclaim ids bytes (inl (inr event)) = not_evicted ids bytes event.0 event.2
-evicted_state care m new reclaim ids bytes (inr is) = not_evicted ids bytes refusal.Memory (ap (λ (o : Outcome). o.answer) is)
-
-pub evicts_free : (care : Care) (m new : Machine) (i : Item) (a : Answer) → IsTable (table m.state) → Step care m i a new → (file : ℕ) → Evicts m.state i a file → IsFree (table new.state) file
-evicts_free care m new (item.Command (command.Collect reclaim)) (answer.Evicted ids bytes) is step file evicts =
-    subst (λ (s : State). IsFree (table s) file) (sym (evicted_state care m new reclaim ids bytes step))
-    (subst (IsFree (table (with_collection m.state ids))) evicts.3 (went m.state ids evicts.0 is evicts.1 evicts.2))
-evicts_free care m new i a is step file evicts = absurd evicts
-
--- reading a collection wanted memory: nothing went
-refused_evicts : (s : State) (i : Item) (a : Answer) (file : ℕ) (why : Refusal) → a ≡ answer.Refused why → Evicts s i a file → ⊥
-refused_evicts s i a file why is evicts = none i (subst (λ (x : Answer). Evicts s i x file) is evicts)
-  where
-    none : (i : Item) → Evicts s i (answer.Refused why) file → ⊥
-    none (item.Command (command.Collect reclaim)) evicts = evicts
-    none _ evicts = evicts
-
--- what a step on what the bytes spell evicts, one on what the reader gave does
-pub evicts_given : (care : Care) (m new : Machine) (spelled given : Item) (a : Answer) (file : ℕ) → Gives spelled given → Step care m given a new → Evicts m.state spelled a file → Evicts m.state given a file
-evicts_given care m new spelled given a file (inl same) step evicts = subst (λ (i : Item). Evicts m.state i a file) (sym same) evicts
-evicts_given care m new spelled given a file (inr none) step evicts = absurd (refused_evicts m.state spelled a file refusal.Memory (told (subst (λ (i : Item). Step care m i a new) none step)) evicts)
-  where
-    told : Step care m (item.Refused refusal.Memory) a new → a ≡ answer.Refused refusal.Memory
-    told (inl is) = ap (λ (o : Outcome). o.answer) is
-    told (inr is) = ap (λ (o : Outcome). o.answer) is
 
 -- ---- which files a command leaves
 
@@ -209,6 +166,10 @@ module _ (folder : Folder) (s : State) (valid : IsValid s) (same : table_in fold
   not_changed (command.Stream name columns) may = not_the_log may
   not_changed (command.Append name lines) (inl log) = not_the_log log
   not_changed (command.Append name lines) (inr next) = omega (arith, free_here.given.1, next)
+  not_changed (command.Run name tree) (inl written) = not_written written
+  not_changed (command.Run name tree) (inr of_result) = free_here.no_result of_result.0 of_result.1 of_result.2
+  not_changed (command.Fetch name as_run) (inl written) = not_written written
+  not_changed (command.Fetch name as_run) (inr of_result) = free_here.no_result of_result.0 of_result.1 of_result.2
   not_changed (command.Collect reclaim) (inl log) = not_the_log log
   not_changed (command.Collect reclaim) (inr of_result) = free_here.no_result of_result.0 of_result.1 of_result.2
   not_changed command.Entries may = may
@@ -228,14 +189,19 @@ is_table care v session m stands =
     let means = stands.base.means in
     subst IsTable means.table_is (stands-table v (table_in (folder_of session)) (journal_of (folder_of session)) means.stands)
 
--- what is told of a collection is so of its files
-pub gone_told : (care : Care) (u v : View) (session : Session) (m : Machine) (c : Command) (a : Answer) (before now : Counts) → standing.Stands care u session m → of_folder.LeavesNoFile (table_in (folder_of session)) c a v before now → AreGone (Evicts m.state (item.Command c) a) v before now
-gone_told care u v session m (command.Collect reclaim) (answer.Evicted ids bytes) before now stands gone = elim gone [
+-- what went in a command is gone
+pub gone_told : (care : Care) (u v : View) (session session' : Session) (m new : Machine) (before now : Counts) → standing.Stands care u session m → standing.Stands care v session' new → of_folder.AreGoneSince (table_in (folder_of session)) (table_in (folder_of session')) v before now
+    → AreGone (Went m.state new.state) v before now
+gone_told care u v session session' m new before now stands stands' gone = elim gone [
   | inl rose ↦ inl rose
-  | inr none ↦ inr (λ file evicts.
-      subst (λ n. v.there n ≡ false) evicts.3 (none evicts.0 (subst (λ (t : Table). Contains t.entries evicts.0) (sym stands.base.means.table_is) evicts.1) evicts.2))
+  | inr none ↦ inr (λ file went.
+      subst (λ n. v.there n ≡ false) went.3
+      (none went.0 (subst (λ (t : Table). Contains t.entries went.0) (sym stands.base.means.table_is) went.1) (ap (λ (t : Table). is_there t.entries went.0.id) stands'.base.means.table_is ∙ went.2)))
 ]
-gone_told care u v session m c a before now stands gone = inr (λ file evicts. absurd evicts)
+
+-- nothing went
+pub none_went : (s : State) (v : View) (before now : Counts) → AreGone (Went s s) v before now
+none_went s v before now = inr (λ file went. absurd (none_there s s refl file went))
 
 -- ---- along a run
 

@@ -3,9 +3,9 @@ use Rattle.std.proofs.Common.{◌≡◌, ◌⊎◌, ◌∙◌, ℕ, List, Result
 use Rattle.std.specs.Prelude.{IsErrOf}
 use Rattle.session.specs.declared.session.Session.{Session}
 use Rattle.outside_traits.specs.Calls.{Idles}
-use Rattle.outside_traits.specs.Runs.{Narrows, Spans}
+use Rattle.outside_traits.specs.Runs.{Spans}
 use Rattle.outside_traits.specs.View.{View}
-use Rattle.outside_traits.proofs.RunLemmas.{idles_narrow, narrows_on, spans_on, spans_narrowed}
+use Rattle.outside_traits.proofs.RunLemmas.{idles_narrow, spans_on, spans_narrowed}
 use Rattle.folder.specs.InUse.{IsLoadedAsItIs}
 use Rattle.folder.specs.Left.{IsLeft, IsSoundForOneOf, Everything, Since}
 use Rattle.folder.specs.Replay.{StopsReading}

@@ -23,12 +23,12 @@ use Rattle.folder.specs.Folders.{table_in}
 use Rattle.folder.specs.Left.{Since}
 use Rattle.folder.specs.Removing.{IsFree}
 use Rattle.folder.specs.State.{table}
-use Rattle.folder_session.specs.Standing.{ChangesAtMost, LeavesNoFile}
+use Rattle.folder_session.specs.Standing.{AreGoneSince, ChangesAtMost}
 use Rattle.session.specs.Machine.{Machine, without_jobs}
 use Rattle.session.specs.Standing as standing
 use Rattle.session.specs.declared.session.Session.{Session}
 use Rattle.nectar_top.specs.Crash.{Found, Reaches}
-use Rattle.nectar_top.specs.Eviction.{Evicts, EvictsIn, AreGone}
+use Rattle.nectar_top.specs.Eviction.{Went, WentIn, AreGone}
 use Rattle.nectar_top.specs.Machine.{Refuses, Step, Run, texts_of}
 use Rattle.nectar_top.specs.Outside.{Outside, shown}
 use Rattle.nectar_top.specs.Refusals.{IsSparingItem, fault_in, faults_in, RoseBy}
@@ -38,9 +38,9 @@ use Rattle.nectar_top.specs.Summary.{of_answer, summary_of, together}
 use Rattle.nectar_top.specs.declared.summary.Summary.{Summary}
 use Rattle.nectar_top.proofs.SummaryLemmas.{summary_of-push}
 use Rattle.nectar_top.proofs.CrashLemmas.{reaches_loaded, reaches_on, since_none}
-use Rattle.nectar_top.proofs.EvictionLemmas.{changes_leave, evicts_free, evicts_given, gone_on, gone_still, gone_told, gone_weaker, is_table, step_free}
+use Rattle.nectar_top.proofs.EvictionLemmas.{changes_leave, gone_on, gone_still, gone_told, gone_weaker, is_table, none_went, step_free}
 use Rattle.nectar_top.proofs.FaultLemmas.{rose_by_none, rose_by_since, faults-push, sparing_given, sparing_front, sparing_last}
-use Rattle.nectar_top.proofs.RunLemmas.{Run-push, evicts_push}
+use Rattle.nectar_top.proofs.RunLemmas.{Run-push, went_push}
 
 -- a step on what the reader gave is one on what the bytes spell
 pub Step-spelled : (care : Care) (old new : Machine) (spelled given : Item) (a : Answer) → Given spelled given → Step care old given a new → Step care old spelled a new
@@ -61,7 +61,7 @@ texts_of-push quiet answers a = ap (λ t. texts_of quiet answers ++ t) (sym (app
 
 -- a step of the session is one of the machine
 pub performs_item : (care : Care) (u v : View) (session : Session) (old : Machine) (i : Item) (command : Command) (before now : Counts) (result : Result (Session × Answer) Failed) → i ≡ item.Command command → standing.Stands care u session old
-    → ChangesAtMost (standing.folder_of session) command u v → before.removes ≤ now.removes → IfOk result (λ next. LeavesNoFile (table_in (standing.folder_of session)) command next.1 v before now)
+    → ChangesAtMost (standing.folder_of session) command u v → before.removes ≤ now.removes → IfOk result (λ next. AreGoneSince (table_in (standing.folder_of session)) (table_in (standing.folder_of next.0)) v before now)
     → IfOk result (λ next. standing.Performs care u v next.0 old command next.1) → IfOk result (λ next. Performs care u v old i next.0 next.1 before now)
 performs_item care u v session old i command before now (Ok next) is stands changes removes gone p = record {
   new = p.new;
@@ -70,7 +70,7 @@ performs_item care u v session old i command before now (Ok next) is stands chan
   since = p.since;
   leaves = changes_leave care u v session old command stands changes;
   removes = removes;
-  gone = subst (λ j. AreGone (Evicts old.state j next.1) v before now) (sym is) (gone_told care u v session old command next.1 before now stands gone);
+  gone = gone_told care u v session next.0 old p.new before now stands p.stands gone;
 }
 performs_item care u v session old i command before now (Err failed) is stands changes removes gone p = tt
 
@@ -84,7 +84,7 @@ refused_item care v old i why session now is stands = record {
   since = since_none care v old.state stands.base.left;
   leaves = λ file free. refl;
   removes = omega arith;
-  gone = inr (λ file evicts. absurd (subst (λ j. Evicts old.state j (answer.Refused why) file) is evicts));
+  gone = none_went old.state v now now;
 }
 
 pub breaks_item : (care : Care) (u v : View) (session : Session) (old : Machine) (i : Item) (command : Command) (before now : Counts) (result : Result (Session × Answer) Failed) → i ≡ item.Command command → standing.Stands care u session old
@@ -125,9 +125,9 @@ Progress-new found u v reader session summary quiet left written old new reads c
   wrote = Appends-nil written;
   counted = counted;
   faults = rose_by_none old.reads new.reads same;
-  free = λ file evicts. absurd evicts;
+  free = λ file went. absurd went;
   removes = removes;
-  gone = inr (λ file evicts. absurd evicts);
+  gone = inr (λ file went. absurd went);
 }
 
 module _ (found : Found) (u v : View) (reader : Lines) (session : Session) (summary : Summary) (taken : List ℕ) (begun now : Outside) (at : Progress found u v reader session summary taken begun now) where
@@ -181,29 +181,29 @@ module _ (found : Found) (u v : View) (reader : Lines) (session : Session) (summ
     faults_next now' answer sparing rose = faults-push at.answers answer begun.counts.reads now.counts.reads now'.counts.reads at.faults (rose (sparing_given spelled given is_given sparing))
 
     -- what went so far, and with this command
-    abbrev Went : (new : Machine) (answer : Answer) → Step found.care at.machine given answer new → ℕ → Type 0
-    Went new answer step = EvictsIn found.care (without_jobs found.first) (at.commands ++ spelled ∷ []) (at.answers ++ answer ∷ []) new (run_next new answer step)
+    abbrev WentSoFar : (new : Machine) (answer : Answer) → Step found.care at.machine given answer new → ℕ → Type 0
+    WentSoFar new answer step = WentIn found.care (without_jobs found.first) (at.commands ++ spelled ∷ []) (at.answers ++ answer ∷ []) new (run_next new answer step)
 
-    went_before : (new : Machine) (answer : Answer) (step : Step found.care at.machine given answer new) (file : ℕ) → Went new answer step file
-        → EvictsIn found.care (without_jobs found.first) at.commands at.answers at.machine at.run file ⊎ Evicts at.machine.state given answer file
+    went_before : (new : Machine) (answer : Answer) (step : Step found.care at.machine given answer new) (file : ℕ) → WentSoFar new answer step file
+        → WentIn found.care (without_jobs found.first) at.commands at.answers at.machine at.run file ⊎ Went at.machine.state new.state file
     unfolding run_next
-    went_before new answer step file went = elim (evicts_push found.care (without_jobs found.first) at.machine new at.commands at.answers spelled answer at.run (Step-spelled found.care at.machine new spelled given answer is_given step) file went) [
+    went_before new answer step file went = elim (went_push found.care (without_jobs found.first) at.machine new at.commands at.answers spelled answer at.run (Step-spelled found.care at.machine new spelled given answer is_given step) file went) [
       | inl before ↦ inl before
-      | inr last ↦ inr (evicts_given found.care at.machine new spelled given answer file is_given step last)
+      | inr last ↦ inr last
     ]
 
-    free_next : (new : Machine) (answer : Answer) (step : Step found.care at.machine given answer new) (file : ℕ) → Went new answer step file → IsFree (table new.state) file
+    free_next : (new : Machine) (answer : Answer) (step : Step found.care at.machine given answer new) (file : ℕ) → WentSoFar new answer step file → IsFree (table new.state) file
     free_next new answer step file went = elim (went_before new answer step file went) [
-      | inl before ↦ step_free found.care at.machine new given answer step file (at.free file before)
-      | inr last ↦ evicts_free found.care at.machine new given answer (is_table found.care v session at.machine at.stands) step file last
+      | inl before ↦ (step_free found.care at.machine new given answer step).keeps file (at.free file before)
+      | inr last ↦ (step_free found.care at.machine new given answer step).loses (is_table found.care v session at.machine at.stands) file last
     ]
 
     gone_next : (w : View) (now' : Outside) (new : Machine) (answer : Answer) (step : Step found.care at.machine given answer new) → LeavesFree at.machine.state v w → now.counts.removes ≤ now'.counts.removes
-        → AreGone (Evicts at.machine.state given answer) w now.counts now'.counts → AreGone (Went new answer step) w begun.counts now'.counts
+        → AreGone (Went at.machine.state new.state) w now.counts now'.counts → AreGone (WentSoFar new answer step) w begun.counts now'.counts
     gone_next w now' new answer step leaves removes gone =
-        let so_far : ℕ → Type 0 = EvictsIn found.care (without_jobs found.first) at.commands at.answers at.machine at.run in
-        gone_weaker (Went new answer step) (λ file. so_far file ⊎ Evicts at.machine.state given answer file) w begun.counts now'.counts (went_before new answer step)
-        (gone_on so_far (Evicts at.machine.state given answer) at.machine.state v w begun.counts now.counts now'.counts at.free leaves at.removes removes at.gone gone)
+        let so_far : ℕ → Type 0 = WentIn found.care (without_jobs found.first) at.commands at.answers at.machine at.run in
+        gone_weaker (WentSoFar new answer step) (λ file. so_far file ⊎ Went at.machine.state new.state file) w begun.counts now'.counts (went_before new answer step)
+        (gone_on so_far (Went at.machine.state new.state) at.machine.state v w begun.counts now.counts now'.counts at.free leaves at.removes removes at.gone gone)
 
   module _ (piece : List ℕ) (given : Item) (ended : Completes (at.part ++ piece) given) where
     items-ended : (more : List ℕ) → items ((taken ++ piece) ++ more) ≡ (at.commands ++ ended.spelled ∷ []) ++ items more
@@ -271,7 +271,7 @@ module _ (found : Found) (u v : View) (reader : Lines) (session : Session) (summ
       run = at.run;
       wrote = subst (λ o. Appends begun.written o (texts_of begun.quiet at.answers)) (sym broke.wrote) at.wrote;
       faults = rose_by_since (faults_in at.answers) begun.counts.reads now.counts.reads now'.counts.reads at.faults broke.counts;
-      gone = gone_still (EvictsIn found.care (without_jobs found.first) at.commands at.answers at.machine at.run) at.machine.state v w begun.counts now.counts now'.counts at.free broke.breaks.leaves broke.breaks.removes at.gone;
+      gone = gone_still (WentIn found.care (without_jobs found.first) at.commands at.answers at.machine at.run) at.machine.state v w begun.counts now.counts now'.counts at.free broke.breaks.leaves broke.breaks.removes at.gone;
       answer = broke.breaks.answer;
       new = broke.breaks.new;
       step = Step-spelled found.care at.machine broke.breaks.new ended.spelled given broke.breaks.answer ended.is_given broke.breaks.step;
@@ -353,7 +353,7 @@ module _ (found : Found) (u v : View) (reader : Lines) (session : Session) (summ
           run = at.run;
           wrote = subst (λ o. Appends begun.written o (texts_of begun.quiet at.answers)) (sym broke.wrote) at.wrote;
           faults = rose_by_since (faults_in at.answers) begun.counts.reads now.counts.reads now'.counts.reads at.faults broke.counts;
-          gone = gone_still (EvictsIn found.care (without_jobs found.first) at.commands at.answers at.machine at.run) at.machine.state v w begun.counts now.counts now'.counts at.free broke.breaks.leaves broke.breaks.removes at.gone;
+          gone = gone_still (WentIn found.care (without_jobs found.first) at.commands at.answers at.machine at.run) at.machine.state v w begun.counts now.counts now'.counts at.free broke.breaks.leaves broke.breaks.removes at.gone;
           answer = broke.breaks.answer;
           new = broke.breaks.new;
           step = Step-spelled found.care at.machine broke.breaks.new one.0 given broke.breaks.answer one.1 broke.breaks.step;

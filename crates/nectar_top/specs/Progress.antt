@@ -16,7 +16,7 @@ use Rattle.session.specs.Machine.{Machine, without_jobs}
 use Rattle.session.specs.Standing as standing
 use Rattle.session.specs.declared.session.Session.{Session}
 use Rattle.nectar_top.specs.Crash.{Found, Reaches}
-use Rattle.nectar_top.specs.Eviction.{Evicts, EvictsIn, AreGone}
+use Rattle.nectar_top.specs.Eviction.{Went, WentIn, AreGone}
 use Rattle.nectar_top.specs.Machine.{Step, Run, texts_of}
 use Rattle.nectar_top.specs.Outside.{Outside}
 use Rattle.nectar_top.specs.Refusals.{IsSparingItem, fault_in, faults_in, RoseBy}
@@ -46,9 +46,9 @@ pub record Progress (found : Found) (u v : View) (reader : Lines) (session : Ses
   pub wrote : Appends begun.written now.written (texts_of begun.quiet answers)
   pub counted : summary ≡ summary_of answers
   pub faults : RoseBy (faults_in answers) begun.counts.reads now.counts.reads
-  pub free : (file : ℕ) → EvictsIn found.care (without_jobs found.first) commands answers machine run file → IsFree (table machine.state) file
+  pub free : (file : ℕ) → WentIn found.care (without_jobs found.first) commands answers machine run file → IsFree (table machine.state) file
   pub removes : begun.counts.removes ≤ now.counts.removes
-  pub gone : AreGone (EvictsIn found.care (without_jobs found.first) commands answers machine run) v begun.counts now.counts
+  pub gone : AreGone (WentIn found.care (without_jobs found.first) commands answers machine run) v begun.counts now.counts
 
 -- which files are there of those that the state names no more isn't changed
 abbrev pub LeavesFree : State → View → View → Type 0
@@ -62,7 +62,7 @@ pub record Performs (care : Care) (u v : View) (old : Machine) (command : Item) 
   pub since : Since care old.state new.state u v
   pub leaves : LeavesFree old.state u v
   pub removes : before.removes ≤ now.removes
-  pub gone : AreGone (Evicts old.state command answer) v before now
+  pub gone : AreGone (Went old.state new.state) v before now
 
 -- the store failed in a command
 pub record Breaks (care : Care) (u v : View) (old : Machine) (command : Item) (before now : Counts) : Type 0 where

@@ -14,7 +14,7 @@ use Rattle.folder.specs.State.{State}
 use Rattle.folder.specs.Left.{Follows, IsLeft, Since}
 use Rattle.session.specs.Machine.{Machine, without_jobs}
 use Rattle.nectar_top.specs.Crash.{Found, Reaches, intact}
-use Rattle.nectar_top.specs.Eviction.{EvictsIn, AreGone}
+use Rattle.nectar_top.specs.Eviction.{WentIn, AreGone}
 use Rattle.nectar_top.specs.Machine.{Step, Run, texts_of}
 use Rattle.nectar_top.specs.Outside.{Outside}
 use Rattle.nectar_top.specs.Refusals.{IsSparing, faults_in, RoseBy}
@@ -37,7 +37,7 @@ pub record Answered (found : Found) (u v : View) (commands : List Item) (begun n
   pub run : Run found.care (without_jobs found.first) commands answers machine
   pub wrote : Appends begun.written now.written (texts_of begun.quiet answers)
   pub faults : RoseBy (faults_in answers) begun.counts.reads now.counts.reads
-  pub gone : AreGone (EvictsIn found.care (without_jobs found.first) commands answers machine run) v begun.counts now.counts
+  pub gone : AreGone (WentIn found.care (without_jobs found.first) commands answers machine run) v begun.counts now.counts
   pub left : IsLeft found.care v machine.state machine.state
   pub since : Reaches found commands answers u v
 
@@ -85,7 +85,7 @@ pub record AnsweredInPart (found : Found) (u v : View) (commands : List Item) (b
   pub lacks : 0 < length rest
   pub wrote : Appends begun.written now.written (texts_of begun.quiet answers ++ part)
   pub faults : RoseBy (faults_in (answers ++ last ∷ [])) begun.counts.reads now.counts.reads
-  pub gone : AreGone (EvictsIn found.care (without_jobs found.first) performed (answers ++ last ∷ []) machine run) v begun.counts now.counts
+  pub gone : AreGone (WentIn found.care (without_jobs found.first) performed (answers ++ last ∷ []) machine run) v begun.counts now.counts
   pub left : IsLeft found.care v machine.state machine.state
   pub since : Reaches found performed (answers ++ last ∷ []) u v
 
@@ -102,7 +102,7 @@ pub record BrokenOff (found : Found) (u v : View) (commands : List Item) (begun 
   pub run : Run found.care (without_jobs found.first) performed answers machine
   pub wrote : Appends begun.written now.written (texts_of begun.quiet answers)
   pub faults : RoseBy (faults_in answers) begun.counts.reads now.counts.reads
-  pub gone : AreGone (EvictsIn found.care (without_jobs found.first) performed answers machine run) v begun.counts now.counts
+  pub gone : AreGone (WentIn found.care (without_jobs found.first) performed answers machine run) v begun.counts now.counts
   pub answer : Answer
   pub new : Machine
   pub step : Step found.care machine broken answer new
