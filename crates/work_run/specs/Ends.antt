@@ -20,7 +20,6 @@ use Rattle.folder.specs.Next.{IsNewResultOf, with_work}
 use Rattle.folder.specs.Sound.{Care}
 use Rattle.folder.specs.State.{Stream, State, table}
 use Rattle.folder.specs.Damage.{ShowsDamage}
-use Rattle.plan_choice.specs.Taken.{IsTaken}
 use Rattle.rewrite_core.specs.PlainRewriting.{PlainRewriting}
 use Rattle.work_run.specs.Working.{Given, given, WorksBy, Overflows, IsDear}
 use Rattle.work_run.specs.declared.work.Work.{Work}
@@ -54,13 +53,6 @@ pub record ComesBy (s : State) (program : Option Program) (plan normal : PlainPl
   pub works : WorksBy s program plan normal cuts rewriting (given_of work) (with_work s program work.used.items [] news)
   pub change : work.plan.change ≡ change.Work program work.used.items [] news
   pub files : AreNewFiles s.streams news work.plan.files.items
-
--- so by a least rewriting
-pub record Comes (s : State) (program : Option Program) (plan : PlainPlan) (cuts : Cuts) (work : Work) : Type 0 where
-  pub normal : PlainPlan
-  pub rewriting : PlainRewriting
-  pub taken : IsTaken (table s) plan normal cuts rewriting
-  pub by : ComesBy s program plan normal cuts rewriting work
 
 -- Why it doesn't come to an end over files of a state: by what the plan means, for want of memory, or since the files aren't
 -- read. None of them has unreadable bytes.

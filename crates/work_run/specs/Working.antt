@@ -19,7 +19,6 @@ use Rattle.admission.specs.Admitting.{MadeResult, Admits, entries_of}
 use Rattle.admission.specs.declared.new_result.NewResult.{NewResult}
 use Rattle.folder.specs.Next.{with_work}
 use Rattle.folder.specs.State.{Stream, State, IsResultIn, kinds_in, lists_in, table}
-use Rattle.plan_choice.specs.Taken.{IsTaken}
 use Rattle.work_plan.specs.Planning.{ids_from}
 
 -- the greatest machine time that is counted
@@ -66,13 +65,6 @@ pub record WorksBy (s : State) (program : Option Program) (plan normal : PlainPl
   pub news : List PlainNewEntry
   pub keeps : Keeps s normal cuts rewriting news is.kept
   pub after : new ≡ with_work s program is.used [] news
-
--- So by a least rewriting.
-pub record Works (s : State) (program : Option Program) (plan : PlainPlan) (cuts : Cuts) (is : Given) (new : State) : Type 0 where
-  pub normal : PlainPlan
-  pub rewriting : PlainRewriting
-  pub taken : IsTaken (table s) plan normal cuts rewriting
-  pub by : WorksBy s program plan normal cuts rewriting is new
 
 -- ---- why there is no answer
 
