@@ -1,0 +1,7 @@
+pub mod OpenJobs
+pub mod Chosen
+pub mod Chains
+pub mod Reading
+pub mod Losses
+pub mod Ending
+pub mod Later

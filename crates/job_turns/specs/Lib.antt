@@ -1,0 +1,4 @@
+pub mod Jobs
+pub mod Steps
+pub mod Turns
+pub mod Ends
