@@ -1,0 +1,171 @@
+//! Logs of which some bytes are others: what the project's loading and the plain reader make of them.
+
+use crate::draw::Draw;
+use crate::runs::folder_of;
+use anyhow::{Context, Result, bail};
+use folder::{Folder, LoadRefusal};
+use mem_outside::MemStore;
+use plain_logs::{Held, Logs, Reading, Why, read_logs};
+use std::alloc::Global;
+
+/// The root, and the file with the log in use.
+#[derive(Drop)]
+struct Recorded {
+    root: Vec<u8>,
+    file: u64,
+    log: Vec<u8>,
+}
+
+impl Recorded {
+    fn of(alloc: Global, file: u64, store: &MemStore) -> Result<Recorded> {
+        Ok(Recorded {
+            root: Vec::from_slice(alloc, store.bytes(0))?,
+            file,
+            log: Vec::from_slice(alloc, store.bytes(file))?,
+        })
+    }
+
+    fn logs(&self) -> Logs<'_> {
+        Logs {
+            root: &self.root,
+            file: self.file,
+            log: &self.log,
+        }
+    }
+
+    // These logs with one to three bytes changed, one in sixteen of them in the root.
+    fn changed(&self, alloc: Global, draw: &mut Draw) -> Result<Recorded> {
+        let mut root = Vec::from_slice(alloc, &self.root)?;
+        let mut log = Vec::from_slice(alloc, &self.log)?;
+        for _ in 0..=draw.below(3) {
+            match draw.below(16) {
+                0 => draw.change(&mut root),
+                _ => draw.change(&mut log),
+            }
+        }
+        Ok(Recorded {
+            root,
+            file: self.file,
+            log,
+        })
+    }
+}
+
+/// How often logs are read in each way.
+#[derive(Default, Drop)]
+struct Tally {
+    loaded: u64,
+    /// With as many commands as the logs that weren't changed.
+    whole: u64,
+    no_log: u64,
+    no_number: u64,
+    no_change: u64,
+    misfit: u64,
+}
+
+impl Tally {
+    fn count(&mut self, reading: Reading, whole: Reading) {
+        let count = match reading {
+            Reading::Loaded(_) => &mut self.loaded,
+            Reading::Stops { why, .. } => match why {
+                Why::NoLog => &mut self.no_log,
+                Why::NoNumber => &mut self.no_number,
+                Why::NoChange => &mut self.no_change,
+                Why::Misfit => &mut self.misfit,
+            },
+        };
+        *count = count.saturating_add(1);
+        if ticks(reading) == ticks(whole) {
+            self.whole = self.whole.saturating_add(1);
+        }
+    }
+}
+
+fn ticks(reading: Reading) -> Option<u64> {
+    match reading {
+        Reading::Loaded(held) => Some(held.tick),
+        Reading::Stops { .. } => None,
+    }
+}
+
+/// How often the logs that runs leave are loaded, and where reading them stops else, where one to three bytes are
+/// changed: `COUNT SEED FILE RUNS`, so many times, drawn from the seed, of the root and this file. In each case the
+/// catalogue holds what the plain reader makes of the logs, or loading stops where that does.
+pub fn changed(alloc: Global, arguments: &str) -> Result<String> {
+    let (count, arguments) = arguments.split_once(' ').context("no seed")?;
+    let (seed, arguments) = arguments.split_once(' ').context("no file")?;
+    let (file, runs) = arguments.split_once(' ').context("no runs")?;
+    let store = folder_of(alloc, runs)?;
+    let recorded = Recorded::of(alloc, file.parse::<u64>()?, &store)?;
+    let whole = same_reading(alloc, &recorded)?;
+    let mut draw = Draw::new(seed.parse::<u64>()?);
+    let mut tally = Tally::default();
+    for number in 0..count.parse::<u64>()? {
+        let changed = recorded.changed(alloc, &mut draw)?;
+        match same_reading(alloc, &changed) {
+            Ok(reading) => tally.count(reading, whole),
+            Err(error) => bail!("logs {number}: {error}"),
+        }
+    }
+    told(alloc, &recorded, &tally)
+}
+
+fn told(alloc: Global, recorded: &Recorded, tally: &Tally) -> Result<String> {
+    let len = recorded.log.len();
+    let Tally {
+        loaded,
+        whole,
+        no_log,
+        no_number,
+        no_change,
+        misfit,
+    } = tally;
+    Ok(format!(in alloc;
+        "{len} bytes: {loaded} loaded, {whole} of them with each command; no log {no_log}, no number {no_number}, no change {no_change}, misfit {misfit}"
+    )?)
+}
+
+// What the logs are read as, by the plain reader and by loading. It is an error that they differ.
+fn same_reading(alloc: Global, recorded: &Recorded) -> Result<Reading> {
+    let plain = read_logs(alloc, &recorded.logs())?;
+    let loaded = loading(alloc, recorded)?;
+    let are_same = match (plain, loaded) {
+        (Reading::Loaded(held), Ok(other)) => held == other,
+        (Reading::Stops { file, at, .. }, Err(place)) => place == (file, at),
+        _ => false,
+    };
+    if !are_same {
+        bail!("loaded as {loaded:?}, read as {plain:?}");
+    }
+    Ok(plain)
+}
+
+// What the catalogue of a loaded folder holds, or the file and the byte where loading stops.
+fn loading(alloc: Global, recorded: &Recorded) -> Result<Result<Held, (u64, u64)>> {
+    let mut store = MemStore::new(alloc, Vec::new(alloc));
+    store.put(0, &recorded.root)?;
+    store.put(recorded.file, &recorded.log)?;
+    match Folder::load(alloc, &mut store) {
+        Ok(folder) => Ok(Ok(held_by(&folder))),
+        Err(LoadRefusal::NotAStore { file, at }) => Ok(Err((file, at))),
+        Err(refusal) => Err(refusal.into()),
+    }
+}
+
+fn held_by(folder: &Folder) -> Held {
+    let catalog = folder.catalog();
+    let mut uses = 0u64;
+    for entry in catalog.entries() {
+        uses = uses.saturating_add(u64::from(entry.uses));
+    }
+    Held {
+        tick: u64::from(catalog.tick()),
+        next_file: catalog.next_file(),
+        next_id: catalog.next_id(),
+        streams: catalog.streams().len() as u64,
+        extents: catalog.extent_count() as u64,
+        programs: catalog.programs().len() as u64,
+        results: catalog.entries().len() as u64,
+        uses,
+    }
+}

@@ -1,0 +1,35 @@
+//! Numbers that are drawn from a seed.
+
+/// A linear congruential generator on 64 bits, of which the high half is taken.
+#[derive(Drop)]
+pub struct Draw {
+    state: u64,
+}
+
+impl Draw {
+    pub fn new(seed: u64) -> Draw {
+        Draw { state: seed }
+    }
+
+    /// The next number, below a bound that is below 2^32.
+    pub fn below(&mut self, bound: u64) -> u64 {
+        self.state = self
+            .state
+            .wrapping_mul(6_364_136_223_846_793_005)
+            .wrapping_add(1_442_695_040_888_963_407);
+        (self.state >> 32).wrapping_mul(bound) >> 32
+    }
+
+    /// Makes one of the bytes one more, one less, or any other.
+    pub fn change(&mut self, bytes: &mut [u8]) {
+        let place = self.below(bytes.len() as u64) as usize;
+        let by = match self.below(4) {
+            0 => 1,
+            1 => 255,
+            _ => self.below(255).saturating_add(1),
+        };
+        if let Some(byte) = bytes.get_mut(place) {
+            *byte = byte.wrapping_add((by & 0xFF) as u8);
+        }
+    }
+}

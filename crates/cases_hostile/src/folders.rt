@@ -1,0 +1,27 @@
+//! Folders whose files are given.
+
+use crate::runs::outcome;
+use anyhow::{Context, Result};
+use case_text::shown;
+use mem_outside::MemStore;
+use std::alloc::Global;
+
+/// The exit and the answers of a run over these files: each is `NUMBER=BYTES`, with bytes in hex and a space
+/// between two files, and the script stands behind ` : `.
+pub fn folder(alloc: Global, arguments: &str) -> Result<String> {
+    let (files, text) = arguments.split_once(" : ").context("no script")?;
+    let mut store = MemStore::new(alloc, Vec::new(alloc));
+    for file in files.split(' ') {
+        put(alloc, file, &mut store)?;
+    }
+    let (exit, answers) = outcome(alloc, text, &mut store)?;
+    let answers = shown::lines(alloc, &answers)?;
+    Ok(format!(in alloc; "{exit:?}: {answers}")?)
+}
+
+fn put(alloc: Global, file: &str, store: &mut MemStore) -> Result<()> {
+    let (number, digits) = file.split_once('=').context("no bytes of a file")?;
+    let bytes = hex::decode(alloc, digits)?;
+    store.put(number.parse::<u64>()?, &bytes)?;
+    Ok(())
+}

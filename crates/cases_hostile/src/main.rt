@@ -1,0 +1,40 @@
+//! Cases of hostile folders: a case a line on standard input, and on standard output a line for each, what it
+//! gives. A case is the word of its subject and then its arguments, of which each script is read by `case_text`. A
+//! line that is empty or begins with `#` is no case.
+#![tactic(auto)]
+
+mod changed;
+mod damaged;
+mod draw;
+mod folders;
+mod runs;
+
+use anyhow::{Context, Result};
+use std::alloc::Global;
+use std::io;
+
+fn main(rt: HostRuntime) -> io::Result<()> {
+    let alloc = rt.alloc();
+    for line in rt.lines(alloc) {
+        let line = line?;
+        if line.is_empty() || line.starts_with('#') {
+            continue;
+        }
+        match answer(alloc, line.as_str()) {
+            Ok(answer) => println!(rt; "{answer}")?,
+            Err(refusal) => println!(rt; "{refusal}")?,
+        }
+    }
+    Ok(())
+}
+
+/// What a case gives; a refusal is the error that its type prints.
+fn answer(alloc: Global, case: &str) -> Result<String> {
+    let (subject, arguments) = case.split_once(' ').unwrap_or((case, ""));
+    match subject {
+        "folder" => folders::folder(alloc, arguments),
+        "changed" => changed::changed(alloc, arguments),
+        "damaged-results" => damaged::damaged_results(alloc, arguments),
+        _ => None.context("no such subject"),
+    }
+}

@@ -1,0 +1,5 @@
+-- Fewer levels at each call.
+use Rattle.plain_logs.proofs.plans.+plan.Given as goal
+
+abbrev pub decreases-plan : goal.decreases-plan
+decreases-plan l = l.levels
