@@ -2,6 +2,7 @@
 
 use crate::runs::{answers, folder_of};
 use anyhow::{Context, Result, bail};
+use case_text::shown;
 use folder::Folder;
 use mem_outside::MemStore;
 use outside_traits::Store;
@@ -38,6 +39,27 @@ pub fn damaged_results(alloc: Global, arguments: &str) -> Result<String> {
     Ok(format!(in alloc;
         "{count} results, each changed, short and removed: the same rows, {others} times other lines"
     )?)
+}
+
+/// The answers of a script over the folder that runs leave, of which one file is damaged: the kind of damage and
+/// the file's number stand first, and the script behind ` : `.
+pub fn damaged_file(alloc: Global, arguments: &str) -> Result<String> {
+    let (kind, rest) = arguments.split_once(' ').context("no damage")?;
+    let (file, rest) = rest.split_once(' ').context("no file")?;
+    let (runs, text) = rest.split_once(" : ").context("no script")?;
+    let folder = folder_of(alloc, runs)?;
+    let mut store = damaged(alloc, &folder, file.parse::<u64>()?, damage_of(kind)?)?;
+    let given = answers(alloc, text, &mut store)?;
+    Ok(shown::lines(alloc, &given)?)
+}
+
+fn damage_of(kind: &str) -> Result<Damage> {
+    match kind {
+        "changed" => Ok(Damage::Changed),
+        "short" => Ok(Damage::Short),
+        "removed" => Ok(Damage::Removed),
+        _ => None.context("no such damage"),
+    }
 }
 
 fn result_files(alloc: Global, store: &mut MemStore) -> Result<Vec<u64>> {

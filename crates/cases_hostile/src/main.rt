@@ -34,6 +34,7 @@ fn answer(alloc: Global, case: &str) -> Result<String> {
     match subject {
         "folder" => folders::folder(alloc, arguments),
         "changed" => changed::changed(alloc, arguments),
+        "damaged-file" => damaged::damaged_file(alloc, arguments),
         "damaged-results" => damaged::damaged_results(alloc, arguments),
         _ => None.context("no such subject"),
     }
