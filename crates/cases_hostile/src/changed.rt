@@ -1,11 +1,12 @@
 //! Logs of which some bytes are others: what the project's loading and the plain reader make of them.
 
 use crate::draw::Draw;
+use crate::logs::{Logs, Reading, Why, read_logs};
 use crate::runs::folder_of;
+use crate::table::Held;
 use anyhow::{Context, Result, bail};
 use folder::{Folder, LoadRefusal};
 use mem_outside::MemStore;
-use plain_logs::{Held, Logs, Reading, Why, read_logs};
 use std::alloc::Global;
 
 /// The root, and the file with the log in use.

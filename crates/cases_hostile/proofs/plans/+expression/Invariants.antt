@@ -1,6 +1,6 @@
 -- Fewer levels at each call.
 use Rattle.std.proofs.Common.{◌<◌}
-use Rattle.plain_logs.proofs.plans.+expression.Given as goal
+use Rattle.cases_hostile.proofs.plans.+expression.Given as goal
 
 abbrev pub decreases-expression : goal.decreases-expression
 decreases-expression l = l.levels
