@@ -1,5 +1,5 @@
 -- The cheapest of the three forms is a least rewriting's, and a least tree of the chosen form is a least one.
-use Rattle.std.proofs.Common.{◌≡◌, ℕ, ◌≤◌, ◌⊎◌, inl, inr, Option, None, Some, arith, ap, sym, subst, ◌∙◌}
+use Rattle.std.proofs.Common.{◌≡◌, ◌≢◌, refl, ℕ, ◌<◌, ◌≤◌, ◌⊎◌, inl, inr, Option, None, Some, IfSome, arith, ap, sym, subst, ◌∙◌}
 use Rattle.plan_core.specs.PlainPlan.{PlainPlan}
 use Rattle.estimator.specs.Bytes.{Lengths}
 use Rattle.estimator.specs.Cuts.{Cuts}
@@ -18,6 +18,37 @@ use Rattle.rewriter.specs.Choosing.{IsCheaper}
 use Rattle.rewriter.specs.Forms.{way_in, IsComputed, IsRead, IsGrown, IsLeastOf, HasNone}
 use Rattle.rewriter.specs.Search.{Least, LeastOf, LeastWeighed, ComputedWeighed, LeastIfAny, ways_of, IsChoice}
 use Rattle.rewriter.proofs.LeastParts.{forms}
+
+-- of equal estimates the choice that was there stays
+taken : (choice r : Choice) (f : Form) (o : Option Priced) → IsCheaper choice f o r → (r ≡ choice) ⊎ ((r.form ≡ f) × (r.estimate < choice.estimate))
+taken choice r f None e = inl e
+taken choice r f (Some p) (inl e) = inl e.0
+taken choice r f (Some p) (inr e) = let t = ap (λ x. x.estimate) e.0 in let k = e.1 in inr (ap (λ x. x.form) e.0, omega arith)
+
+-- and where that is weighed, the result's estimate is no greater
+none_over : (choice r : Choice) (f : Form) (o : Option Priced) → IsCheaper choice f o r → IfSome o (λ p. r.estimate ≤ p.estimate)
+none_over choice r f None e = tt
+none_over choice r f (Some p) (inl e) = let t = ap (λ x. x.estimate) e.0 in let k = e.1 in omega arith
+none_over choice r f (Some p) (inr e) = let t = ap (λ x. x.estimate) e.0 in omega arith
+
+module _ (first second third : Choice) (read grown : Option Priced) (is_second : IsCheaper first form.Read read second) (is_third : IsCheaper second form.Grown grown third) where
+  pub under_first : first.form ≡ form.Computed → third.form ≢ form.Computed → third.estimate < first.estimate
+  under_first is other = go (taken first second form.Read read is_second) (taken second third form.Grown grown is_third)
+    where
+      go : (second ≡ first) ⊎ ((second.form ≡ form.Read) × (second.estimate < first.estimate)) → (third ≡ second) ⊎ ((third.form ≡ form.Grown) × (third.estimate < second.estimate)) → third.estimate < first.estimate
+      go (inl a) (inl b) = absurd (other (ap (λ x. x.form) (b ∙ a) ∙ is))
+      go (inl a) (inr b) = let t = ap (λ x. x.estimate) a in let k = b.1 in omega arith
+      go (inr a) (inl b) = let t = ap (λ x. x.estimate) b in let k = a.1 in omega arith
+      go (inr a) (inr b) = let j = a.1 in let k = b.1 in omega arith
+
+  pub under_read : first.form ≡ form.Computed → third.form ≡ form.Grown → IfSome read (λ p. third.estimate < p.estimate)
+  under_read is grows = go read (none_over first second form.Read read is_second) (taken first second form.Read read is_second) (taken second third form.Grown grown is_third)
+    where
+      go : (o : Option Priced) → IfSome o (λ p. second.estimate ≤ p.estimate) → (second ≡ first) ⊎ ((second.form ≡ form.Read) × (second.estimate < first.estimate)) → (third ≡ second) ⊎ ((third.form ≡ form.Grown) × (third.estimate < second.estimate)) → IfSome o (λ p. third.estimate < p.estimate)
+      go None l a b = tt
+      go (Some p) l (inl a) (inl b) = let wrong = sym (ap (λ x. x.form) (b ∙ a) ∙ is) ∙ grows in absurd (cc)
+      go (Some p) l (inr a) (inl b) = let wrong = sym (ap (λ x. x.form) b ∙ a.0) ∙ grows in absurd (cc)
+      go (Some p) l a (inr b) = let k = b.1 in omega arith
 
 module _ (entries : Entries) (lengths : Lengths) (q : PlainPlan) (c : Cuts) where
   -- a least rewriting of the chosen form has the estimate

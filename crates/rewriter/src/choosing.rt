@@ -1,4 +1,5 @@
 //! The cheapest of the three forms, and what is kept of a price.
+ghost use Rattle.std.specs.Prelude.{◌≡◌, ◌≢◌, ◌<◌, IfSome};
 ghost use Rattle.plan_core.specs.PlainPlan.{PlainPlan};
 ghost use Rattle.estimator.specs.Bytes.{Lengths};
 ghost use Rattle.estimator.specs.Cuts.{Cuts};
@@ -7,6 +8,7 @@ ghost use Rattle.rewriter.specs.Forms.{IsRead, IsGrown};
 ghost use Rattle.rewriter.specs.Search.{ComputedWeighed, LeastWeighed, LeastIfAny, LeastDeltaIfAny};
 ghost use Rattle.rewriter.specs.Search.{IsChoice, IsDeltaPriceIfAny};
 ghost use Rattle.rewriter.specs.Choosing.{IsCheaper};
+ghost use Rattle.rewriter.specs.declared.priced.Form.TheVariants as form;
 ghost use Rattle.rewriter.specs.declared.priced.Want.TheVariants as want;
 
 use crate::priced::{Choice, DeltaPrice, Form, Priced, PricedDelta, Weighed};
@@ -14,11 +16,14 @@ use crate::priced::{Choice, DeltaPrice, Form, Priced, PricedDelta, Weighed};
 /// The form with the smallest estimate; of equal ones to compute is taken before to read, and that before to
 /// grow.
 pub fn cheapest(computed: &Weighed, read: &Option<Priced>, grown: &Option<Priced>) -> Choice
-    ensures { (entries : Entries) (lengths : Lengths) (q : PlainPlan) (c : Cuts)
+    ensures least { (entries : Entries) (lengths : Lengths) (q : PlainPlan) (c : Cuts)
         → ComputedWeighed want.Price entries lengths q c computed.now
         → LeastIfAny want.Price IsRead entries lengths q c read.now
         → LeastIfAny want.Price IsGrown entries lengths q c grown.now
         → IsChoice entries lengths q c result }
+    ensures computed_first { result.form ≢ form.Computed → result.estimate < computed.now.priced.estimate }
+    ensures read_second { result.form ≡ form.Grown
+        → IfSome read.now (λ read. result.estimate < read.estimate) }
 {
     let choice = Choice {
         form: Form::Computed,

@@ -33,7 +33,7 @@ choice_at-returns-clause-found g t c =
 
 pub choose_at-returns-clause-answer : goal.choose_at-returns-clause-answer
 choose_at-returns-clause-answer g t c =
-    c.cheapest.ensures (g.L.Lookup.entries c.args.lookup.now) (g.Z.Sizes.lengths c.args.sizes.now) (plan_of c.args.part.plan.now) c.args.part.cuts.now c.in_ok-computed.ensures.answer c.in_ok-read.ensures c.in_ok-grown.ensures.answer
+    c.cheapest.ensures.least (g.L.Lookup.entries c.args.lookup.now) (g.Z.Sizes.lengths c.args.sizes.now) (plan_of c.args.part.plan.now) c.args.part.cuts.now c.in_ok-computed.ensures.answer c.in_ok-read.ensures c.in_ok-grown.ensures.answer
 
 pub computed_at-least_at-requires : goal.computed_at-least_at-requires
 computed_at-least_at-requires g t c κs within =
