@@ -3,6 +3,7 @@ ghost use Rattle.std.specs.Prelude.{◌≡◌, ◌↔◌, ℕ, ◌+◌, ◌^◌,
 ghost use Rattle.std.specs.Prelude.{◌∷◌, length, take, IsTrue, IfOk, OnOk, OnErr, MatchOption, IfSome};
 ghost use Rattle.std.specs.Prelude.{IsSomeAnd, Some, ◌⊎◌, if◌then◌else◌};
 ghost use Rattle.std.specs.List.{list_all};
+ghost use Rattle.outside_traits.specs.View.{Now, Only};
 ghost use Rattle.outside_traits.specs.Calls.{Passes, Acts, Torn, Shortened, Same, Gone, NextIs};
 ghost use Rattle.mem_outside.specs.Outcomes.{absent, is_sound, numbers_differ, state_in, with_file, written};
 ghost use Rattle.mem_outside.specs.Outcomes.{shortened};
@@ -64,6 +65,7 @@ fn change(history: &mut History, state: FileState, all: bool) -> Result<(), Memo
     ensures history { IsTrue (is_history history.new) }
     ensures current { OnOk result (current_of history.new ≡ with_file all state (current_of history.old)) }
     ensures past { OnOk result (past_of history.new ≡ past_of history.old ++ current_of history.old ∷ []) }
+    ensures moment { OnOk result (length (past_of history.new) ≡ length (past_of history.old) + 1) }
     ensures current_stays { OnErr result (current_of history.new ≡ current_of history.old) }
     ensures past_stays { OnErr result (past_of history.new ≡ past_of history.old) }
 {
@@ -111,7 +113,9 @@ pub(crate) fn write(
         ≡ written at bytes.now done (state_in (current_of history.old) file)) }
     ensures others { OnOk result
         ((g : ℕ) → g ≢ file → state_in (current_of history.new) g ≡ state_in (current_of history.old) g) }
-    ensures stays { OnErr result (current_of history.new ≡ current_of history.old) }
+    ensures moment { OnOk result (length (past_of history.new) ≡ length (past_of history.old) + 1) }
+    ensures stays { OnErr result
+        ((current_of history.new ≡ current_of history.old) × (past_of history.new ≡ past_of history.old)) }
     ensures acts { Acts file (Torn at (length bytes.now))
         (view_of (past_of history.old) (current_of history.old))
         (view_of (past_of history.new) (current_of history.new)) }
@@ -141,7 +145,9 @@ pub(crate) fn cut(
         ≡ shortened len done (state_in (current_of history.old) file)) }
     ensures others { OnOk result
         ((g : ℕ) → g ≢ file → state_in (current_of history.new) g ≡ state_in (current_of history.old) g) }
-    ensures stays { OnErr result (current_of history.new ≡ current_of history.old) }
+    ensures moment { OnOk result (length (past_of history.new) ≡ length (past_of history.old) + 1) }
+    ensures stays { OnErr result
+        ((current_of history.new ≡ current_of history.old) × (past_of history.new ≡ past_of history.old)) }
     ensures acts { Acts file (Shortened len) (view_of (past_of history.old) (current_of history.old))
         (view_of (past_of history.new) (current_of history.new)) }
 {
@@ -164,7 +170,9 @@ pub(crate) fn sync(alloc: Global, history: &mut History, file: u64) -> Result<()
     ensures others { OnOk result
         ((g : ℕ) → g ≢ file
         → state_in (current_of history.new) g ≡ kept false (state_in (current_of history.old) g)) }
-    ensures stays { OnErr result (current_of history.new ≡ current_of history.old) }
+    ensures moment { OnOk result (length (past_of history.new) ≡ length (past_of history.old) + 1) }
+    ensures stays { OnErr result
+        ((current_of history.new ≡ current_of history.old) × (past_of history.new ≡ past_of history.old)) }
     ensures all_gone { OnOk result ((g : ℕ) → (state_in (current_of history.new) g).gone ≡ []) }
     ensures there { (state_in (current_of history.new) file).there
         ≡ (state_in (current_of history.old) file).there }
@@ -189,7 +197,9 @@ pub(crate) fn remove(alloc: Global, history: &mut History, file: u64) -> Result<
         (state_in (current_of history.new) file ≡ removed (state_in (current_of history.old) file)) }
     ensures others { OnOk result
         ((g : ℕ) → g ≢ file → state_in (current_of history.new) g ≡ state_in (current_of history.old) g) }
-    ensures stays { OnErr result (current_of history.new ≡ current_of history.old) }
+    ensures moment { OnOk result (length (past_of history.new) ≡ length (past_of history.old) + 1) }
+    ensures stays { OnErr result
+        ((current_of history.new ≡ current_of history.old) × (past_of history.new ≡ past_of history.old)) }
     ensures acts { Acts file Gone (view_of (past_of history.old) (current_of history.old))
         (view_of (past_of history.new) (current_of history.new)) }
 {
@@ -280,6 +290,9 @@ pub(crate) fn put(
     ensures differ { IsTrue (numbers_differ (current_of history.old))
         → IsTrue (numbers_differ (current_of history.new)) }
     ensures state { OnOk result (state_in (current_of history.new) file ≡ stable_file file bytes.now) }
+    ensures stable { OnOk result
+        (Only bytes.now (Now (view_of (past_of history.new) (current_of history.new)) file)) }
+    ensures moment { OnOk result (length (past_of history.new) ≡ length (past_of history.old) + 1) }
     ensures stays { OnErr result
         ((current_of history.new ≡ current_of history.old) × (past_of history.new ≡ past_of history.old)) }
     ensures others { (g : ℕ) → g ≢ file

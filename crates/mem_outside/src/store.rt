@@ -39,8 +39,9 @@ use std::alloc::Global;
 
 /// A store in memory, which keeps what a crash may have left at each moment. Its calls are numbered from 0; a
 /// call fails where its number is listed, where it is at or above that of `fail_from`, or where it finds no
-/// memory. A changing call costs a look-up and what the file that it changes takes, however many other files
-/// there are.
+/// memory. Each change makes one moment, and so does a write or cut that was to fail, where it finds memory;
+/// nothing else makes one. A changing call costs a look-up and what the file that it changes takes, however
+/// many other files there are.
 #[derive(Drop)]
 pub struct MemStore {
     alloc: Global,
@@ -89,6 +90,8 @@ impl MemStore {
         ensures view { Idles (⟦<MemStore as Store>⟧.view self.old) (⟦<MemStore as Store>⟧.view self.new) }
         ensures counts { ⟦<MemStore as Store>⟧.counts self.new ≡ ⟦<MemStore as Store>⟧.counts self.old }
         ensures shown { ⟦<MemStore as InMemory>⟧.shown self.new ≡ ⟦<MemStore as InMemory>⟧.shown self.old }
+        ensures moment { (⟦<MemStore as Store>⟧.view self.new).moment
+            ≡ (⟦<MemStore as Store>⟧.view self.old).moment }
         ensures refused { ⟦<MemStore as InMemory>⟧.refused self.new
             ≡ ⟦<MemStore as InMemory>⟧.refused self.old }
         ensures schedule { ⟦<MemStore as InMemory>⟧.schedule self.new
@@ -107,6 +110,9 @@ impl MemStore {
             → state_in (⟦<MemStore as InMemory>⟧.shown self.new) g
             ≡ state_in (⟦<MemStore as InMemory>⟧.shown self.old) g }
         ensures time { Passes (⟦<MemStore as Store>⟧.view self.old) (⟦<MemStore as Store>⟧.view self.new) }
+        ensures moment { OnOk result
+            ((⟦<MemStore as Store>⟧.view self.new).moment
+            ≡ (⟦<MemStore as Store>⟧.view self.old).moment + 1) }
         // Nothing changes where it finds no memory.
         ensures memory { OnErr result
             ((⟦<MemStore as InMemory>⟧.shown self.new ≡ ⟦<MemStore as InMemory>⟧.shown self.old)
@@ -231,6 +237,8 @@ impl Store for MemStore {
         ensures no_other { OnErr result (IsTrue (next_fails (⟦<MemStore as InMemory>⟧.schedule self.old))) }
         ensures same { (⟦<MemStore as InMemory>⟧.shown self.new ≡ ⟦<MemStore as InMemory>⟧.shown self.old)
             × (⟦<MemStore as InMemory>⟧.refused self.new ≡ ⟦<MemStore as InMemory>⟧.refused self.old) }
+        ensures moment { (⟦<MemStore as Store>⟧.view self.new).moment
+            ≡ (⟦<MemStore as Store>⟧.view self.old).moment }
         ensures schedule { ⟦<MemStore as InMemory>⟧.schedule self.new
             ≡ called (⟦<MemStore as InMemory>⟧.schedule self.old) }
     {
@@ -259,6 +267,8 @@ impl Store for MemStore {
         ensures no_other { OnErr result (IsTrue (next_fails (⟦<MemStore as InMemory>⟧.schedule self.old))) }
         ensures same { (⟦<MemStore as InMemory>⟧.shown self.new ≡ ⟦<MemStore as InMemory>⟧.shown self.old)
             × (⟦<MemStore as InMemory>⟧.refused self.new ≡ ⟦<MemStore as InMemory>⟧.refused self.old) }
+        ensures moment { (⟦<MemStore as Store>⟧.view self.new).moment
+            ≡ (⟦<MemStore as Store>⟧.view self.old).moment }
         ensures schedule { ⟦<MemStore as InMemory>⟧.schedule self.new
             ≡ called (⟦<MemStore as InMemory>⟧.schedule self.old) }
     {
@@ -291,6 +301,8 @@ impl Store for MemStore {
         ensures no_other { OnErr result (IsTrue (next_fails (⟦<MemStore as InMemory>⟧.schedule self.old))) }
         ensures same { (⟦<MemStore as InMemory>⟧.shown self.new ≡ ⟦<MemStore as InMemory>⟧.shown self.old)
             × (⟦<MemStore as InMemory>⟧.refused self.new ≡ ⟦<MemStore as InMemory>⟧.refused self.old) }
+        ensures moment { (⟦<MemStore as Store>⟧.view self.new).moment
+            ≡ (⟦<MemStore as Store>⟧.view self.old).moment }
         ensures schedule { ⟦<MemStore as InMemory>⟧.schedule self.new
             ≡ called (⟦<MemStore as InMemory>⟧.schedule self.old) }
     {
@@ -324,10 +336,14 @@ impl Store for MemStore {
         ensures shown { OnOk result
             (state_in (⟦<MemStore as InMemory>⟧.shown self.new) file
             ≡ written at bytes.now true (state_in (⟦<MemStore as InMemory>⟧.shown self.old) file)) }
+        ensures moment { OnOk result
+            ((⟦<MemStore as Store>⟧.view self.new).moment
+            ≡ (⟦<MemStore as Store>⟧.view self.old).moment + 1) }
         ensures tried { OnErr result
             (LeavesFailed (next_fails (⟦<MemStore as InMemory>⟧.schedule self.old))
             (written at bytes.now false) file (⟦<MemStore as InMemory>⟧.shown self.old)
-            (⟦<MemStore as InMemory>⟧.shown self.new) (⟦<MemStore as InMemory>⟧.refused self.old)
+            (⟦<MemStore as InMemory>⟧.shown self.new) (⟦<MemStore as Store>⟧.view self.old).moment
+            (⟦<MemStore as Store>⟧.view self.new).moment (⟦<MemStore as InMemory>⟧.refused self.old)
             (⟦<MemStore as InMemory>⟧.refused self.new)) }
         ensures no_refusal { OnOk result
             (⟦<MemStore as InMemory>⟧.refused self.new ≡ ⟦<MemStore as InMemory>⟧.refused self.old) }
@@ -377,9 +393,13 @@ impl Store for MemStore {
         ensures shown { OnOk result
             (state_in (⟦<MemStore as InMemory>⟧.shown self.new) file
             ≡ shortened len true (state_in (⟦<MemStore as InMemory>⟧.shown self.old) file)) }
+        ensures moment { OnOk result
+            ((⟦<MemStore as Store>⟧.view self.new).moment
+            ≡ (⟦<MemStore as Store>⟧.view self.old).moment + 1) }
         ensures tried { OnErr result
             (LeavesFailed (next_fails (⟦<MemStore as InMemory>⟧.schedule self.old)) (shortened len false) file
             (⟦<MemStore as InMemory>⟧.shown self.old) (⟦<MemStore as InMemory>⟧.shown self.new)
+            (⟦<MemStore as Store>⟧.view self.old).moment (⟦<MemStore as Store>⟧.view self.new).moment
             (⟦<MemStore as InMemory>⟧.refused self.old) (⟦<MemStore as InMemory>⟧.refused self.new)) }
         ensures no_refusal { OnOk result
             (⟦<MemStore as InMemory>⟧.refused self.new ≡ ⟦<MemStore as InMemory>⟧.refused self.old) }
@@ -425,8 +445,12 @@ impl Store for MemStore {
         ensures shown { OnOk result
             (state_in (⟦<MemStore as InMemory>⟧.shown self.new) file
             ≡ synced (state_in (⟦<MemStore as InMemory>⟧.shown self.old) file)) }
+        ensures moment { OnOk result
+            ((⟦<MemStore as Store>⟧.view self.new).moment
+            ≡ (⟦<MemStore as Store>⟧.view self.old).moment + 1) }
         ensures unchanged { OnErr result
-            (⟦<MemStore as InMemory>⟧.shown self.new ≡ ⟦<MemStore as InMemory>⟧.shown self.old) }
+            ((⟦<MemStore as InMemory>⟧.shown self.new ≡ ⟦<MemStore as InMemory>⟧.shown self.old)
+            × ((⟦<MemStore as Store>⟧.view self.new).moment ≡ (⟦<MemStore as Store>⟧.view self.old).moment)) }
         ensures refused { OnErr result
             (⟦<MemStore as InMemory>⟧.refused self.new
             ≡ (if next_fails (⟦<MemStore as InMemory>⟧.schedule self.old)
@@ -472,8 +496,12 @@ impl Store for MemStore {
         ensures shown { OnOk result
             (state_in (⟦<MemStore as InMemory>⟧.shown self.new) file
             ≡ removed (state_in (⟦<MemStore as InMemory>⟧.shown self.old) file)) }
+        ensures moment { OnOk result
+            ((⟦<MemStore as Store>⟧.view self.new).moment
+            ≡ (⟦<MemStore as Store>⟧.view self.old).moment + 1) }
         ensures unchanged { OnErr result
-            (⟦<MemStore as InMemory>⟧.shown self.new ≡ ⟦<MemStore as InMemory>⟧.shown self.old) }
+            ((⟦<MemStore as InMemory>⟧.shown self.new ≡ ⟦<MemStore as InMemory>⟧.shown self.old)
+            × ((⟦<MemStore as Store>⟧.view self.new).moment ≡ (⟦<MemStore as Store>⟧.view self.old).moment)) }
         ensures refused { OnErr result
             (⟦<MemStore as InMemory>⟧.refused self.new
             ≡ (if next_fails (⟦<MemStore as InMemory>⟧.schedule self.old)
@@ -519,6 +547,8 @@ impl Store for MemStore {
         ensures no_other { OnErr result (IsTrue (next_fails (⟦<MemStore as InMemory>⟧.schedule self.old))) }
         ensures same { (⟦<MemStore as InMemory>⟧.shown self.new ≡ ⟦<MemStore as InMemory>⟧.shown self.old)
             × (⟦<MemStore as InMemory>⟧.refused self.new ≡ ⟦<MemStore as InMemory>⟧.refused self.old) }
+        ensures moment { (⟦<MemStore as Store>⟧.view self.new).moment
+            ≡ (⟦<MemStore as Store>⟧.view self.old).moment }
         ensures schedule { ⟦<MemStore as InMemory>⟧.schedule self.new
             ≡ called (⟦<MemStore as InMemory>⟧.schedule self.old) }
     {

@@ -1,9 +1,10 @@
-use Rattle.std.proofs.Common.{List, IsTrue, true, sym, ap, ◌∙◌, subst}
+use Rattle.std.proofs.Common.{List, IsTrue, length, true, sym, ap, ◌∙◌, subst, arith}
 use Rattle.outside_traits.specs.Calls.{Passes}
 use Rattle.mem_outside.specs.Shown.{Shown}
-use Rattle.mem_outside.specs.Outcomes.{is_sound}
+use Rattle.mem_outside.specs.Outcomes.{Outcome, state_in, stable_file, is_sound}
 use Rattle.mem_outside.specs.Moments.{view_of}
-use Rattle.mem_outside.proofs.Calls.{passes}
+use Rattle.mem_outside.specs.Sound.{synced_only}
+use Rattle.mem_outside.proofs.Calls.{passes, state_now}
 use Rattle.mem_outside.specs.History.{current_of, past_of}
 use Rattle.mem_outside.proofs.Changes.{changed_state, changed_sound, others_stay}
 use Rattle.mem_outside.proofs.Images.{stable_sound}
@@ -30,3 +31,10 @@ returns-clause-time c =
 
 pub returns-clause-differ : goal.returns-clause-differ
 returns-clause-differ c = changed_differ true _ (current_of c.args.history.now) _ c.in_ok-change.ensures.current
+
+pub returns-clause-stable : goal.returns-clause-stable
+returns-clause-stable c = λ x now.
+    let files : List Shown = current_of c.change.new.history in
+    let here : Outcome (state_in files c.args.file) x =
+    subst (λ (l : List Shown). Outcome (state_in l c.args.file) x) (state_now (past_of c.change.new.history) files (length (past_of c.change.new.history)) (omega arith)) now in
+    synced_only (stable_file c.args.file c.args.bytes.now) x (subst (λ (s : Shown). Outcome s x) (returns-clause-state c) here)
