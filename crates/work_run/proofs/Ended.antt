@@ -1,5 +1,5 @@
 -- What a run of a rewriting over a state's files comes to, as what its work comes to.
-use Rattle.std.proofs.Common.{◌≡◌, refl, sym, ap, ◌∙◌, subst, ℕ, ◌≤◌, List, [], map, Option, IsSome, Ok, Err}
+use Rattle.std.proofs.Common.{◌≡◌, refl, sym, ap, ◌∙◌, subst, ℕ, ◌≤◌, List, [], IsSome, Err}
 use Rattle.std.proofs.Math.Nat.{lt_of_not-le}
 use Rattle.std.specs.List.{AllByRecursion, Contains}
 use Rattle.scalar_ops.specs.Meaning.{overflow}
@@ -7,21 +7,17 @@ use Rattle.plan_core.specs.MachineTime.{machine_time}
 use Rattle.plan_core.specs.PlainPlan.{PlainPlan, leaves}
 use Rattle.plan_core.specs.PlanMeaning.{plan_meaning}
 use Rattle.plan_canon.specs.Normal.{IsNormalFormOf, MeanTheSame}
-use Rattle.estimator.specs.Bytes.{capped}
 use Rattle.estimator.specs.Cuts.{Cuts}
 use Rattle.rewrite_core.specs.Entries.{AreSound as AreSoundEntries, entry_of}
-use Rattle.rewrite_core.specs.Files.{FileName, AreIdsOf, files_of, Result}
+use Rattle.rewrite_core.specs.Files.{FileName, Result}
 use Rattle.rewrite_core.specs.IsRewriting.{IsRewriting}
 use Rattle.rewrite_core.specs.PlainRewriting.{PlainRewriting}
 use Rattle.growth_laws.specs.KeptResults.{IsResultOf, kept_among}
 use Rattle.growth_laws.specs.Lists.{plan_lists, lists_at}
-use Rattle.growth_laws.specs.MadePlaces.{made_places}
 use Rattle.growth_laws.specs.Parts.{plan_at, cuts_at}
 use Rattle.growth_laws.proofs.NamedResults.{renamed}
 use Rattle.cache_index.specs.Asked.{asked}
-use Rattle.catalog_types.specs.declared.program.Program.{Program}
 use Rattle.catalog_core.specs.IsTable.{IsTable}
-use Rattle.catalog_core.specs.Named.{bytes_named}
 use Rattle.catalog_core.specs.Programs.{AreCuts}
 use Rattle.outside_traits.specs.View.{Counts}
 use Rattle.growth_laws.specs.Pieces.{Piece}
@@ -37,11 +33,7 @@ use Rattle.executor.specs.Runs.{of_making, of_reading}
 use Rattle.folder.specs.Files.{IsPieceIn}
 use Rattle.folder.specs.Sound.{Care, IsSound}
 use Rattle.work_run.proofs.Events.{damage-shown, none-unreadable}
-use Rattle.executor.specs.Outcomes.{AreSound, Finishes, IsOutcome}
-use Rattle.executor.specs.declared.outcome.KeptPlace.{KeptPlace}
-use Rattle.executor.specs.declared.outcome.Outcome.{Outcome}
-use Rattle.admission.specs.Admitting.{made_of, entries_of, Admits}
-use Rattle.plan_choice.proofs.LeftOut.{all-left}
+use Rattle.executor.specs.Outcomes.{AreSound, Finishes}
 use Rattle.folder.specs.Files.{results_in}
 use Rattle.folder.specs.State.{State, IsValid, table, states_of, kinds_in, extents_in, lists_in}
 use Rattle.folder.proofs.GrownStreams.{kinds-of-typed}
@@ -49,11 +41,8 @@ use Rattle.folder.proofs.HeldForms.{kept-results}
 use Rattle.folder.proofs.ValidLists.{extents-valid, lists-typed, machines-within}
 use Rattle.plan_choice.specs.Taken.{kept_in, Serves}
 use Rattle.work_plan.specs.Fitting.{IsFit}
-use Rattle.work_plan.specs.Planning.{IsWorkPlan}
-use Rattle.work_run.specs.Ends.{AreNewFiles, ComesBy, IsRefusedWork, sources_of}
+use Rattle.work_run.specs.Ends.{IsRefusedWork, sources_of}
 use Rattle.work_run.specs.Working.{Overflows, IsDear}
-use Rattle.work_run.specs.declared.work.Work.{Work}
-use Rattle.work_run.proofs.MadeResults.{IsFitPlace, FormsHaveShape, mades-at, new-files}
 
 module _ (s : State) (valid : IsValid s) (is_table : IsTable (table s)) (entries : AreSoundEntries (asked [] s.entries)) (plan : PlainPlan) (r : PlainRewriting) where
   abbrev q : PlainPlan
@@ -91,30 +80,6 @@ module _ (s : State) (valid : IsValid s) (is_table : IsTable (table s)) (entries
 
     pub refuses-machine : IsNormalFormOf (kinds_in s.streams) plan q → (machine_time q (plan_lists (extents_in s.streams) q c) ≤ 4294967295 → ⊥) → IsDear s plan c
     refuses-machine normal above = record { normal = q; is_normal = normal; above = lt_of_not-le above }
-
-    -- it ended
-    pub comes : FormsHaveShape → AllByRecursion (IsFitPlace s.streams) (made_places q c r) → (outcome : Outcome) → AllByRecursion (λ (kept : KeptPlace). kept.machine ≤ 4294967295) outcome.made.items
-        → IsOutcome (extents_in s.streams) r outcome → (program : Option Program) (work : Work) → work.rows ≡ outcome.rows → AreIdsOf (files_of r) work.used.items
-        → work.read ≡ capped (bytes_named (table s) (files_of r)) → IsWorkPlan (table s) program work.used.items [] (map made_of outcome.made.items) work.plan
-        → ComesBy s program plan q c r work
-    comes shaped places outcome low is program work rows used read recorded =
-        let made = mades-at shaped s valid is_table (made_places q c r) outcome.made.items places low is.made in
-        let admits = subst (λ (es : List PlainEntry). Admits es s.next_file [] (map made_of outcome.made.items) recorded.admitted) (all-left s.entries) recorded.admits in
-        record {
-          news = entries_of recorded.admitted;
-          works = record {
-            rows = sym same-rows ∙ is.rows ∙ ap (λ rs. Ok rs.items) (sym rows);
-            within = is.within;
-            used = used;
-            read = read;
-            news = entries_of recorded.admitted;
-            keeps = record { mades = map made_of outcome.made.items; made = made; admitted = recorded.admitted; admits = admits; news_are = refl; ids_are = recorded.kept };
-            after = refl;
-          };
-          change = recorded.change;
-          files = subst (AreNewFiles s.streams (entries_of recorded.admitted)) (sym recorded.files)
-              (new-files s.streams s.entries s.next_file (made_places q c r) (map made_of outcome.made.items) recorded.admitted made admits);
-        }
 
     -- it wasn't made
     pub not-made : Serves (table s) plan q c r → IsFit (states_of s.streams) q c → (care : Care) (why : MakeRefusal) → Finishes (extents_in s.streams) (results_in s) r (Err why)

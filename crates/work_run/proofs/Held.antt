@@ -10,7 +10,7 @@ use Rattle.row_blob.specs.declared.shape.Shape.{Shape}
 use Rattle.plan_core.specs.PlainPlan.{PlainPlan, Scan, leaves}
 use Rattle.plan_core.specs.PlanTyping.{Kinds}
 use Rattle.plan_laws.specs.PlanShape.{plan_shape}
-use Rattle.rewrite_core.specs.Files.{FileName, Result}
+use Rattle.rewrite_core.specs.Files.{Result}
 use Rattle.rewrite_core.specs.Files as name
 use Rattle.growth_laws.specs.Lists.{extents_of}
 use Rattle.growth_laws.specs.Pieces.{Piece, Entry, Gathered}
@@ -24,7 +24,7 @@ use Rattle.catalog_core.specs.Table.{Table}
 use Rattle.entry_table.specs.AreKept.{AreKept}
 use Rattle.entry_table.specs.Work.{kept_with}
 use Rattle.executor.specs.Reads.{MayBeRead, HoldsOnly}
-use Rattle.executor.specs.Sources.{Sources, HoldsForm, HoldsPiece, HoldFiles}
+use Rattle.executor.specs.Sources.{Sources, HoldsPiece, HoldFiles}
 use Rattle.executor.specs.Sources as executor
 use Rattle.folder.specs.Sound.{Care, IsSound}
 use Rattle.folder.specs.State.{Stream, Extent, State, table, stream_of, extent_of, states_of, kinds_in, extents_in}

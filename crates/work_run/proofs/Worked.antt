@@ -1,5 +1,5 @@
 -- Work over the files of a state, by its rewriting alone.
-use Rattle.std.proofs.Common.{◌≡◌, sym, ap, ◌∙◌, subst, ℕ, ◌<◌, Bool, true, List, [], length, map, Option, IsOk, Ok, Err}
+use Rattle.std.proofs.Common.{◌≡◌, sym, ap, ◌∙◌, subst, ℕ, ◌<◌, Bool, true, List, [], length, IsOk, Err}
 use Rattle.std.specs.List.{AllByRecursion, Contains}
 use Rattle.outside_traits.specs.View.{Counts}
 use Rattle.plan_core.specs.PlainPlan.{PlainPlan, leaves}
@@ -8,7 +8,7 @@ use Rattle.plan_canon.specs.Normal.{MeanTheSame}
 use Rattle.estimator.specs.Bytes.{capped}
 use Rattle.estimator.specs.Cuts.{Cuts}
 use Rattle.rewrite_core.specs.Entries.{AreSound as AreSoundEntries}
-use Rattle.rewrite_core.specs.Files.{AreIdsOf, files_of, Result}
+use Rattle.rewrite_core.specs.Files.{files_of, Result}
 use Rattle.rewrite_core.specs.IsRewriting.{IsRewriting, whichever}
 use Rattle.rewrite_core.specs.PlainRewriting.{PlainRewriting}
 use Rattle.growth_laws.specs.Lists.{extents_of}
@@ -22,7 +22,6 @@ use Rattle.result_ops.specs.declared.refusal.MakeRefusal.TheVariants as make
 use Rattle.rewriting_pieces.specs.Pieces.{HasTyping, IsPiece}
 use Rattle.cache_index.specs.Asked.{asked}
 use Rattle.catalog_types.specs.PlainEntry.{PlainEntry}
-use Rattle.catalog_types.specs.declared.program.Program.{Program}
 use Rattle.catalog_types.specs.declared.snapshot.StreamState.{StreamState}
 use Rattle.catalog_core.specs.IsTable.{IsTable}
 use Rattle.catalog_core.specs.Named.{HasFile, file_at, machine_at, bytes_named}
@@ -30,28 +29,25 @@ use Rattle.catalog_core.specs.Programs.{AreCuts, kinds_of_streams}
 use Rattle.catalog_core.specs.Table.{Table}
 use Rattle.entry_table.specs.AreKept.{AreKept}
 use Rattle.entry_table.specs.Work.{kept_with}
-use Rattle.admission.specs.Admitting.{made_of}
-use Rattle.executor.specs.Outcomes.{Finishes, IsKeptFrom}
+use Rattle.executor.specs.Outcomes.{Finishes}
 use Rattle.executor.specs.Running.{EndsBy, EndsOver, HaveTaken}
 use Rattle.executor.specs.Runs.{of_making, of_reading, HasRunCause, IsRunFound, EndsEarly}
 use Rattle.executor.specs.Sources.{sources, HoldFiles}
-use Rattle.executor.specs.declared.outcome.Outcome.{Outcome}
 use Rattle.executor.specs.declared.refusal.RunRefusal.{RunRefusal}
 use Rattle.executor.specs.declared.refusal.RunRefusal.TheVariants as run
 use Rattle.folder.specs.Files.{results_in, IsPieceIn, HoldsExtent, HoldsResult}
 use Rattle.folder.specs.Sound.{Care, IsSound}
-use Rattle.folder.specs.State.{State, IsValid, table, states_of, kinds_in, extents_in}
+use Rattle.folder.specs.State.{State, IsValid, table, kinds_in, extents_in}
 use Rattle.plan_choice.specs.Pieces.{IsPieceOf}
 use Rattle.plan_choice.specs.Taken.{Serves}
 use Rattle.work_plan.specs.Fitting.{IsFit}
-use Rattle.work_plan.specs.Planning.{IsWorkPlan}
-use Rattle.work_run.specs.Ends.{ComesBy, CountsRead, IsRefusedWork, sources_of}
+use Rattle.work_run.specs.Ends.{CountsRead, IsRefusedWork, sources_of}
 use Rattle.work_run.specs.declared.work.Work.{Work}
-use Rattle.work_run.proofs.Ended.{are-sound, comes, not-made, not-read}
+use Rattle.work_run.proofs.Ended.{not-made, not-read}
 use Rattle.work_run.proofs.Held.{pieces-held}
 use Rattle.work_run.proofs.MadeResults.{FormsHaveShape}
 use Rattle.work_run.proofs.Pieces.{in-state}
-use Rattle.work_run.proofs.Rooted.{IsRooted, within-kept}
+use Rattle.work_run.proofs.Rooted.{IsRooted}
 use Rattle.work_run.proofs.Taken.{counts-read}
 
 -- ---- what the laws of other crates say
@@ -93,17 +89,6 @@ module _ (laws : Laws) (s : State) (valid : IsValid s) (t : Table) (same : t ≡
 
   same_leaves : leaves (plan_at r) ≡ leaves plan
   same_leaves = laws.same_leaves (table s) plan (plan_at r) (cuts_at r) r root.serves
-
-  pub worked : (outcome : Outcome) → Finishes (extents_in s.streams) (results_in s) r (Ok outcome) → AllByRecursion (IsKeptFrom (made_places (plan_at r) (cuts_at r) r)) outcome.made.items
-      → (program : Option Program) (work : Work) → work.rows ≡ outcome.rows → AreIdsOf (files_of r) work.used.items → work.read ≡ capped (bytes_named t (files_of r))
-      → IsWorkPlan t program work.used.items [] (map made_of outcome.made.items) work.plan → ComesBy s program plan normal cuts r work
-  worked outcome finishes kept program work rows used read planned =
-      subst (λ (q : PlainPlan). ComesBy s program plan q cuts r work) same_plan
-      (subst (λ (x : Cuts). ComesBy s program plan (plan_at r) x r work) same_cuts
-      (comes s valid here entries plan r meaning same_leaves root.are_cuts laws.shaped (laws.places (states_of s.streams) (plan_at r) (cuts_at r) r root.fit) outcome
-      (within-kept (made_places (plan_at r) (cuts_at r) r) outcome.made.items kept) (finishes.sound (are-sound s valid here entries plan r root.serves root.fit)) program work rows used
-      (read ∙ ap (λ (x : Table). capped (bytes_named x (files_of r))) same)
-      (subst (λ (x : Table). IsWorkPlan x program work.used.items [] (map made_of outcome.made.items) work.plan) same planned)))
 
   pub unmade : (care : Care) (why : MakeRefusal) → Finishes (extents_in s.streams) (results_in s) r (Err why) → IsRefusedWork care s plan cuts (of_making why)
   unmade care why finishes =

@@ -1,5 +1,5 @@
 -- What a piece of work that was run comes to, and why one isn't.
-use Rattle.std.specs.Prelude.{◌≡◌, ◌⊎◌, ℕ, true, List, [], ◌∷◌, Option, All, length, ◌≤◌, ⊤}
+use Rattle.std.specs.Prelude.{◌≡◌, ◌⊎◌, ℕ, true, List, [], ◌∷◌, All, length, ◌≤◌, ⊤}
 use Rattle.outside_traits.specs.View.{Counts}
 use Rattle.outside_traits.specs.Calls.{CountsTaken}
 use Rattle.plan_core.specs.Columns.{Rows}
@@ -8,20 +8,17 @@ use Rattle.row_blob.specs.declared.kept.Kept.{Kept}
 use Rattle.plan_core.specs.PlainPlan.{PlainPlan}
 use Rattle.estimator.specs.Cuts.{Cuts}
 use Rattle.catalog_types.specs.PlainEntry.{PlainNewEntry}
-use Rattle.catalog_types.specs.declared.change.Change.TheVariants as change
-use Rattle.catalog_types.specs.declared.program.Program.{Program}
 use Rattle.catalog_core.specs.Table.{Table}
 use Rattle.catalog_core.specs.Named.{file_at, machine_at}
 use Rattle.catalog_core.specs.Programs.{kinds_of_streams}
 use Rattle.executor.specs.Sources.{Sources, sources}
 use Rattle.executor.specs.declared.refusal.RunRefusal.{RunRefusal}
 use Rattle.executor.specs.declared.refusal.RunRefusal.TheVariants as run
-use Rattle.folder.specs.Next.{IsNewResultOf, with_work}
+use Rattle.folder.specs.Next.{IsNewResultOf}
 use Rattle.folder.specs.Sound.{Care}
 use Rattle.folder.specs.State.{Stream, State, table}
 use Rattle.folder.specs.Damage.{ShowsDamage}
-use Rattle.rewrite_core.specs.PlainRewriting.{PlainRewriting}
-use Rattle.work_run.specs.Working.{Given, given, WorksBy, Overflows, IsDear}
+use Rattle.work_run.specs.Working.{Given, given, Overflows, IsDear}
 use Rattle.work_run.specs.declared.work.Work.{Work}
 
 -- what the files of a table's rewritings are read by, where the store tells its files
@@ -46,13 +43,6 @@ AreNewFiles streams [] [] = Unit {0}
 AreNewFiles streams (new ∷ news) (bytes ∷ files) =
     ((form : Kept) × IsNewResultOf streams new form × (bytes ≡ kept_spelling form)) × AreNewFiles streams news files
 AreNewFiles streams _ _ = ⊥
-
--- it gives what the work by this rewriting gives, and what it records is the work with these new results
-pub record ComesBy (s : State) (program : Option Program) (plan normal : PlainPlan) (cuts : Cuts) (rewriting : PlainRewriting) (work : Work) : Type 0 where
-  pub news : List PlainNewEntry
-  pub works : WorksBy s program plan normal cuts rewriting (given_of work) (with_work s program work.used.items [] news)
-  pub change : work.plan.change ≡ change.Work program work.used.items [] news
-  pub files : AreNewFiles s.streams news work.plan.files.items
 
 -- Why it doesn't come to an end over files of a state: by what the plan means, for want of memory, or since the files aren't
 -- read. None of them has unreadable bytes.

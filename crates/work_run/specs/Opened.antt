@@ -1,5 +1,5 @@
 -- A piece of work that is open: some files of its rewriting are read, and it goes on as the table does.
-use Rattle.std.specs.Prelude.{◌≡◌, List, [], ◌++◌, IsOk, Result, Ok, Err, ⊤}
+use Rattle.std.specs.Prelude.{◌≡◌, List, ◌++◌, IsOk}
 use Rattle.plan_core.specs.PlainPlan.{PlainPlan, leaves}
 use Rattle.plan_core.specs.PlanTyping.{plan_typing}
 use Rattle.estimator.specs.Bytes.{capped}
@@ -14,10 +14,7 @@ use Rattle.folder.specs.Files.{results_in}
 use Rattle.folder.specs.State.{State, kinds_in, extents_in}
 use Rattle.plan_choice.specs.Taken.{Serves}
 use Rattle.work_plan.specs.Fitting.{IsFit}
-use Rattle.executor.specs.declared.refusal.RunRefusal.{RunRefusal}
-use Rattle.executor.specs.declared.refusal.RunRefusal.TheVariants as run
 use Rattle.work_run.specs.declared.open.OpenWork.{OpenWork}
-use Rattle.work_run.specs.declared.work.Work.{Work}
 
 -- the rewriting that it reads
 abbrev pub opened_rewriting : OpenWork → PlainRewriting
@@ -53,10 +50,3 @@ pub record IsSameWork (old new : OpenWork) : Type 0 where
   pub rewriting : new.job.rewriting ≡ old.job.rewriting
   pub used : new.used ≡ old.used
   pub read : new.read ≡ old.read
-
--- where a close has an answer that hangs on what the files hold, it has read them all
-abbrev pub IsReadWhole : Result Work RunRefusal → OpenWork → Type 0
-IsReadWhole (Ok work) new = files_left new ≡ []
-IsReadWhole (Err run.Overflow) new = files_left new ≡ []
-IsReadWhole (Err run.Machine) new = files_left new ≡ []
-IsReadWhole (Err _) new = ⊤

@@ -1,5 +1,5 @@
 -- What a piece of work comes to: the rows of a plan at a cut of a state's streams, and the state after it.
-use Rattle.std.specs.Prelude.{◌≡◌, ℕ, ◌<◌, ◌≤◌, List, [], Option, Ok, Err, length}
+use Rattle.std.specs.Prelude.{◌≡◌, ℕ, ◌<◌, List, [], Err, length}
 use Rattle.scalar_ops.specs.Meaning.{overflow}
 use Rattle.row_blob.specs.Kept.{AreEach}
 use Rattle.plan_core.specs.Columns.{Rows}
@@ -7,18 +7,13 @@ use Rattle.plan_core.specs.MachineTime.{machine_time}
 use Rattle.plan_core.specs.PlainPlan.{PlainPlan}
 use Rattle.plan_core.specs.PlanMeaning.{plan_meaning}
 use Rattle.plan_canon.specs.Normal.{IsNormalFormOf}
-use Rattle.estimator.specs.Bytes.{capped}
 use Rattle.estimator.specs.Cuts.{Cuts}
-use Rattle.rewrite_core.specs.Files.{AreIdsOf, files_of}
 use Rattle.rewrite_core.specs.PlainRewriting.{PlainRewriting}
 use Rattle.growth_laws.specs.MadePlaces.{Place, made_places}
 use Rattle.catalog_types.specs.PlainEntry.{PlainNewEntry}
-use Rattle.catalog_types.specs.declared.program.Program.{Program}
-use Rattle.catalog_core.specs.Named.{bytes_named}
 use Rattle.admission.specs.Admitting.{MadeResult, Admits, entries_of}
 use Rattle.admission.specs.declared.new_result.NewResult.{NewResult}
-use Rattle.folder.specs.Next.{with_work}
-use Rattle.folder.specs.State.{Stream, State, IsResultIn, kinds_in, lists_in, table}
+use Rattle.folder.specs.State.{Stream, State, IsResultIn, kinds_in, lists_in}
 use Rattle.work_plan.specs.Planning.{ids_from}
 
 -- the greatest machine time that is counted
@@ -54,17 +49,6 @@ pub record Given : Type 0 where
 
 abbrev pub given : Rows → List ℕ → List ℕ → ℕ → Given
 given rows used kept read = record { rows = rows; used = used; kept = kept; read = read }
-
--- The rows are those of the plan as it is written, whatever is kept. They are made by this rewriting of the plan's normal form:
--- the results that it names are used, its files are read, and of what it makes results are kept.
-pub record WorksBy (s : State) (program : Option Program) (plan normal : PlainPlan) (cuts : Cuts) (rewriting : PlainRewriting) (is : Given) (new : State) : Type 0 where
-  pub rows : plan_meaning plan (lists_in s.streams plan cuts) ≡ Ok is.rows
-  pub within : machine_time normal (lists_in s.streams normal cuts) ≤ most_machine_time
-  pub used : AreIdsOf (files_of rewriting) is.used
-  pub read : is.read ≡ capped (bytes_named (table s) (files_of rewriting))
-  pub news : List PlainNewEntry
-  pub keeps : Keeps s normal cuts rewriting news is.kept
-  pub after : new ≡ with_work s program is.used [] news
 
 -- ---- why there is no answer
 
