@@ -1,15 +1,11 @@
 -- The jobs of a table: where one stands, and how it is taken out.
-use Rattle.std.specs.Prelude.{◌≡◌, ℕ, Bool, ◌==◌, List, position, slice_get, slice_set, bytes_eq, Option, Some}
-use Rattle.std.specs.List.{list_any, remove}
+use Rattle.std.specs.Prelude.{◌≡◌, ℕ, List, position, slice_get, slice_set, bytes_eq, Option, Some}
+use Rattle.std.specs.List.{remove}
 use Rattle.job_table.specs.declared.table.OpenJob.{OpenJob}
 
 -- the place of the first job of this name
 abbrev pub place_of : {J : Type 0} → List (OpenJob J) → List ℕ → Option ℕ
 place_of jobs name = position (λ job. bytes_eq job.name name) jobs
-
--- one of the jobs holds this kept result
-abbrev pub is_held : {J : Type 0} → List (OpenJob J) → ℕ → Bool
-is_held jobs id = list_any (λ job. list_any (λ held. held == id) job.holds.items) jobs
 
 -- the job of this name stood there, and the others stand as they stood
 pub record IsTakenOut {J : Type 0} (name : List ℕ) (job : J) (old new : List (OpenJob J)) : Type 0 where

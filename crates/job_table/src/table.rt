@@ -1,18 +1,17 @@
 //! The table.
 ghost use Rattle.std.specs.Prelude.{◌≡◌, ℕ, ◌<◌, List, [], ◌∷◌, ◌++◌, length, None};
 ghost use Rattle.std.specs.Prelude.{IfSome, IfNone, OnOk, IfErr, OnErr};
-ghost use Rattle.job_table.specs.Jobs.{place_of, is_held, IsTakenOut, IsJobAt, IsReplaced};
+ghost use Rattle.job_table.specs.Jobs.{place_of, IsTakenOut, IsJobAt, IsReplaced};
 
 use rows_core::Name;
 use std::alloc::{AllocFailed, Global};
 use std::mem;
 
-/// A job that is open: its name, and the ids of the kept results that it holds until it ends.
+/// A job that is open, and its name.
 #[derive(Drop)]
 pub struct OpenJob<J> {
     pub name: Name,
     pub job: J,
-    pub holds: Vec<u32>,
 }
 
 /// The open jobs, in the order in which they were opened.
@@ -40,13 +39,13 @@ impl<J: Drop> JobTable<J> {
 
     /// Opens a job behind the others; who calls it keeps names apart. Where memory is refused the job is
     /// given back, and the table is as it was.
-    pub fn admit(&mut self, name: Name, job: J, holds: Vec<u32>) -> Result<(), J>
+    pub fn admit(&mut self, name: Name, job: J) -> Result<(), J>
         ensures admitted { OnOk result (self.new.jobs.items
-            ≡ self.old.jobs.items ++ record { name = name; job = job; holds = holds } ∷ []) }
+            ≡ self.old.jobs.items ++ record { name = name; job = job } ∷ []) }
         ensures given_back { IfErr result (λ back. back ≡ job) }
         ensures refused { OnErr result (self.new.jobs.items ≡ self.old.jobs.items) }
     {
-        match self.jobs.push(OpenJob { name, job, holds }) {
+        match self.jobs.push(OpenJob { name, job }) {
             Ok(()) => Ok(()),
             Err(failed) => Err(failed.value.job),
         }
@@ -70,19 +69,14 @@ impl<J: Drop> JobTable<J> {
         &self.jobs[place].job
     }
 
-    /// Puts this job at the place, in the order of opening, from 0, with the ids of the kept results that it
-    /// holds, and gives back the job and the ids that were there. The name stays, and so do the other jobs. It
-    /// takes no memory.
-    pub fn put_at(&mut self, place: usize, job: J, holds: Vec<u32>) -> (J, Vec<u32>)
+    /// Puts this job at the place, in the order of opening, from 0, and gives back the job that was there. The
+    /// name stays, and so do the other jobs. It takes no memory.
+    pub fn put_at(&mut self, place: usize, job: J) -> J
         requires { place < length self.old.jobs.items }
-        ensures { (name : List ℕ)
-            × IsReplaced place (record { name = name; job = result.0; holds = result.1 })
-            (record { name = name; job = job; holds = holds }) self.old.jobs.items self.new.jobs.items }
+        ensures { (name : List ℕ) × IsReplaced place (record { name = name; job = result })
+            (record { name = name; job = job }) self.old.jobs.items self.new.jobs.items }
     {
-        let there = &mut self.jobs[place];
-        let job = mem::replace(&mut there.job, job);
-        let holds = mem::replace(&mut there.holds, holds);
-        (job, holds)
+        mem::replace(&mut self.jobs[place].job, job)
     }
 
     /// Takes the job of this name out, where it is open; the others stay in their order. It takes no memory.
@@ -94,12 +88,5 @@ impl<J: Drop> JobTable<J> {
     {
         let at = self.place_of(name)?;
         Some(self.jobs.remove(at).job)
-    }
-
-    /// Whether an open job holds the kept result with this id. It takes no memory.
-    pub fn pinned(&self, id: u32) -> bool
-        ensures { result ≡ is_held self.now.jobs.items id }
-    {
-        self.jobs.iter().any(|job| job.holds.contains(&id))
     }
 }
