@@ -15,10 +15,11 @@ use Rattle.catalog_core.specs.Table.{Table}
 use Rattle.plan_choice.specs.Leaving.{leaving_out}
 use Rattle.plan_choice.specs.Taken.{IsTaken, IsChoice}
 use Rattle.plan_choice.specs.declared.choosing.Choice.{Choice}
-use Rattle.planning.specs.Running.{Target, IsTypedAt}
+use Rattle.planning.specs.Running.{Target, IsPlanned, IsTypedAt}
 use Rattle.work_plan.specs.Fitting.{IsFit}
 use Rattle.work_run.specs.Chosen.{IsChosen}
 use Rattle.work_turns.specs.Turns.{IsChosenOf}
+use Rattle.folder_session.specs.Wanted.{target_at}
 
 abbrev AllTaken : (P : (t : Table) (plan normal : PlainPlan) (cuts : Cuts) (r : PlainRewriting) → Type 0) → Type 0
 AllTaken P = (t : Table) (plan normal : PlainPlan) (cuts : Cuts) (r : PlainRewriting) → IsTaken t plan normal cuts r → P t plan normal cuts r
@@ -54,6 +55,13 @@ module _ (over : AllTaken (λ t plan normal cuts r. IsOk (plan_typing (kinds_of_
     of_form none form same is =
         let moved : IsChosen (leaving_out [] t) target.plan cuts choice = subst (λ (x : Table). IsChosen x target.plan cuts choice) (sym none) (chosen_for is) in
         record { chosen = moved; form_is = sym moved.choice_is.taken.least.is.0 ∙ same }
+
+-- what is planned is the plan that has this typing, at this cut
+pub own_target : (t : Table) (target : Target) (typed : TypedPlan) (cuts : Cuts) → IsTypedAt t target typed cuts → target ≡ target_at typed cuts
+own_target t target typed cuts is = λ i. record { plan = sym is.plan i; cuts = sym is.cuts_are i }
+
+pub own_planned : (t : Table) (target : Target) (typed : TypedPlan) (cuts : Cuts) → IsPlanned t target typed cuts → IsPlanned t (target_at typed cuts) typed cuts
+own_planned t target typed cuts is = subst (λ (x : Target). IsPlanned t x typed cuts) (own_target t target typed cuts is.typed_at) is
 
 -- the same table and cut
 pub typed_there : (t u : Table) → t ≡ u → (target : Target) (typed : TypedPlan) (cuts given : Cuts) → given ≡ cuts → IsTypedAt t target typed cuts → IsTypedAt u target typed given

@@ -167,11 +167,6 @@ pub gone_read : (t u : Table) (v : View) (old mid new : Counts) → mid.removes 
 gone_read t u v old mid new same (inl rose) = inl (subst (λ (n : ℕ). Rose n new.removes) same rose)
 gone_read t u v old mid new same (inr gone) = inr gone
 
-pub gone_since_read : (t : Table) (v : View) (old mid new : Counts) → mid.removes ≡ old.removes → (result : Result (FolderSession × Answer) Failed) → IfOk result (λ next. AreGoneSince t (table_in (folder_of next.0)) v mid new)
-    → IfOk result (λ next. AreGoneSince t (table_in (folder_of next.0)) v old new)
-gone_since_read t v old mid new same (Ok next) gone = gone_read t (table_in (folder_of next.0)) v old mid new same gone
-gone_since_read t v old mid new same (Err failed) gone = tt
-
 -- from a session that is the same but for the memory that it has taken
 pub gone_as_prepared : (t u : Table) → u ≡ t → (v : View) (old new : Counts) (result : Result (FolderSession × Answer) Failed) → IfOk result (λ next. AreGoneSince u (table_in (folder_of next.0)) v old new) → IfOk result (λ next. AreGoneSince t (table_in (folder_of next.0)) v old new)
 gone_as_prepared t u same v old new (Ok next) gone = subst (λ (x : Table). AreGoneSince x (table_in (folder_of next.0)) v old new) same gone

@@ -1,5 +1,5 @@
 -- What a command leaves as it was.
-use Rattle.std.proofs.Common.{◌≡◌, ◌∙◌, ℕ, ◌+◌, ◌≤◌, List, [], Ok, Err, Result, IfOk, IfErr, IsErrOf, OnOk, OnErr, ◌⊎◌, refl, sym, subst, inl, inr, arith}
+use Rattle.std.proofs.Common.{◌≡◌, ◌∙◌, ℕ, ◌+◌, ◌≤◌, List, [], Ok, Err, Result, IfOk, IsErrOf, OnOk, OnErr, ◌⊎◌, refl, sym, subst, inl, inr, arith}
 use Rattle.std.specs.List.{Contains}
 use Rattle.rows_core.specs.declared.file_ref.FileRef.{FileRef}
 use Rattle.outside_traits.specs.Counts.{Rose}
@@ -161,10 +161,6 @@ failed_after (Err e) P holds = holds
 
 pub err_same : {T : Type 0} (x y : Refusal) → IsErrOf {T = T} (Err x) y → x ≡ y
 err_same {T = T} x y is = let both : ◌≡◌ {A = Result T Refusal} (Err x) (Err y) = is in cc
-
-pub refused_after : {T : Type 0} (result : Result T Refusal) (a b : ℕ) → b ≡ a → IfErr result (λ why. (why ≡ refusal.Fault → ⊥) → b ≡ a)
-refused_after (Ok x) a b same = tt
-refused_after (Err why) a b same = λ other. same
 
 module _ (places : FileName → FileRef) (names : List FileName) (old new : Counts) where
   pub unread_counts : (why : RunRefusal) → HasRunCause places names old new why → (refusal_of why ≡ refusal.Fault → ⊥) → new.reads ≡ old.reads

@@ -48,8 +48,11 @@ use Rattle.folder.specs.State.{State, table}
 use Rattle.work_run.specs.Ends.{sources_of}
 use Rattle.work_turns.specs.Turns.{HasCauseInTurns, IsLost}
 use Rattle.folder_session.specs.declared.session.FolderSession.{FolderSession}
+use Rattle.folder_session.specs.declared.wanting.Purpose.{Purpose}
+use Rattle.folder_session.specs.declared.wanting.Purpose.TheVariants as purpose
 use Rattle.folder_session.specs.Machine.{Outcome, outcome, refused, made, appended, RunsTo, FetchesTo, CollectsTo, IsWorkOn, Performs, IsWant, IsFileEvent, IsEvent, Step}
 use Rattle.folder_session.specs.Causes.{SparesStore, TellsOfNoFile, IsOfFiles, IsOfRun, IsOfFetch, HasByteCause}
+use Rattle.folder_session.specs.Wanted.{IsNoWorkOf, IsWorkOf, cuts_for}
 use Rattle.folder_session.specs.WorkRefusals.{refusal_of}
 use Rattle.folder_session.specs.Working.{IsFoundFor}
 
@@ -155,79 +158,6 @@ fetching_refuses t name as_run why (inr none) = subst SparesStore (sym none) tt
 -- ---- answers by the bytes of files
 
 module _ (t : Table) (files : ℕ → List ℕ) where
-  stream_cause : (name : List ℕ) (columns : List Column) (given : Answer) → TellsOfNoFile given → HasByteCause t (command.Stream name columns) files given
-  stream_cause name columns (answer.Refused why) tells = tells
-  stream_cause name columns answer.Ok tells = tt
-  stream_cause name columns (answer.Held n) tells = tt
-  stream_cause name columns (answer.Result rows used kept read) tells = tt
-  stream_cause name columns (answer.Evicted ids bytes) tells = tt
-  stream_cause name columns (answer.Entries summaries) tells = tt
-  stream_cause name columns (answer.Catalog line) tells = tt
-  stream_cause name columns (answer.Ready n) tells = tt
-  stream_cause name columns (answer.Left n) tells = tt
-
-  append_cause : (name : List ℕ) (lines : List (List ℕ)) (given : Answer) → TellsOfNoFile given → HasByteCause t (command.Append name lines) files given
-  append_cause name lines (answer.Refused why) tells = tells
-  append_cause name lines answer.Ok tells = tt
-  append_cause name lines (answer.Held n) tells = tt
-  append_cause name lines (answer.Result rows used kept read) tells = tt
-  append_cause name lines (answer.Evicted ids bytes) tells = tt
-  append_cause name lines (answer.Entries summaries) tells = tt
-  append_cause name lines (answer.Catalog line) tells = tt
-  append_cause name lines (answer.Ready n) tells = tt
-  append_cause name lines (answer.Left n) tells = tt
-
-  collect_cause : (reclaim : ℕ) (given : Answer) → TellsOfNoFile given → HasByteCause t (command.Collect reclaim) files given
-  collect_cause reclaim (answer.Refused why) tells = tells
-  collect_cause reclaim answer.Ok tells = tt
-  collect_cause reclaim (answer.Held n) tells = tt
-  collect_cause reclaim (answer.Result rows used kept read) tells = tt
-  collect_cause reclaim (answer.Evicted ids bytes) tells = tt
-  collect_cause reclaim (answer.Entries summaries) tells = tt
-  collect_cause reclaim (answer.Catalog line) tells = tt
-  collect_cause reclaim (answer.Ready n) tells = tt
-  collect_cause reclaim (answer.Left n) tells = tt
-
-  entries_cause : (given : Answer) → TellsOfNoFile given → HasByteCause t command.Entries files given
-  entries_cause (answer.Refused why) tells = tells
-  entries_cause answer.Ok tells = tt
-  entries_cause (answer.Held n) tells = tt
-  entries_cause (answer.Result rows used kept read) tells = tt
-  entries_cause (answer.Evicted ids bytes) tells = tt
-  entries_cause (answer.Entries summaries) tells = tt
-  entries_cause (answer.Catalog line) tells = tt
-  entries_cause (answer.Ready n) tells = tt
-  entries_cause (answer.Left n) tells = tt
-
-  catalog_cause : (given : Answer) → TellsOfNoFile given → HasByteCause t command.Catalog files given
-  catalog_cause (answer.Refused why) tells = tells
-  catalog_cause answer.Ok tells = tt
-  catalog_cause (answer.Held n) tells = tt
-  catalog_cause (answer.Result rows used kept read) tells = tt
-  catalog_cause (answer.Evicted ids bytes) tells = tt
-  catalog_cause (answer.Entries summaries) tells = tt
-  catalog_cause (answer.Catalog line) tells = tt
-  catalog_cause (answer.Ready n) tells = tt
-  catalog_cause (answer.Left n) tells = tt
-
-  pub collect_causes : (c : Command) (reclaim : ℕ) (result : Result (FolderSession × Answer) Failed) → c ≡ command.Collect reclaim → IfOk result (λ next. TellsOfNoFile next.1) → IfOk result (λ next. HasByteCause t c files next.1)
-  collect_causes c reclaim (Ok next) is tells = subst (λ x. HasByteCause t x files next.1) (sym is) (collect_cause reclaim next.1 tells)
-  collect_causes c reclaim (Err failed) is tells = tt
-
-  pub entries_causes : (c : Command) (given : Answer) → c ≡ command.Entries → TellsOfNoFile given → HasByteCause t c files given
-  entries_causes c given is tells = subst (λ x. HasByteCause t x files given) (sym is) (entries_cause given tells)
-
-  pub catalog_causes : (c : Command) (given : Answer) → c ≡ command.Catalog → TellsOfNoFile given → HasByteCause t c files given
-  catalog_causes c given is tells = subst (λ x. HasByteCause t x files given) (sym is) (catalog_cause given tells)
-
-  pub stream_causes : (c : Command) (name : List ℕ) (columns : List Column) (result : Result (FolderSession × Answer) Failed) → c ≡ command.Stream name columns → IfOk result (λ next. TellsOfNoFile next.1) → IfOk result (λ next. HasByteCause t c files next.1)
-  stream_causes c name columns (Ok next) is tells = subst (λ x. HasByteCause t x files next.1) (sym is) (stream_cause name columns next.1 tells)
-  stream_causes c name columns (Err failed) is tells = tt
-
-  pub append_causes : (c : Command) (name : List ℕ) (lines : List (List ℕ)) (result : Result (FolderSession × Answer) Failed) → c ≡ command.Append name lines → IfOk result (λ next. TellsOfNoFile next.1) → IfOk result (λ next. HasByteCause t c files next.1)
-  append_causes c name lines (Ok next) is tells = subst (λ x. HasByteCause t x files next.1) (sym is) (append_cause name lines next.1 tells)
-  append_causes c name lines (Err failed) is tells = tt
-
   -- what is refused before, and want of memory
   of_spared : (planned : Result Run Refusal) (why : Refusal) → SparesStore why → IsOfRun t planned files why
   of_spared (Err w) why spares = spares
@@ -240,22 +170,6 @@ module _ (t : Table) (files : ℕ → List ℕ) where
   of_taken run (refusal.Damaged file kept found) is = is
   of_taken run (refusal.Unreadable file at) is = is
   of_taken run _ is = tt
-
-  module _ (name : List ℕ) (tree : PlainTree) where
-    pub run_refused : (why : Refusal) → running t name tree ≡ Err why ⊎ IsMemory why → HasByteCause t (command.Run name tree) files (answer.Refused why)
-    run_refused why either = of_spared (running t name tree) why (running_refuses t name tree why either)
-
-    pub run_found : (run : Run) → running t name tree ≡ Ok run → (why : Refusal) → IsFoundFor t run.plan run.program.cuts files why → HasByteCause t (command.Run name tree) files (answer.Refused why)
-    run_found run is why found = subst (λ (planned : Result Run Refusal). IsOfRun t planned files why) (sym is) (of_taken run why found)
-
-    -- of what is answered when its work is recorded
-    pub run_ends : (result : Result (FolderSession × Answer) Failed) → IfOk result (λ next. (why : Refusal) → next.1 ≡ answer.Refused why → why ≡ refusal.Memory) → IfOk result (λ next. HasByteCause t (command.Run name tree) files next.1)
-    run_ends (Ok next) none = told next.1 none
-      where
-        told : (given : Answer) → ((why : Refusal) → given ≡ answer.Refused why → why ≡ refusal.Memory) → HasByteCause t (command.Run name tree) files given
-        told (answer.Refused why) none = run_refused why (inr (none why refl))
-        told _ none = tt
-    run_ends (Err failed) none = tt
 
   -- a fetch
   fetch_spared : (name : List ℕ) (as_run : Bool) (why : Refusal) → SparesStore why → IsOfFetch t name as_run files why
@@ -270,20 +184,36 @@ module _ (t : Table) (files : ℕ → List ℕ) where
   fetch_taken name as_run target planned (refusal.Unreadable file at) is = (target, planned, is)
   fetch_taken name as_run target planned _ is = tt
 
-  module _ (name : List ℕ) (as_run : Bool) where
-    pub fetch_refused : (why : Refusal) → IsFetching t name as_run (Err why) ⊎ IsMemory why → HasByteCause t (command.Fetch name as_run) files (answer.Refused why)
-    fetch_refused why either = fetch_spared name as_run why (fetching_refuses t name as_run why either)
+  -- an answer whose refusal, if it is one, isn't laid to the store
+  spared : (c : Command) (given : Answer) → ((why : Refusal) → given ≡ answer.Refused why → SparesStore why) → HasByteCause t c files given
+  spared (command.Run name tree) (answer.Refused why) spares = of_spared (running t name tree) why (spares why refl)
+  spared (command.Fetch name as_run) (answer.Refused why) spares = fetch_spared name as_run why (spares why refl)
+  spared _ (answer.Refused why) spares = spares why refl
+  spared _ _ spares = tt
 
-    pub fetch_found : (target : Target) → IsFetching t name as_run (Ok target) → (why : Refusal) → IsFoundFor t target.plan target.cuts files why → HasByteCause t (command.Fetch name as_run) files (answer.Refused why)
-    fetch_found target is why found = fetch_taken name as_run target is why found
+  pub no_file_causes : (c : Command) (result : Result (FolderSession × Answer) Failed) → IfOk result (λ next. TellsOfNoFile next.1) → IfOk result (λ next. HasByteCause t c files next.1)
+  no_file_causes c (Ok next) tells = spared c next.1 (λ why is. subst TellsOfNoFile is tells)
+  no_file_causes c (Err failed) tells = tt
 
-    pub fetch_ends : (result : Result (FolderSession × Answer) Failed) → IfOk result (λ next. (why : Refusal) → next.1 ≡ answer.Refused why → why ≡ refusal.Memory) → IfOk result (λ next. HasByteCause t (command.Fetch name as_run) files next.1)
-    fetch_ends (Ok next) none = told next.1 none
-      where
-        told : (given : Answer) → ((why : Refusal) → given ≡ answer.Refused why → why ≡ refusal.Memory) → HasByteCause t (command.Fetch name as_run) files given
-        told (answer.Refused why) none = fetch_refused why (inr (none why refl))
-        told _ none = tt
-    fetch_ends (Err failed) none = tt
+  -- of what is answered when work is recorded
+  pub recorded_causes : (c : Command) (result : Result (FolderSession × Answer) Failed) → IfOk result (λ next. (why : Refusal) → next.1 ≡ answer.Refused why → why ≡ refusal.Memory) → IfOk result (λ next. HasByteCause t c files next.1)
+  recorded_causes c (Ok next) only = spared c next.1 (λ why is. subst SparesStore (sym (only why is)) tt)
+  recorded_causes c (Err failed) only = tt
+
+  -- of a run or a fetch that is refused before its work
+  no_work_spares : (c : Command) (why : Refusal) → IsNoWorkOf t c why → SparesStore why
+  no_work_spares (command.Run name tree) why either = running_refuses t name tree why either
+  no_work_spares (command.Fetch name as_run) why either = fetching_refuses t name as_run why either
+  no_work_spares _ why none = absurd none
+
+  pub no_work_causes : (c : Command) (why : Refusal) → IsNoWorkOf t c why → HasByteCause t c files (answer.Refused why)
+  no_work_causes c why either = spared c (answer.Refused why) (λ w is. subst TellsOfNoFile is (no_work_spares c why either))
+
+  -- of one whose files aren't read
+  pub work_causes : (c : Command) (plan : PlainPlan) (aim : Purpose) → IsWorkOf t c plan aim → (why : Refusal) → IsFoundFor t plan (cuts_for aim) files why → HasByteCause t c files (answer.Refused why)
+  work_causes (command.Run name tree) plan (purpose.Run program) is why found = subst (λ (planned : Result Run Refusal). IsOfRun t planned files why) (sym is) (of_taken (record { plan = plan; program = program }) why found)
+  work_causes (command.Fetch name as_run) plan (purpose.Fetch cuts) is why found = fetch_taken name as_run (record { plan = plan; cuts = cuts }) is why found
+  work_causes _ plan _ is why found = absurd is
 
   -- ---- work
 

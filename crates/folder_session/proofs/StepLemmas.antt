@@ -1,11 +1,10 @@
 -- A step of a session: what its parts come to.
-use Rattle.std.proofs.Common.{◌≡◌, ◌⊎◌, ℕ, Bool, List, Option, None, Some, Ok, Err, Result, IfOk, OnErr, refl, sym, ap, ◌∙◌, subst, inl, inr}
+use Rattle.std.proofs.Common.{◌≡◌, ◌⊎◌, ℕ, List, Option, Ok, Err, Result, IfOk, OnErr, refl, sym, ap, ◌∙◌, subst, inl, inr}
 use Rattle.outside_traits.specs.View.{View}
 use Rattle.outside_traits.specs.declared.failed.Failed.{Failed}
 use Rattle.outside_traits.proofs.RunLemmas.{spans_none, spans_on, spans_wider}
 use Rattle.rows_core.specs.declared.schema.Column.{Column}
 use Rattle.plan_core.specs.PlainPlan.{PlainPlan}
-use Rattle.plan_grammar.specs.PlainNamed.{PlainTree}
 use Rattle.estimator.specs.Cuts.{Cuts}
 use Rattle.catalog_types.specs.declared.change.Change.{Change}
 use Rattle.catalog_types.specs.declared.program.Program.{Program}
@@ -22,7 +21,7 @@ use Rattle.script_text.specs.declared.item.Command.TheVariants as command
 use Rattle.planning.specs.Appending.{IsAppending, Append, held as held_after}
 use Rattle.planning.specs.Making.{making}
 use Rattle.planning.specs.Fetching.{IsFetching}
-use Rattle.planning.specs.Running.{Run, Target, running}
+use Rattle.planning.specs.Running.{running}
 use Rattle.folder.specs.Folders.{table_in, journal_of, FolderStands}
 use Rattle.folder.specs.Left.{Follows, IsLeft, Since, StaysSound, Everything, IsSoundForOneOf}
 use Rattle.folder.specs.Next.{with_stream, with_rows}
@@ -32,9 +31,12 @@ use Rattle.folder.specs.Standing as standing
 use Rattle.folder.specs.State.{State, table}
 use Rattle.work_run.specs.Ends.{IsRefusedWork}
 use Rattle.folder_session.specs.declared.session.FolderSession.{FolderSession}
+use Rattle.folder_session.specs.declared.wanting.Purpose.{Purpose}
+use Rattle.folder_session.specs.declared.wanting.Purpose.TheVariants as purpose
 use Rattle.folder_session.specs.Machine as machine
 use Rattle.folder_session.specs.Machine.{outcome, refused, made, IsEvent, IsOfExtent, RunsTo, IsWorkOn, WorkStep}
 use Rattle.folder_session.specs.Standing.{Stands, Performs, Breaks, Records, KeepsNot, WorksOff, BreaksOff, folder_of}
+use Rattle.folder_session.specs.Wanted.{IsNoWorkOf, IsWorkOf, cuts_for, program_for}
 use Rattle.folder_session.specs.WorkRefusals.{refusal_of}
 
 -- ---- a session that is the same but for the memory that it has taken
@@ -90,34 +92,6 @@ module _ (care : Care) (held : List ℕ) (t : Table) (s : State) (same : t ≡ t
     | inl is ↦ inl (Err why, subst (λ x. IsAppending x name lines (Err why)) same is, refl)
     | inr none ↦ inr (subst (λ w. IsEvent care s (command.Append name lines) w) (sym none) tt)
   ]
-
-  -- a run before its work
-  pub ran_err : (name : List ℕ) (tree : PlainTree) (why : Refusal) → running t name tree ≡ Err why ⊎ (why ≡ refusal.Memory) → machine.Performs care held s (command.Run name tree) (refused s why) ⊎ IsEvent care s (command.Run name tree) why
-  ran_err name tree why either = elim either [
-    | inl is ↦ inl (subst (λ x. RunsTo care held s x (refused s why)) (sym (subst (λ x. running x name tree ≡ Err why) same is)) refl)
-    | inr none ↦ inr (subst (λ w. IsEvent care s (command.Run name tree) w) (sym none) (tt, tt))
-  ]
-
-  -- its plan was worked off
-  pub ran_step : (name : List ℕ) (tree : PlainTree) (r : Run) (program : Program) → running t name tree ≡ Ok r → program ≡ r.program → (given : Answer) (new : State)
-      → WorkStep care held s (Some program) r.plan program.cuts given new → machine.Step care held s (command.Run name tree) given new
-  ran_step name tree r program is program_is given new (inl works) =
-      inl (subst (λ x. RunsTo care held s x (outcome given new)) (sym (subst (λ x. running x name tree ≡ Ok r) same is)) (subst (λ (p : Program). IsWorkOn care held s (Some p) r.plan p.cuts given new) program_is works))
-  ran_step name tree r program is program_is given new (inr event) = inr (event.0, (event.1, event.2), event.3)
-
-  -- a fetch before its work
-  pub fetched_err : (name : List ℕ) (as_run : Bool) (why : Refusal) → IsFetching t name as_run (Err why) ⊎ (why ≡ refusal.Memory) → machine.Performs care held s (command.Fetch name as_run) (refused s why) ⊎ IsEvent care s (command.Fetch name as_run) why
-  fetched_err name as_run why either = elim either [
-    | inl is ↦ inl (Err why, subst (λ x. IsFetching x name as_run (Err why)) same is, refl)
-    | inr none ↦ inr (subst (λ w. IsEvent care s (command.Fetch name as_run) w) (sym none) (tt, tt))
-  ]
-
-  -- its plan was worked off
-  pub fetched_step : (name : List ℕ) (as_run : Bool) (target : Target) (cuts : Cuts) → IsFetching t name as_run (Ok target) → cuts ≡ target.cuts → (given : Answer) (new : State)
-      → WorkStep care held s None target.plan cuts given new → machine.Step care held s (command.Fetch name as_run) given new
-  fetched_step name as_run target cuts is cuts_are given new (inl works) =
-      inl (Ok target, subst (λ x. IsFetching x name as_run (Ok target)) same is, subst (λ (c : Cuts). IsWorkOn care held s None target.plan c given new) cuts_are works)
-  fetched_step name as_run target cuts is cuts_are given new (inr event) = inr (event.0, (event.1, event.2), event.3)
 
 -- want of memory may come in the course of any command
 pub want_event : (care : Care) (s : State) (c : Command) → IsEvent care s c refusal.Memory
@@ -190,32 +164,42 @@ refused_work care held s program plan cuts (run.Damaged file kept found taken) i
 refused_work care held s program plan cuts (run.Unreadable file at taken) is extent = absurd is
 refused_work care held s program plan cuts run.Memory is extent = inr (refusal.Memory, tt, tt, refl)
 
--- files were read before it
-module _ (care : Care) (u v w : View) (held : List ℕ) (s : State) (program : Option Program) (plan : PlainPlan) (cuts : Cuts) (before : StaysSound care s u v) where
-  pub works_behind : (result : Result (FolderSession × Answer) Failed) → IfOk result (λ next. WorksOff care v w held next.0 s program plan cuts next.1) → IfOk result (λ next. WorksOff care u w held next.0 s program plan cuts next.1)
-  works_behind (Ok next) done = record { new = done.new; step = done.step; stands = done.stands; since = spans_on Everything (IsSoundForOneOf care s done.new) u v w (since_stays care u v w s done.new before done.new) done.since }
-  works_behind (Err failed) done = tt
+-- ---- a run or a fetch
 
-  pub breaks_off_behind : (result : Result (FolderSession × Answer) Failed) → OnErr result (BreaksOff care v w held s program plan cuts) → OnErr result (BreaksOff care u w held s program plan cuts)
-  breaks_off_behind (Ok next) broke = tt
-  breaks_off_behind (Err failed) broke = record { answer = broke.answer; new = broke.new; step = broke.step; recorded = broke.recorded; since = spans_on Everything (IsSoundForOneOf care s broke.new) u v w (since_stays care u v w s broke.new before broke.new) broke.since; left = broke.left }
+module _ (care : Care) (held : List ℕ) (t : Table) (s : State) (same : t ≡ table s) where
+  -- it is refused before its work
+  pub no_work : (c : Command) (why : Refusal) → IsNoWorkOf t c why → machine.Performs care held s c (refused s why) ⊎ IsEvent care s c why
+  no_work (command.Run name tree) why either = elim either [
+    | inl is ↦ inl (subst (λ x. RunsTo care held s x (refused s why)) (sym (subst (λ x. running x name tree ≡ Err why) same is)) refl)
+    | inr none ↦ inr (subst (λ w. IsEvent care s (command.Run name tree) w) (sym none) (tt, tt))
+  ]
+  no_work (command.Fetch name as_run) why either = elim either [
+    | inl is ↦ inl (Err why, subst (λ x. IsFetching x name as_run (Err why)) same is, refl)
+    | inr none ↦ inr (subst (λ w. IsEvent care s (command.Fetch name as_run) w) (sym none) (tt, tt))
+  ]
+  no_work _ why none = absurd none
 
--- a run whose work is done, or breaks off
-module _ (care : Care) (held : List ℕ) (u v : View) (s : State) (t : Table) (same : t ≡ table s) (name : List ℕ) (tree : PlainTree) (r : Run) (program : Program) (is : running t name tree ≡ Ok r) (program_is : program ≡ r.program) where
-  pub ran_performs : (result : Result (FolderSession × Answer) Failed) → IfOk result (λ next. WorksOff care u v held next.0 s (Some program) r.plan program.cuts next.1) → IfOk result (λ next. Performs care u v held next.0 s (command.Run name tree) next.1)
-  ran_performs (Ok next) done = record { new = done.new; step = ran_step care held t s same name tree r program is program_is next.1 done.new done.step; stands = done.stands; since = done.since }
-  ran_performs (Err failed) done = tt
+  -- a step of its work is its step
+  step_of : (c : Command) (plan : PlainPlan) (aim : Purpose) → IsWorkOf t c plan aim → (given : Answer) (new : State) → WorkStep care held s (program_for aim) plan (cuts_for aim) given new → machine.Step care held s c given new
+  step_of (command.Run name tree) plan (purpose.Run program) is given new (inl works) =
+      inl (subst (λ x. RunsTo care held s x (outcome given new)) (sym (subst (λ x. running x name tree ≡ Ok (record { plan = plan; program = program })) same is)) works)
+  step_of (command.Run name tree) plan (purpose.Run program) is given new (inr event) = inr (event.0, (event.1, event.2), event.3)
+  step_of (command.Fetch name as_run) plan (purpose.Fetch cuts) is given new (inl works) =
+      inl (Ok (record { plan = plan; cuts = cuts }), subst (λ x. IsFetching x name as_run (Ok (record { plan = plan; cuts = cuts }))) same is, works)
+  step_of (command.Fetch name as_run) plan (purpose.Fetch cuts) is given new (inr event) = inr (event.0, (event.1, event.2), event.3)
+  step_of _ plan _ is given new step = absurd is
 
-  pub ran_breaks : (result : Result (FolderSession × Answer) Failed) → OnErr result (BreaksOff care u v held s (Some program) r.plan program.cuts) → OnErr result (Breaks care u v held s (command.Run name tree))
-  ran_breaks (Ok next) broke = tt
-  ran_breaks (Err failed) broke = record { answer = broke.answer; new = broke.new; step = ran_step care held t s same name tree r program is program_is broke.answer broke.new broke.step; recorded = broke.recorded; since = broke.since; left = broke.left }
+  module _ (c : Command) (plan : PlainPlan) (aim : Purpose) (is : IsWorkOf t c plan aim) (program : Option Program) (program_is : program ≡ program_for aim) (cuts : Cuts) (cuts_are : cuts ≡ cuts_for aim) where
+    pub work_step : (given : Answer) (new : State) → WorkStep care held s program plan cuts given new → machine.Step care held s c given new
+    work_step given new step =
+        step_of c plan aim is given new (subst (λ (p : Option Program). WorkStep care held s p plan (cuts_for aim) given new) program_is (subst (λ (x : Cuts). WorkStep care held s program plan x given new) cuts_are step))
 
--- and a fetch
-module _ (care : Care) (held : List ℕ) (u v : View) (s : State) (t : Table) (same : t ≡ table s) (name : List ℕ) (as_run : Bool) (target : Target) (cuts : Cuts) (is : IsFetching t name as_run (Ok target)) (cuts_are : cuts ≡ target.cuts) where
-  pub fetched_performs : (result : Result (FolderSession × Answer) Failed) → IfOk result (λ next. WorksOff care u v held next.0 s None target.plan cuts next.1) → IfOk result (λ next. Performs care u v held next.0 s (command.Fetch name as_run) next.1)
-  fetched_performs (Ok next) done = record { new = done.new; step = fetched_step care held t s same name as_run target cuts is cuts_are next.1 done.new done.step; stands = done.stands; since = done.since }
-  fetched_performs (Err failed) done = tt
+    -- files were read before it
+    module _ (u v w : View) (before : StaysSound care s u v) where
+      pub work_performs : (result : Result (FolderSession × Answer) Failed) → IfOk result (λ next. WorksOff care v w held next.0 s program plan cuts next.1) → IfOk result (λ next. Performs care u w held next.0 s c next.1)
+      work_performs (Ok next) done = record { new = done.new; step = work_step next.1 done.new done.step; stands = done.stands; since = spans_on Everything (IsSoundForOneOf care s done.new) u v w (since_stays care u v w s done.new before done.new) done.since }
+      work_performs (Err failed) done = tt
 
-  pub fetched_breaks : (result : Result (FolderSession × Answer) Failed) → OnErr result (BreaksOff care u v held s None target.plan cuts) → OnErr result (Breaks care u v held s (command.Fetch name as_run))
-  fetched_breaks (Ok next) broke = tt
-  fetched_breaks (Err failed) broke = record { answer = broke.answer; new = broke.new; step = fetched_step care held t s same name as_run target cuts is cuts_are broke.answer broke.new broke.step; recorded = broke.recorded; since = broke.since; left = broke.left }
+      pub work_breaks : (result : Result (FolderSession × Answer) Failed) → OnErr result (BreaksOff care v w held s program plan cuts) → OnErr result (Breaks care u w held s c)
+      work_breaks (Ok next) broke = tt
+      work_breaks (Err failed) broke = record { answer = broke.answer; new = broke.new; step = work_step broke.answer broke.new broke.step; recorded = broke.recorded; since = spans_on Everything (IsSoundForOneOf care s broke.new) u v w (since_stays care u v w s broke.new before broke.new) broke.since; left = broke.left }

@@ -1,15 +1,13 @@
 -- The bytes that a command takes.
-use Rattle.std.proofs.Common.{◌≡◌, ◌⊎◌, ◌+◌, ℕ, Bool, List, Ok, Err, Result, IfOk, sym, ◌∙◌, subst, inl, inr, arith}
+use Rattle.std.proofs.Common.{◌≡◌, ◌⊎◌, ◌+◌, ℕ, Ok, Err, Result, IfOk, sym, ◌∙◌, subst, inl, inr, arith}
 use Rattle.outside_traits.specs.View.{Counts}
 use Rattle.outside_traits.specs.declared.failed.Failed.{Failed}
 use Rattle.plan_core.specs.PlainPlan.{PlainPlan}
-use Rattle.plan_grammar.specs.PlainNamed.{PlainTree}
 use Rattle.estimator.specs.Cuts.{Cuts}
 use Rattle.rewrite_core.specs.Files.{files_of}
 use Rattle.catalog_core.specs.Named.{bytes_named}
 use Rattle.catalog_core.specs.Table.{Table}
-use Rattle.planning.specs.Fetching.{IsFetching}
-use Rattle.planning.specs.Running.{Run, Target, running}
+use Rattle.planning.specs.Running.{Run, running}
 use Rattle.script_text.specs.declared.answer.Answer.{Answer}
 use Rattle.script_text.specs.declared.answer.Answer.TheVariants as answer
 use Rattle.script_text.specs.declared.answer.Refusal.{Refusal}
@@ -18,8 +16,11 @@ use Rattle.script_text.specs.declared.item.Command.TheVariants as command
 use Rattle.executor.specs.Running.{TookAtMost}
 use Rattle.work_run.specs.Ends.{CountsRead}
 use Rattle.folder_session.specs.declared.session.FolderSession.{FolderSession}
+use Rattle.folder_session.specs.declared.wanting.Purpose.{Purpose}
+use Rattle.folder_session.specs.declared.wanting.Purpose.TheVariants as purpose
 use Rattle.folder_session.specs.Causes.{TellsOfNoFile}
 use Rattle.folder_session.specs.Taken.{TakesNone, TakesInTurns, TakesForRun, TakesFor, TakesAsTold}
+use Rattle.folder_session.specs.Wanted.{IsWorkOf, cuts_for}
 use Rattle.folder_session.specs.Working.{TellsRead}
 
 -- ---- counts
@@ -55,12 +56,10 @@ turns_then t plan cuts old mid new (inl none) same = inl (same ∙ none)
 turns_then t plan cuts old mid new (inr (form, took)) same =
     inr (form, record { rewriting = took.rewriting; after = took.after; most = most_then (took.after.bytes + bytes_named t (files_of took.rewriting)) old mid new took.most same })
 
-pub taken_for : (t : Table) (name : List ℕ) (tree : PlainTree) (run : Run) (old new : Counts) → running t name tree ≡ Ok run → TookForWork t run.plan run.program.cuts old new → TakesFor t (command.Run name tree) old new
-taken_for t name tree run old new is took = subst (λ (planned : Result Run Refusal). TakesForRun t planned old new) (sym is) took
-
-pub fetched_for : (t : Table) (name : List ℕ) (as_run : Bool) (target : Target) (old new : Counts) → IsFetching t name as_run (Ok target) → TookForWork t target.plan target.cuts old new → TakesFor t (command.Fetch name as_run) old new
-fetched_for t name as_run target old new is (inl none) = inl none
-fetched_for t name as_run target old new is (inr took) = inr (target, is, took)
+pub took_for : (t : Table) (c : Command) (plan : PlainPlan) (aim : Purpose) (old new : Counts) → IsWorkOf t c plan aim → TookForWork t plan (cuts_for aim) old new → TakesFor t c old new
+took_for t (command.Run name tree) plan (purpose.Run program) old new is took = subst (λ (planned : Result Run Refusal). TakesForRun t planned old new) (sym is) took
+took_for t (command.Fetch name as_run) plan (purpose.Fetch cuts) old new is took = elim took [ inl none ↦ inl none | inr turns ↦ inr (record { plan = plan; cuts = cuts }, is, turns) ]
+took_for t _ plan _ old new is took = absurd is
 
 -- ---- answers
 

@@ -4,5 +4,6 @@ pub mod Outcomes
 pub mod Refusals
 pub mod Standing
 pub mod Taken
+pub mod Wanted
 pub mod WorkRefusals
 pub mod Working

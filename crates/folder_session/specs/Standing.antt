@@ -111,7 +111,7 @@ abbrev pub WorkChangesAtMost : Folder → View → View → Type 0
 WorkChangesAtMost folder u v = Spans (IsChangedByWork folder) (λ image. Unit {0}) u v
 
 -- the files that a command may change: the log in use; an append the next file, a run, a fetch or the close of a job others that no
--- state names yet, and a collection, a run or a fetch those of kept results, which it removes
+-- state names yet, and these and a collection those of kept results, which they remove
 abbrev pub MayChange : Folder → Command → ℕ → Type 0
 MayChange folder (command.Stream name columns) file = IsLogInUse folder file
 MayChange folder (command.Append name lines) file = IsAppended folder file
@@ -123,7 +123,7 @@ MayChange folder command.Catalog file = ⊥
 MayChange folder (command.OpenJob job name tree) file = ⊥
 MayChange folder (command.Step job) file = ⊥
 MayChange folder (command.DropJob job) file = ⊥
-MayChange folder c file = IsWritten folder file
+MayChange folder (command.Close job) file = IsChangedByWork folder file
 
 -- no other file is changed, nor what a crash since leaves of one
 abbrev pub ChangesAtMost : Folder → Command → View → View → Type 0

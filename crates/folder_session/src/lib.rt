@@ -8,6 +8,7 @@ mod listing;
 pub mod refusals;
 pub mod session;
 mod turning;
+mod wanting;
 mod working;
 
 pub use choosing::{NormalChoice, chosen};

@@ -181,8 +181,14 @@ impl FolderSession {
         match command {
             Command::Stream { name, columns } => self.make(store, name, columns),
             Command::Append { name, lines } => self.append(store, name, lines),
-            Command::Run { name, plan } => self.run(store, name, &plan, held),
-            Command::Fetch { name, as_run } => self.fetch(store, name, as_run, held),
+            Command::Run { name, plan } => {
+                let wanted = self.want_run(name, &plan);
+                self.work(store, wanted, held)
+            }
+            Command::Fetch { name, as_run } => {
+                let wanted = self.want_fetch(name, as_run);
+                self.work(store, wanted, held)
+            }
             Command::Collect { bytes } => self.collect(store, bytes, held),
             Command::Entries => Ok(self.tell_entries()),
             Command::Catalog => Ok(self.tell_catalog()),

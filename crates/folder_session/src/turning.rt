@@ -9,12 +9,13 @@ ghost use Rattle.catalog_core.specs.Catalogs.{table_of};
 ghost use Rattle.folder.specs.Left.{IsLeft};
 ghost use Rattle.folder.specs.Sound.{Care};
 ghost use Rattle.folder.specs.State.{State, table};
-ghost use Rattle.planning.specs.Running.{Target, IsTypedAt};
+ghost use Rattle.planning.specs.Running.{IsTypedAt};
 ghost use Rattle.script_text.specs.declared.answer.Refusal.{Refusal};
 ghost use Rattle.work_run.specs.Ends.{CountsRead};
 ghost use Rattle.work_turns.specs.Ends.{IsToldLast};
 ghost use Rattle.folder_session.specs.Machine.{WorkStep};
 ghost use Rattle.folder_session.specs.Taken.{TakesNone, TakesInTurns};
+ghost use Rattle.folder_session.specs.Wanted.{target_at};
 ghost use Rattle.folder_session.specs.Working.{EndsInTurns, IsFoundFor};
 
 use crate::choosing::{NormalChoice, chosen};
@@ -38,27 +39,21 @@ pub(crate) fn read_in_turns<D: Store>(
     typed: Typed,
     cuts: &[Cut],
 ) -> Result<LastTurn, Refusal>
-    requires { (target : Target) × IsTypedAt (table_of catalog.now) target typed cuts.now }
-    ensures ok { IsTrue D.tells → (care : Care) (s : State) (target : Target)
-        → IsLeft care (D.view store.old) s s → table_of catalog.now ≡ table s
-        → IsTypedAt (table_of catalog.now) target typed cuts.now
-        → IfOk result (EndsInTurns care s target.plan cuts.now) }
-    ensures err { IsTrue D.tells → (care : Care) (s : State) (target : Target)
-        → IsLeft care (D.view store.old) s s → table_of catalog.now ≡ table s
-        → IsTypedAt (table_of catalog.now) target typed cuts.now
-        → IfErr result (λ why. (held : List ℕ) (program : Option Program)
-        → WorkStep care held s program target.plan cuts.now (Answer.Refused why) s) }
+    requires { IsTypedAt (table_of catalog.now) (target_at typed cuts.now) typed cuts.now }
+    ensures ok { IsTrue D.tells → (care : Care) (s : State) → IsLeft care (D.view store.old) s s
+        → table_of catalog.now ≡ table s → IfOk result (EndsInTurns care s typed.plan cuts.now) }
+    ensures err { IsTrue D.tells → (care : Care) (s : State) → IsLeft care (D.view store.old) s s
+        → table_of catalog.now ≡ table s → IfErr result (λ why. (held : List ℕ) (program : Option Program)
+        → WorkStep care held s program typed.plan cuts.now (Answer.Refused why) s) }
     ensures told { IfOk result (IsToldLast (table_of catalog.now)) }
     ensures taken { IsTrue D.tells → (care : Care) (s : State) → IsLeft care (D.view store.old) s s
         → table_of catalog.now ≡ table s
         → IfOk result (λ last. CountsRead last.read (D.counts store.old) (D.counts store.new)) }
-    ensures most { IsTrue D.tells → (target : Target) → IsTypedAt (table_of catalog.now) target typed cuts.now
-        → TakesNone (D.counts store.old) (D.counts store.new)
-        ⊎ TakesInTurns (table_of catalog.now) target.plan cuts.now (D.counts store.old)
+    ensures most { IsTrue D.tells → TakesNone (D.counts store.old) (D.counts store.new)
+        ⊎ TakesInTurns (table_of catalog.now) typed.plan cuts.now (D.counts store.old)
         (D.counts store.new) }
-    ensures found { IsTrue D.tells → (target : Target)
-        → IsTypedAt (table_of catalog.now) target typed cuts.now
-        → IfErr result (IsFoundFor (table_of catalog.now) target.plan cuts.now (D.view store.old).files) }
+    ensures found { IsTrue D.tells
+        → IfErr result (IsFoundFor (table_of catalog.now) typed.plan cuts.now (D.view store.old).files) }
     ensures fault { IsErrOf result Refusal.Fault → Rose (D.counts store.old).reads (D.counts store.new).reads }
     ensures only_fault { (IsErrOf result Refusal.Fault → ⊥)
         → (D.counts store.new).reads ≡ (D.counts store.old).reads }

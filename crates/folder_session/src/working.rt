@@ -1,10 +1,9 @@
 //! Plans that are worked off.
-ghost use Rattle.std.specs.Prelude.{ℕ, ◌≡◌, ◌⊎◌, ◌<◌, List, Option, IsTrue, IfOk, OnOk, OnErr};
+ghost use Rattle.std.specs.Prelude.{ℕ, ◌≡◌, ◌⊎◌, ◌<◌, List, Option, IsTrue, IfOk, IsErrOf, OnOk, OnErr};
 ghost use Rattle.outside_traits.specs.Counts.{Rose};
 ghost use Rattle.outside_traits.specs.View.{View, Counts};
 ghost use Rattle.outside_traits.specs.Calls.{Rises};
 ghost use Rattle.plan_core.specs.PlainPlan.{PlainPlan};
-ghost use Rattle.plan_grammar.specs.Counts.{IsWithinLimits};
 ghost use Rattle.estimator.specs.Cuts.{Cuts};
 ghost use Rattle.catalog_types.specs.PlainEntry.{PlainNewEntry};
 ghost use Rattle.catalog_types.specs.declared.change.Change.TheVariants as change;
@@ -20,23 +19,24 @@ ghost use Rattle.folder.specs.State.{State};
 ghost use Rattle.later_states.specs.Later.{IsLater, SparesHeld};
 ghost use Rattle.script_text.specs.Answer.{IsNarrow};
 ghost use Rattle.script_text.specs.declared.answer.Refusal.{Refusal};
-ghost use Rattle.script_text.specs.declared.item.Command.TheVariants as command;
+ghost use Rattle.script_text.specs.declared.item.Command.{Command};
 ghost use Rattle.work_plan.specs.Planning.{IsWorkPlan};
 ghost use Rattle.work_run.specs.Ends.{AreNewFiles};
 ghost use Rattle.work_turns.specs.Ends.{IsToldLast, files_among};
 ghost use Rattle.folder_session.specs.Causes.{HasByteCause};
 ghost use Rattle.folder_session.specs.Taken.{TakesAsTold, TakesFor};
+ghost use Rattle.folder_session.specs.Wanted.{CanWork, IsWanted};
 ghost use Rattle.folder_session.specs.Working.{EndsInTurns, TellsRead, answer_of};
 
 use crate::session::FolderSession;
 use crate::turning::read_in_turns;
+use crate::wanting::Wanted;
 use catalog_core::files_of_tables;
 use catalog_types::Program;
 use folder::{left_stores, next_states};
 use outside_traits::{Failed, Store};
-use plan_text::NamedPlan;
-use planning::{FetchPlan, Recording, RunPlan, plan_fetch, plan_run};
-use rows_core::{Memory, Name, Seq};
+use planning::Recording;
+use rows_core::{Memory, Seq};
 use script_text::{Answer, Refusal};
 use work_plan::WorkPlan;
 use work_run::Work;
@@ -45,25 +45,27 @@ use work_turns::{LastTurn, WorkInTurns, work_of_turns};
 impl FolderSession {
     ghost use Rattle.folder_session.specs.Standing.{Stands, Performs, Breaks, Records, KeepsNot, folder_of};
     ghost use Rattle.folder_session.specs.Standing.{WorksOff, BreaksOff, LeavesWhereRefused};
-    ghost use Rattle.folder_session.specs.Standing.{AreGoneSince, ChangesAtMost, WorkChangesAtMost, WritesAndRemoves};
+    ghost use Rattle.folder_session.specs.Standing.{AreGoneSince, WorkChangesAtMost, WritesAndRemoves};
 
-    /// Works a plan off on all extents, and records the program that it is stored as where it has a result.
-    pub(crate) fn run<D: Store>(
+    /// Works off what a run or a fetch wants, or answers why it is refused before: the files of what is taken of
+    /// its plan are read in turns, and what they come to is recorded.
+    pub(crate) fn work<D: Store>(
         self,
         store: &mut D,
-        name: Name,
-        plan: &NamedPlan,
+        wanted: Result<Wanted, Refusal>,
         held: &[u32],
     ) -> Result<(FolderSession, Answer), Failed>
-        requires { IsWithinLimits plan.now }
-        ensures ok { IsTrue D.tells → (care : Care) (s : State) → Stands care (D.view store.old) self s
+        requires ready { IfOk wanted (CanWork (table_in (folder_of self))) }
+        requires no_fault { IsErrOf wanted Refusal.Fault → ⊥ }
+        ensures ok { IsTrue D.tells → (care : Care) (s : State) (given_to : Command)
+            → Stands care (D.view store.old) self s → IsWanted (table_in (folder_of self)) given_to wanted
             → IfOk result (λ next. Performs care (D.view store.old) (D.view store.new) held.now next.0 s
-            (command.Run name plan.now) next.1) }
-        ensures err { IsTrue D.tells → (care : Care) (s : State) → Stands care (D.view store.old) self s
-            → OnErr result (Breaks care (D.view store.old) (D.view store.new) held.now s (command.Run name plan.now)) }
+            given_to next.1) }
+        ensures err { IsTrue D.tells → (care : Care) (s : State) (given_to : Command)
+            → Stands care (D.view store.old) self s → IsWanted (table_in (folder_of self)) given_to wanted
+            → OnErr result (Breaks care (D.view store.old) (D.view store.new) held.now s given_to) }
         ensures narrow { IfOk result (λ next. IsNarrow next.1) }
-        ensures alone { ChangesAtMost (folder_of self) (command.Run name plan.now) (D.view store.old)
-            (D.view store.new) }
+        ensures alone { WorkChangesAtMost (folder_of self) (D.view store.old) (D.view store.new) }
         ensures gone { IsTrue D.tells → IfOk result (λ next. AreGoneSince (table_in (folder_of self))
             (table_in (folder_of next.0)) (D.view store.new) (D.counts store.old) (D.counts store.new)) }
         ensures later { IfOk result (λ next.
@@ -77,24 +79,21 @@ impl FolderSession {
         ensures only_fault { IfOk result (λ next. (next.1 ≡ Answer.Refused Refusal.Fault → ⊥)
             → (D.counts store.new).reads ≡ (D.counts store.old).reads) }
         ensures looks { OnErr result ((D.counts store.new).reads ≡ (D.counts store.old).reads) }
-        ensures found { IsTrue D.tells → IfOk result (λ next. HasByteCause (table_in (folder_of self))
-            (command.Run name plan.now) (D.view store.old).files next.1) }
+        ensures found { IsTrue D.tells → (given_to : Command)
+            → IsWanted (table_in (folder_of self)) given_to wanted → IfOk result (λ next. HasByteCause
+            (table_in (folder_of self)) given_to (D.view store.old).files next.1) }
         ensures taken { IsTrue D.tells → (care : Care) (s : State) → Stands care (D.view store.old) self s
             → IfOk result (λ next. TakesAsTold next.1 (D.counts store.old) (D.counts store.new)) }
-        ensures most { IsTrue D.tells → TakesFor (table_in (folder_of self)) (command.Run name plan.now)
-            (D.counts store.old) (D.counts store.new) }
+        ensures most { IsTrue D.tells → (given_to : Command)
+            → IsWanted (table_in (folder_of self)) given_to wanted
+            → TakesFor (table_in (folder_of self)) given_to (D.counts store.old) (D.counts store.new) }
         ensures crash { IsTrue D.tells → FolderStands (D.view store.old) (folder_of self)
             → IfOk result (λ next. FolderStands (D.view store.new) (folder_of next.0)) }
         ensures counts { Rises (D.counts store.old) (D.counts store.new) }
     {
         left_stores::<D>();
-        let RunPlan { typed, program } = match plan_run(
-            self.alloc,
-            self.folder.catalog(),
-            name,
-            plan,
-        ) {
-            Ok(plan) => plan,
+        let Wanted { typed, purpose } = match wanted {
+            Ok(wanted) => wanted,
             Err(refusal) => return Ok((self, Answer::Refused(refusal))),
         };
         match read_in_turns(
@@ -102,71 +101,9 @@ impl FolderSession {
             store,
             self.folder.catalog(),
             typed,
-            program.cuts.items(),
+            purpose.cuts(),
         ) {
-            Ok(last) => self.record_turns(store, Some(program), last, held),
-            Err(refusal) => Ok((self, Answer::Refused(refusal))),
-        }
-    }
-
-    /// Works off the plan that goes by a name, on all extents or, `as_run`, on those of its last run. The
-    /// name goes on standing for it as it did.
-    pub(crate) fn fetch<D: Store>(
-        self,
-        store: &mut D,
-        name: Name,
-        as_run: bool,
-        held: &[u32],
-    ) -> Result<(FolderSession, Answer), Failed>
-        ensures ok { IsTrue D.tells → (care : Care) (s : State) → Stands care (D.view store.old) self s
-            → IfOk result (λ next. Performs care (D.view store.old) (D.view store.new) held.now next.0 s
-            (command.Fetch name as_run) next.1) }
-        ensures err { IsTrue D.tells → (care : Care) (s : State) → Stands care (D.view store.old) self s
-            → OnErr result (Breaks care (D.view store.old) (D.view store.new) held.now s (command.Fetch name as_run)) }
-        ensures narrow { IfOk result (λ next. IsNarrow next.1) }
-        ensures alone { ChangesAtMost (folder_of self) (command.Fetch name as_run) (D.view store.old)
-            (D.view store.new) }
-        ensures gone { IsTrue D.tells → IfOk result (λ next. AreGoneSince (table_in (folder_of self))
-            (table_in (folder_of next.0)) (D.view store.new) (D.counts store.old) (D.counts store.new)) }
-        ensures later { IfOk result (λ next.
-            IsLater held.now (table_in (folder_of self)) (table_in (folder_of next.0))) }
-        ensures cause { OnErr result (Rose (D.counts store.old).writes (D.counts store.new).writes) }
-        ensures no_fault { OnOk result ((D.counts store.new).writes ≡ (D.counts store.old).writes) }
-        ensures refused { IfOk result
-            (λ next. LeavesWhereRefused next.1 (D.view store.old) (D.view store.new)) }
-        ensures fault { IfOk result (λ next. next.1 ≡ Answer.Refused Refusal.Fault
-            → Rose (D.counts store.old).reads (D.counts store.new).reads) }
-        ensures only_fault { IfOk result (λ next. (next.1 ≡ Answer.Refused Refusal.Fault → ⊥)
-            → (D.counts store.new).reads ≡ (D.counts store.old).reads) }
-        ensures looks { OnErr result ((D.counts store.new).reads ≡ (D.counts store.old).reads) }
-        ensures found { IsTrue D.tells → IfOk result (λ next. HasByteCause (table_in (folder_of self))
-            (command.Fetch name as_run) (D.view store.old).files next.1) }
-        ensures taken { IsTrue D.tells → (care : Care) (s : State) → Stands care (D.view store.old) self s
-            → IfOk result (λ next. TakesAsTold next.1 (D.counts store.old) (D.counts store.new)) }
-        ensures most { IsTrue D.tells → TakesFor (table_in (folder_of self)) (command.Fetch name as_run)
-            (D.counts store.old) (D.counts store.new) }
-        ensures crash { IsTrue D.tells → FolderStands (D.view store.old) (folder_of self)
-            → IfOk result (λ next. FolderStands (D.view store.new) (folder_of next.0)) }
-        ensures counts { Rises (D.counts store.old) (D.counts store.new) }
-    {
-        left_stores::<D>();
-        let FetchPlan { typed, cuts } = match plan_fetch(
-            self.alloc,
-            self.folder.catalog(),
-            name,
-            as_run,
-        ) {
-            Ok(plan) => plan,
-            Err(refusal) => return Ok((self, Answer::Refused(refusal))),
-        };
-        match read_in_turns(
-            self.alloc,
-            store,
-            self.folder.catalog(),
-            typed,
-            cuts.items(),
-        ) {
-            Ok(last) => self.record_turns(store, None, last, held),
+            Ok(last) => self.record_turns(store, purpose.program(), last, held),
             Err(refusal) => Ok((self, Answer::Refused(refusal))),
         }
     }

@@ -11,6 +11,7 @@ use Rattle.work_turns.specs.declared.turns.LastTurn.{LastTurn}
 use Rattle.folder_session.specs.Machine.{IsOfExtent, WorkStep}
 use Rattle.folder_session.specs.WorkRefusals.{refusal_of}
 use Rattle.folder_session.specs.Working.{IsFoundFor}
+use Rattle.folder_session.specs.Wanted.{target_at}
 use Rattle.folder_session.proofs.LeavingLemmas.{err_same, fault_rose, unread_counts}
 use Rattle.folder_session.proofs.RefusalLemmas.{turns_found}
 use Rattle.folder_session.proofs.StepLemmas.{refused_work}
@@ -18,59 +19,62 @@ use Rattle.folder_session.proofs.TurnLemmas.{of_extent_of}
 use Rattle.folder_session.proofs.turning.read_in_turns.Goals as goal
 
 pub run_in_turns-requires : goal.run_in_turns-requires
-run_in_turns-requires g c = (c.requires.0.plan, c.in-Ok.ensures.of_form c.requires.0 c.requires.1)
+run_in_turns-requires g c = (c.args.typed.plan, c.in-Ok.ensures.of_form (target_at c.args.typed c.args.cuts.now) c.requires)
 
 -- ---- read
 
 pub returns-in-Ok-run_in_turns-clause-ok : goal.returns-in-Ok-run_in_turns-clause-ok
-returns-in-Ok-run_in_turns-clause-ok g c = λ told care s target left means typed_at.
-    let first = c.in-Ok.ensures.of_form target typed_at in
+returns-in-Ok-run_in_turns-clause-ok g c = λ told care s left means.
+    let plan = c.args.typed.plan in
+    let first = c.in-Ok.ensures.of_form (target_at c.args.typed c.args.cuts.now) c.requires in
     record {
       form = c.in-Ok.taken.normal.plan;
       choice = c.in-Ok.taken.choice;
-      first = subst (λ (t : Table). IsChosenOf t [] target.plan c.in-Ok.taken.normal.plan c.args.cuts.now c.in-Ok.taken.choice) means first;
-      ended = c.in-Ok-run_in_turns.ensures.ok told care s target.plan left means first;
+      first = subst (λ (t : Table). IsChosenOf t [] plan c.in-Ok.taken.normal.plan c.args.cuts.now c.in-Ok.taken.choice) means first;
+      ended = c.in-Ok-run_in_turns.ensures.ok told care s plan left means first;
     }
 
 pub returns-in-Ok-run_in_turns-clause-most : goal.returns-in-Ok-run_in_turns-clause-most
-returns-in-Ok-run_in_turns-clause-most g c = λ told target typed_at. inr (c.in-Ok.taken.normal.plan, c.run_in_turns.ensures.most told target.plan (c.in-Ok.ensures.of_form target typed_at))
+returns-in-Ok-run_in_turns-clause-most g c = λ told. inr (c.in-Ok.taken.normal.plan, c.run_in_turns.ensures.most told c.args.typed.plan (c.in-Ok.ensures.of_form (target_at c.args.typed c.args.cuts.now) c.requires))
 
 -- ---- or refused
 
 pub returns-clause-err : goal.returns-clause-err
-returns-clause-err g c = λ told care s target left means typed_at held program.
+returns-clause-err g c = λ told care s left means held program.
     let t = table_of c.args.catalog.now in
+    let plan = c.args.typed.plan in
     let why = c.in-Err.refusal in
-    let first = c.in-Ok.ensures.of_form target typed_at in
-    let is = c.in-Err.ensures.err told care s target.plan left means first in
-    let cause = c.in-Err.ensures.cause target.plan first in
-    let extent = of_extent_of c.serving_rewritings.ensures.there c.taken_rewritings.ensures.serves c.results_are_left_out.ensures.table t c.streams.ensures.table target.plan c.in-Ok.taken.normal.plan c.args.cuts.now typed_at.are_cuts cause.rewriting cause.after why cause.of_extent in
-    subst (λ (w : Refusal). WorkStep care held s program target.plan c.args.cuts.now (answer.Refused w) s) (sym c.refusal_of.ensures)
-    (refused_work care held s program target.plan c.args.cuts.now why is (subst (λ (x : Table). IsOfExtent x (refusal_of why)) means extent))
+    let first = c.in-Ok.ensures.of_form (target_at c.args.typed c.args.cuts.now) c.requires in
+    let is = c.in-Err.ensures.err told care s plan left means first in
+    let cause = c.in-Err.ensures.cause plan first in
+    let extent = of_extent_of c.serving_rewritings.ensures.there c.taken_rewritings.ensures.serves c.results_are_left_out.ensures.table t c.streams.ensures.table plan c.in-Ok.taken.normal.plan c.args.cuts.now c.requires.are_cuts cause.rewriting cause.after why cause.of_extent in
+    subst (λ (w : Refusal). WorkStep care held s program plan c.args.cuts.now (answer.Refused w) s) (sym c.refusal_of.ensures)
+    (refused_work care held s program plan c.args.cuts.now why is (subst (λ (x : Table). IsOfExtent x (refusal_of why)) means extent))
 
 pub returns-clause-most : goal.returns-clause-most
-returns-clause-most g c = λ told target typed_at. inr (c.in-Ok.taken.normal.plan, c.run_in_turns.ensures.most told target.plan (c.in-Ok.ensures.of_form target typed_at))
+returns-clause-most g c = λ told. inr (c.in-Ok.taken.normal.plan, c.run_in_turns.ensures.most told c.args.typed.plan (c.in-Ok.ensures.of_form (target_at c.args.typed c.args.cuts.now) c.requires))
 
 pub returns-clause-found : goal.returns-clause-found
-returns-clause-found g c = λ told target typed_at.
+returns-clause-found g c = λ told.
     let t = table_of c.args.catalog.now in
+    let plan = c.args.typed.plan in
     let files = (g.D.Store.view c.args.store.now).files in
     let old = g.D.Store.counts c.args.store.now in
     let new = g.D.Store.counts c.run_in_turns.new.store in
-    subst (IsFoundFor t target.plan c.args.cuts.now files) (sym c.refusal_of.ensures)
-    (turns_found t files target.plan c.in-Ok.taken.normal.plan c.args.cuts.now old new g.D.Store.tells told c.in-Err.refusal (c.in-Err.ensures.cause target.plan (c.in-Ok.ensures.of_form target typed_at)))
+    subst (IsFoundFor t plan c.args.cuts.now files) (sym c.refusal_of.ensures)
+    (turns_found t files plan c.in-Ok.taken.normal.plan c.args.cuts.now old new g.D.Store.tells told c.in-Err.refusal (c.in-Err.ensures.cause plan (c.in-Ok.ensures.of_form (target_at c.args.typed c.args.cuts.now) c.requires)))
 
 pub returns-clause-fault : goal.returns-clause-fault
 returns-clause-fault g c = λ is.
-    let cause = c.in-Err.ensures.cause c.requires.0.plan (c.in-Ok.ensures.of_form c.requires.0 c.requires.1) in
+    let cause = c.in-Err.ensures.cause c.args.typed.plan (c.in-Ok.ensures.of_form (target_at c.args.typed c.args.cuts.now) c.requires) in
     fault_rose (file_at (table_of c.args.catalog.now)) (files_of cause.rewriting) (g.D.Store.counts c.args.store.now) (g.D.Store.counts c.run_in_turns.new.store) c.in-Err.refusal cause.cause (sym c.refusal_of.ensures ∙ err_same {T = LastTurn} c.refusal_of.result refusal.Fault is)
 
 pub returns-clause-only_fault : goal.returns-clause-only_fault
 returns-clause-only_fault g c = λ other.
-    let cause = c.in-Err.ensures.cause c.requires.0.plan (c.in-Ok.ensures.of_form c.requires.0 c.requires.1) in
+    let cause = c.in-Err.ensures.cause c.args.typed.plan (c.in-Ok.ensures.of_form (target_at c.args.typed c.args.cuts.now) c.requires) in
     unread_counts (file_at (table_of c.args.catalog.now)) (files_of cause.rewriting) (g.D.Store.counts c.args.store.now) (g.D.Store.counts c.run_in_turns.new.store) c.in-Err.refusal cause.cause (λ is. other (ap Err (c.refusal_of.ensures ∙ is)))
 
 -- ---- want of memory for the choice
 
 pub returns-in_default-clause-err : goal.returns-in_default-clause-err
-returns-in_default-clause-err g c = λ told care s target left means typed_at held program. inr (refusal.Memory, tt, tt, refl)
+returns-in_default-clause-err g c = λ told care s left means held program. inr (refusal.Memory, tt, tt, refl)

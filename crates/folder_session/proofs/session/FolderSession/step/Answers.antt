@@ -3,13 +3,12 @@ use Rattle.script_text.specs.declared.item.Command.{Command}
 use Rattle.script_text.specs.declared.item.Command.TheVariants as command
 use Rattle.folder.specs.Folders.{table_in, FolderStands}
 use Rattle.folder_session.specs.declared.session.FolderSession.{FolderSession}
-use Rattle.folder_session.specs.Causes.{HasByteCause}
 use Rattle.folder_session.specs.Machine.{told_catalog, told_entries}
 use Rattle.folder_session.specs.Standing.{Performs, ChangesAtMost, folder_of}
-use Rattle.folder_session.specs.Taken.{TakesFor}
+use Rattle.folder_session.specs.Wanted.{IsWanted}
 use Rattle.folder_session.proofs.CollectLemmas.{tells_list, list_leaves, list_narrow, list_tells}
 use Rattle.folder_session.proofs.DroppedLemmas.{gone_from_none, none_gone}
-use Rattle.folder_session.proofs.RefusalLemmas.{stream_causes, append_causes, collect_causes, entries_causes, catalog_causes, no_fault_in}
+use Rattle.folder_session.proofs.RefusalLemmas.{no_file_causes, no_fault_in}
 use Rattle.folder_session.proofs.TakenLemmas.{told_of_any, none_for}
 use Rattle.folder_session.proofs.LeavingLemmas.{changes_none, looked_before, failed_after}
 use Rattle.folder_session.proofs.LaterLemmas.{same_later}
@@ -25,7 +24,7 @@ returns-in-Append-clause-ok g c = λ told care s stands.
 
 pub returns-in-Run-clause-ok : goal.returns-in-Run-clause-ok
 returns-in-Run-clause-ok g c = λ told care s stands.
-    subst (λ (x : Command). IfOk c.run.result (λ next. Performs care (g.D.Store.view c.args.store.now) (g.D.Store.view c.run.new.store) c.args.held.now next.0 s x next.1)) (sym c.in-Run.is) (c.run.ensures.ok told care s stands)
+    c.work.ensures.ok told care s c.args.command stands (subst (λ (x : Command). IsWanted (table_in (folder_of c.args.self)) x c.want_run-wanted.result) (sym c.in-Run.is) c.want_run-wanted.ensures.wanted)
 
 pub returns-in-Stream-clause-taken : goal.returns-in-Stream-clause-taken
 returns-in-Stream-clause-taken g c = λ told care s stands. told_of_any (g.D.Store.counts c.args.store.now) (g.D.Store.counts c.make.new.store) _ c.make.ensures.of_no_file
@@ -40,18 +39,16 @@ pub returns-in-Append-clause-most : goal.returns-in-Append-clause-most
 returns-in-Append-clause-most g c = λ told. none_for (table_in (folder_of c.args.self)) c.args.command (g.D.Store.counts c.args.store.now) (g.D.Store.counts c.append.new.store) c.append.ensures.counts.taken
 
 pub returns-in-Run-clause-most : goal.returns-in-Run-clause-most
-returns-in-Run-clause-most g c = λ told.
-    subst (λ (x : Command). TakesFor (table_in (folder_of c.args.self)) x (g.D.Store.counts c.args.store.now) (g.D.Store.counts c.run.new.store)) (sym c.in-Run.is) (c.run.ensures.most told)
+returns-in-Run-clause-most g c = λ told. c.work.ensures.most told c.args.command (subst (λ (x : Command). IsWanted (table_in (folder_of c.args.self)) x c.want_run-wanted.result) (sym c.in-Run.is) c.want_run-wanted.ensures.wanted)
 
 pub returns-in-Stream-clause-found : goal.returns-in-Stream-clause-found
-returns-in-Stream-clause-found g c = λ told. stream_causes (table_in (folder_of c.args.self)) (g.D.Store.view c.args.store.now).files _ _ _ _ c.in-Stream.is c.make.ensures.of_no_file
+returns-in-Stream-clause-found g c = λ told. no_file_causes (table_in (folder_of c.args.self)) (g.D.Store.view c.args.store.now).files c.args.command _ c.make.ensures.of_no_file
 
 pub returns-in-Append-clause-found : goal.returns-in-Append-clause-found
-returns-in-Append-clause-found g c = λ told. append_causes (table_in (folder_of c.args.self)) (g.D.Store.view c.args.store.now).files _ _ _ _ c.in-Append.is c.append.ensures.of_no_file
+returns-in-Append-clause-found g c = λ told. no_file_causes (table_in (folder_of c.args.self)) (g.D.Store.view c.args.store.now).files c.args.command _ c.append.ensures.of_no_file
 
 pub returns-in-Run-clause-found : goal.returns-in-Run-clause-found
-returns-in-Run-clause-found g c = λ told.
-    subst (λ (x : Command). IfOk c.run.result (λ next. HasByteCause (table_in (folder_of c.args.self)) x (g.D.Store.view c.args.store.now).files next.1)) (sym c.in-Run.is) (c.run.ensures.found told)
+returns-in-Run-clause-found g c = λ told. c.work.ensures.found told c.args.command (subst (λ (x : Command). IsWanted (table_in (folder_of c.args.self)) x c.want_run-wanted.result) (sym c.in-Run.is) c.want_run-wanted.ensures.wanted)
 
 pub returns-in-Stream-clause-fault : goal.returns-in-Stream-clause-fault
 returns-in-Stream-clause-fault g c = no_fault_in _ _ _ c.make.ensures.of_no_file
@@ -84,22 +81,20 @@ pub returns-in-Append-clause-gone : goal.returns-in-Append-clause-gone
 returns-in-Append-clause-gone g c = λ told. none_gone (table_in (folder_of c.args.self)) (g.D.Store.view c.append.new.store) (g.D.Store.counts c.args.store.now) (g.D.Store.counts c.append.new.store) c.append.result c.append.ensures.later
 
 pub returns-in-Run-clause-alone : goal.returns-in-Run-clause-alone
-returns-in-Run-clause-alone g c = subst (λ (x : Command). ChangesAtMost (folder_of c.args.self) x (g.D.Store.view c.args.store.now) (g.D.Store.view c.run.new.store)) (sym c.in-Run.is) c.run.ensures.alone
+returns-in-Run-clause-alone g c = subst (λ (x : Command). ChangesAtMost (folder_of c.args.self) x (g.D.Store.view c.args.store.now) (g.D.Store.view c.work.new.store)) (sym c.in-Run.is) c.work.ensures.alone
 
 pub returns-in-Fetch-clause-alone : goal.returns-in-Fetch-clause-alone
-returns-in-Fetch-clause-alone g c = subst (λ (x : Command). ChangesAtMost (folder_of c.args.self) x (g.D.Store.view c.args.store.now) (g.D.Store.view c.fetch.new.store)) (sym c.in-Fetch.is) c.fetch.ensures.alone
+returns-in-Fetch-clause-alone g c = subst (λ (x : Command). ChangesAtMost (folder_of c.args.self) x (g.D.Store.view c.args.store.now) (g.D.Store.view c.work-in-Fetch.new.store)) (sym c.in-Fetch.is) c.work-in-Fetch.ensures.alone
 
 pub returns-in-Fetch-clause-ok : goal.returns-in-Fetch-clause-ok
 returns-in-Fetch-clause-ok g c = λ told care s stands.
-    subst (λ (x : Command). IfOk c.fetch.result (λ next. Performs care (g.D.Store.view c.args.store.now) (g.D.Store.view c.fetch.new.store) c.args.held.now next.0 s x next.1)) (sym c.in-Fetch.is) (c.fetch.ensures.ok told care s stands)
+    c.work-in-Fetch.ensures.ok told care s c.args.command stands (subst (λ (x : Command). IsWanted (table_in (folder_of c.args.self)) x c.want_fetch-wanted.result) (sym c.in-Fetch.is) c.want_fetch-wanted.ensures.wanted)
 
 pub returns-in-Fetch-clause-most : goal.returns-in-Fetch-clause-most
-returns-in-Fetch-clause-most g c = λ told.
-    subst (λ (x : Command). TakesFor (table_in (folder_of c.args.self)) x (g.D.Store.counts c.args.store.now) (g.D.Store.counts c.fetch.new.store)) (sym c.in-Fetch.is) (c.fetch.ensures.most told)
+returns-in-Fetch-clause-most g c = λ told. c.work-in-Fetch.ensures.most told c.args.command (subst (λ (x : Command). IsWanted (table_in (folder_of c.args.self)) x c.want_fetch-wanted.result) (sym c.in-Fetch.is) c.want_fetch-wanted.ensures.wanted)
 
 pub returns-in-Fetch-clause-found : goal.returns-in-Fetch-clause-found
-returns-in-Fetch-clause-found g c = λ told.
-    subst (λ (x : Command). IfOk c.fetch.result (λ next. HasByteCause (table_in (folder_of c.args.self)) x (g.D.Store.view c.args.store.now).files next.1)) (sym c.in-Fetch.is) (c.fetch.ensures.found told)
+returns-in-Fetch-clause-found g c = λ told. c.work-in-Fetch.ensures.found told c.args.command (subst (λ (x : Command). IsWanted (table_in (folder_of c.args.self)) x c.want_fetch-wanted.result) (sym c.in-Fetch.is) c.want_fetch-wanted.ensures.wanted)
 
 -- ---- a collection
 
@@ -117,7 +112,7 @@ pub returns-in-Collect-clause-most : goal.returns-in-Collect-clause-most
 returns-in-Collect-clause-most g c = λ told. none_for (table_in (folder_of c.args.self)) c.args.command (g.D.Store.counts c.args.store.now) (g.D.Store.counts c.collect.new.store) c.collect.ensures.taken
 
 pub returns-in-Collect-clause-found : goal.returns-in-Collect-clause-found
-returns-in-Collect-clause-found g c = λ told. collect_causes (table_in (folder_of c.args.self)) (g.D.Store.view c.args.store.now).files _ _ _ c.in-Collect.is c.collect.ensures.of_no_file
+returns-in-Collect-clause-found g c = λ told. no_file_causes (table_in (folder_of c.args.self)) (g.D.Store.view c.args.store.now).files c.args.command _ c.collect.ensures.of_no_file
 
 pub returns-in-Collect-clause-fault : goal.returns-in-Collect-clause-fault
 returns-in-Collect-clause-fault g c = no_fault_in _ _ _ c.collect.ensures.of_no_file
@@ -156,7 +151,7 @@ returns-in-Entries-clause-most g c = λ told. none_for (table_in (folder_of c.ar
 
 pub returns-in-Entries-clause-found : goal.returns-in-Entries-clause-found
 returns-in-Entries-clause-found g c = λ told.
-    entries_causes (table_in (folder_of c.args.self)) (g.D.Store.view c.args.store.now).files c.args.command c.tell_entries.result.1 c.in-Entries.is (list_tells told_entries (table_in (folder_of c.args.self)) _ c.tell_entries.ensures.told tt)
+    no_file_causes (table_in (folder_of c.args.self)) (g.D.Store.view c.args.store.now).files c.args.command (Ok c.tell_entries.result) (list_tells told_entries (table_in (folder_of c.args.self)) _ c.tell_entries.ensures.told tt)
 
 pub returns-in-Entries-clause-fault : goal.returns-in-Entries-clause-fault
 returns-in-Entries-clause-fault g c = no_fault_in _ _ (Ok c.tell_entries.result) (list_tells told_entries (table_in (folder_of c.args.self)) _ c.tell_entries.ensures.told tt)
@@ -192,7 +187,7 @@ returns-in-Catalog-clause-most g c = λ told. none_for (table_in (folder_of c.ar
 
 pub returns-in-Catalog-clause-found : goal.returns-in-Catalog-clause-found
 returns-in-Catalog-clause-found g c = λ told.
-    catalog_causes (table_in (folder_of c.args.self)) (g.D.Store.view c.args.store.now).files c.args.command c.tell_catalog.result.1 c.in-Catalog.is (list_tells told_catalog (table_in (folder_of c.args.self)) _ c.tell_catalog.ensures.told tt)
+    no_file_causes (table_in (folder_of c.args.self)) (g.D.Store.view c.args.store.now).files c.args.command (Ok c.tell_catalog.result) (list_tells told_catalog (table_in (folder_of c.args.self)) _ c.tell_catalog.ensures.told tt)
 
 pub returns-in-Catalog-clause-fault : goal.returns-in-Catalog-clause-fault
 returns-in-Catalog-clause-fault g c = no_fault_in _ _ (Ok c.tell_catalog.result) (list_tells told_catalog (table_in (folder_of c.args.self)) _ c.tell_catalog.ensures.told tt)
@@ -215,9 +210,3 @@ returns-in-Stream-clause-later g c = c.make.ensures.later c.args.held.now
 
 pub returns-in-Append-clause-later : goal.returns-in-Append-clause-later
 returns-in-Append-clause-later g c = c.append.ensures.later c.args.held.now
-
-pub returns-in-Run-clause-later : goal.returns-in-Run-clause-later
-returns-in-Run-clause-later g c = c.run.ensures.later
-
-pub returns-in-Fetch-clause-later : goal.returns-in-Fetch-clause-later
-returns-in-Fetch-clause-later g c = c.fetch.ensures.later
