@@ -6,6 +6,7 @@ use Rattle.outside_traits.specs.View.{View, Counts}
 use Rattle.plan_core.specs.PlainPlan.{PlainPlan}
 use Rattle.estimator.specs.Cuts.{Cuts}
 use Rattle.entry_table.specs.Ids.{is_there, without}
+use Rattle.catalog_types.specs.PlainEntry.{PlainNewEntry}
 use Rattle.catalog_types.specs.declared.change.Change.{Change}
 use Rattle.catalog_types.specs.declared.program.Program.{Program}
 use Rattle.catalog_core.specs.IsTable.{IsTable}
@@ -15,8 +16,8 @@ use Rattle.planning.specs.Appending.{Append}
 use Rattle.planning.specs.Making.{making}
 use Rattle.planning.specs.Opening.{opening}
 use Rattle.planning.specs.Running.{Run, Target, running, storing}
-use Rattle.work_run.specs.Working.{Given, WorksBy}
-use Rattle.work_turns.specs.Ends.{WorksInTurns, free_of, those_among}
+use Rattle.work_run.specs.Working.{Given, Keeps}
+use Rattle.work_turns.specs.Ends.{WorksInTurns, free_of, leaving_out, those_among}
 use Rattle.rewrite_core.specs.PlainRewriting.{PlainRewriting}
 use Rattle.script_text.specs.declared.answer.Answer.{Answer}
 use Rattle.script_text.specs.declared.answer.Answer.TheVariants as answer
@@ -28,6 +29,7 @@ use Rattle.script_text.specs.declared.item.Command.TheVariants as command
 use Rattle.script_text.specs.declared.item.Item.{Item}
 use Rattle.script_text.specs.declared.item.Item.TheVariants as item
 use Rattle.folder.specs.Folders.{journal_of, table_in}
+use Rattle.folder.specs.Next.{with_work}
 use Rattle.folder.specs.Removing.{IsFree}
 use Rattle.folder.specs.Sound.{Care}
 use Rattle.folder.specs.State.{State, IsValid, table}
@@ -35,7 +37,8 @@ use Rattle.folder.specs.declared.folder.Folder.{Folder}
 use Rattle.folder.proofs.Tables.{stands-table}
 use Rattle.folder_session.specs.Machine as folder
 use Rattle.folder_session.specs.Standing as of_folder
-use Rattle.session.specs.Machine.{Job, Machine, Outcome, outcome, job_named, is_open, OpensTo, StepsTo, IsClosing, ClosesBy, ClosesTo, DropsTo, Performs, PerformsBeside, Remains}
+use Rattle.session.specs.Machine.{Machine, Outcome, outcome, job_named, is_open, held_by, put_for, OpensTo, StepsTo, IsClosing, ClosesBy, ClosesTo, DropsTo, Performs, PerformsBeside, Remains}
+use Rattle.session.specs.MachineJob.{Job}
 use Rattle.session.specs.Machine as session
 use Rattle.session.specs.Standing.{folder_of}
 use Rattle.session.specs.Standing as standing
@@ -56,19 +59,15 @@ appended_free : (s new : State) (a : Answer) (planned : Result Append Refusal) �
 appended_free s new a (Ok plan) is = subst (LetsGo s) (sym (ap (λ (o : folder.Outcome). o.state) is)) (free_rows s plan.place plan.rows)
 appended_free s new a (Err why) is = free_same s new (ap (λ (o : folder.Outcome). o.state) is)
 
-by_free : (s new : State) (program : Option Program) (plan normal : PlainPlan) (cuts : Cuts) (r : PlainRewriting) (is : Given) → WorksBy s program plan normal cuts r is new → LetsGo s new
-by_free s new program plan normal cuts r is by =
-    subst (LetsGo s) (sym by.after) (free_work s program is.used [] by.news (news_from s.entries s.next_file by.keeps.mades by.keeps.admitted by.news by.keeps.admits by.keeps.news_are))
+kept_free : (s new : State) (program : Option Program) (used gone : List ℕ) (form : PlainPlan) (cuts : Cuts) (r : PlainRewriting) (news : List PlainNewEntry) (kept : List ℕ) → Keeps (leaving_out gone s) form cuts r news kept → new ≡ with_work s program used (those_among gone s.entries) news → LetsGo s new
+kept_free s new program used gone form cuts r news kept keeps after =
+    subst (LetsGo s) (sym after) (free_work s program used (those_among gone s.entries) news (news_from (without gone s.entries) s.next_file keeps.mades keeps.admitted news keeps.admits keeps.news_are))
 
-turns_free : (care : Care) (held : List ℕ) (s new : State) (program : Option Program) (plan form : PlainPlan) (cuts : Cuts) (is : Given) → WorksInTurns care held s program plan form cuts is new → LetsGo s new
-turns_free care held s new program plan form cuts is works =
-    let gone = free_of held works.lost in
-    let keeps = works.keeps in
-    subst (LetsGo s) (sym works.after)
-    (free_work s program is.used (those_among gone s.entries) works.news (news_from (without gone s.entries) s.next_file keeps.mades keeps.admitted works.news keeps.admits keeps.news_are))
+worked_in_turns : (care : Care) (held : List ℕ) (s new : State) (program : Option Program) (plan form : PlainPlan) (cuts : Cuts) (is : Given) → WorksInTurns care held s program plan form cuts is new → LetsGo s new
+worked_in_turns care held s new program plan form cuts is works = kept_free s new program is.used (free_of held works.lost) form cuts works.rewriting works.news is.kept works.keeps works.after
 
 worked_free : (care : Care) (held : List ℕ) (s new : State) (program : Option Program) (plan : PlainPlan) (cuts : Cuts) (a : Answer) → folder.IsWorkOn care held s program plan cuts a new → LetsGo s new
-worked_free care held s new program plan cuts (answer.Result rows used kept read) works = turns_free care held s new program plan works.0 cuts _ works.1
+worked_free care held s new program plan cuts (answer.Result rows used kept read) works = worked_in_turns care held s new program plan works.0 cuts _ works.1
 worked_free care held s new program plan cuts (answer.Refused refusal.Overflow) over = free_same s new over.1
 worked_free care held s new program plan cuts (answer.Refused (refusal.Limit limit.Machine)) dear = free_same s new dear.1
 worked_free care held s new program plan cuts _ works = absurd works
@@ -99,23 +98,26 @@ opened_free : (m new : Machine) (a : Answer) (name : List ℕ) (planned : Result
 opened_free m new a name (Ok run) opens = free_same m.state new.state (ap (λ (o : Outcome). o.machine.state) opens.is)
 opened_free m new a name (Err why) is = free_same m.state new.state (ap (λ (o : Outcome). o.machine.state) is)
 
-stepped_free : (m new : Machine) (a : Answer) (name : List ℕ) (job : Option Job) → StepsTo m name job (outcome a new) → LetsGo m.state new.state
-stepped_free m new a name (Some job) is = free_same m.state new.state (ap (λ (o : Outcome). o.machine.state) is)
-stepped_free m new a name None is = free_same m.state new.state (ap (λ (o : Outcome). o.machine.state) is)
+stepped_free : (care : Care) (m new : Machine) (a : Answer) (name : List ℕ) (job : Option Job) → StepsTo care m name job (outcome a new) → LetsGo m.state new.state
+stepped_free care m new a name (Some job) (inl is) = free_same m.state new.state (ap (λ (o : Outcome). o.machine.state) is)
+stepped_free care m new a name (Some job) (inr noted) = free_same m.state new.state (ap (λ (o : Outcome). o.machine.state) noted.2)
+stepped_free care m new a name None is = free_same m.state new.state (ap (λ (o : Outcome). o.machine.state) is)
 
-closing_free : (m new : Machine) (a : Answer) (name : List ℕ) (job : Job) → IsClosing m name job a new → LetsGo m.state new.state
-closing_free m new (answer.Result rows used kept read) name job closes = by_free m.state new.state (Some job.run.program) job.run.plan closes.normal job.run.program.cuts job.rewriting _ closes.works
-closing_free m new (answer.Refused refusal.Overflow) name job over = free_same m.state new.state (ap (λ (x : Machine). x.state) over.1)
-closing_free m new (answer.Refused (refusal.Limit limit.Machine)) name job dear = free_same m.state new.state (ap (λ (x : Machine). x.state) dear.1)
-closing_free m new _ name job closes = absurd closes
+closing_free : (care : Care) (m new : Machine) (a : Answer) (name : List ℕ) (job : Job) → IsClosing care m name job a new → LetsGo m.state new.state
+closing_free care m new (answer.Result rows used kept read) name job closes =
+    let works = closes.works in
+    kept_free m.state new.state (Some job.run.program) used (free_of (held_by (put_for name [] m.jobs)) closes.last.noted) job.normal job.run.program.cuts closes.last.rewriting works.news kept works.keeps works.after
+closing_free care m new (answer.Refused refusal.Overflow) name job over = free_same m.state new.state (ap (λ (x : Machine). x.state) over.1.2)
+closing_free care m new (answer.Refused (refusal.Limit limit.Machine)) name job dear = free_same m.state new.state (ap (λ (x : Machine). x.state) dear.1.2)
+closing_free care m new _ name job closes = absurd closes
 
-closed_by_free : (m new : Machine) (a : Answer) (name : List ℕ) (job : Job) (planned : Result Run Refusal) → ClosesBy m name job planned (outcome a new) → LetsGo m.state new.state
-closed_by_free m new a name job (Ok run) closes = closing_free m new a name job closes
-closed_by_free m new a name job (Err why) is = free_same m.state new.state (ap (λ (o : Outcome). o.machine.state) is)
+closed_by_free : (care : Care) (m new : Machine) (a : Answer) (name : List ℕ) (job : Job) (planned : Result Run Refusal) → ClosesBy care m name job planned (outcome a new) → LetsGo m.state new.state
+closed_by_free care m new a name job (Ok run) closes = closing_free care m new a name job closes
+closed_by_free care m new a name job (Err why) is = free_same m.state new.state (ap (λ (o : Outcome). o.machine.state) is)
 
-closed_free : (m new : Machine) (a : Answer) (name : List ℕ) (job : Option Job) → ClosesTo m name job (outcome a new) → LetsGo m.state new.state
-closed_free m new a name (Some job) closes = closed_by_free m new a name job (storing (table m.state) job.run) closes
-closed_free m new a name None is = free_same m.state new.state (ap (λ (o : Outcome). o.machine.state) is)
+closed_free : (care : Care) (m new : Machine) (a : Answer) (name : List ℕ) (job : Option Job) → ClosesTo care m name job (outcome a new) → LetsGo m.state new.state
+closed_free care m new a name (Some job) closes = closed_by_free care m new a name job (storing (table m.state) job.run) closes
+closed_free care m new a name None is = free_same m.state new.state (ap (λ (o : Outcome). o.machine.state) is)
 
 dropped_free : (m new : Machine) (a : Answer) (name : List ℕ) (job : Option Job) → DropsTo m name job (outcome a new) → LetsGo m.state new.state
 dropped_free m new a name (Some job) is = free_same m.state new.state (ap (λ (o : Outcome). o.machine.state) is)
@@ -126,22 +128,23 @@ beside_free care m new c a beside = folder_free care (session.held_by m.jobs) m.
 
 performed_free : (care : Care) (m new : Machine) (c : Command) (a : Answer) → Performs care m c (outcome a new) → LetsGo m.state new.state
 performed_free care m new (command.OpenJob job name tree) a is = opened_free m new a job (opening (table m.state) (is_open m.jobs job) (length m.jobs) job name tree) is
-performed_free care m new (command.Step job) a is = stepped_free m new a job (job_named m.jobs job) is
-performed_free care m new (command.Close job) a is = closed_free m new a job (job_named m.jobs job) is
+performed_free care m new (command.Step job) a is = stepped_free care m new a job (job_named m.jobs job) is
+performed_free care m new (command.Close job) a is = closed_free care m new a job (job_named m.jobs job) is
 performed_free care m new (command.DropJob job) a is = dropped_free m new a job (job_named m.jobs job) is
 performed_free care m new c a is = beside_free care m new c a is
 
 -- an event leaves the state
-remains_free : (m new : Machine) (c : Command) → Remains m c new → LetsGo m.state new.state
-remains_free m new (command.Close job) remains = free_same m.state new.state remains.0
-remains_free m new c remains = free_same m.state new.state (ap (λ (x : Machine). x.state) remains)
+remains_free : (care : Care) (m new : Machine) (c : Command) → Remains care m c new → LetsGo m.state new.state
+remains_free care m new (command.Close job) (inl same) = free_same m.state new.state (ap (λ (x : Machine). x.state) same)
+remains_free care m new (command.Close job) (inr gone) = free_same m.state new.state gone.0
+remains_free care m new c remains = free_same m.state new.state (ap (λ (x : Machine). x.state) remains)
 
 refused_free : (why : Refusal) (m new : Machine) (a : Answer) → Refuses why m a new → LetsGo m.state new.state
 refused_free why m new a is = free_same m.state new.state (ap (λ (o : Outcome). o.machine.state) is)
 
 pub step_free : (care : Care) (m new : Machine) (i : Item) (a : Answer) → Step care m i a new → LetsGo m.state new.state
 step_free care m new (item.Command c) a (inl (inl performs)) = performed_free care m new c a performs
-step_free care m new (item.Command c) a (inl (inr event)) = remains_free m new c event.3
+step_free care m new (item.Command c) a (inl (inr event)) = remains_free care m new c event.3
 step_free care m new (item.Command c) a (inr is) = refused_free refusal.Memory m new a is
 step_free care m new (item.Refused why) a (inl is) = refused_free why m new a is
 step_free care m new (item.Refused why) a (inr is) = refused_free refusal.Memory m new a is
@@ -177,7 +180,8 @@ module _ (folder : Folder) (s : State) (valid : IsValid s) (same : table_in fold
   not_changed (command.OpenJob job name tree) may = may
   not_changed (command.Step job) may = may
   not_changed (command.DropJob job) may = may
-  not_changed c may = not_written may
+  not_changed (command.Close job) (inl written) = not_written written
+  not_changed (command.Close job) (inr of_result) = free_here.no_result of_result.0 of_result.1 of_result.2
 
 pub changes_leave : (care : Care) (u v : View) (session : Session) (m : Machine) (c : Command) → standing.Stands care u session m → of_folder.ChangesAtMost (folder_of session) c u v → LeavesFree m.state u v
 changes_leave care u v session m c stands changes file free =

@@ -1,5 +1,5 @@
 -- For which cause a refusal comes, and what it leaves.
-use Rattle.std.proofs.Common.{◌≡◌, inl, inr, refl, sym, ap, ◌∙◌, subst, ℕ, Bool, true, false, cond, List, [], ◌∷◌, length, Option, Some, None, Result, Ok, Err}
+use Rattle.std.proofs.Common.{◌≡◌, ◌⊎◌, inl, inr, sym, ap, subst, ℕ, List, length, Option, Some, None, Result, Ok, Err}
 use Rattle.estimator.specs.Bytes.{capped}
 use Rattle.rewrite_core.specs.Files.{files_of}
 use Rattle.rows_core.specs.declared.file_ref.Digest.{Digest}
@@ -18,9 +18,10 @@ use Rattle.folder_session.specs.Machine.{IsFileEvent}
 use Rattle.folder_session.specs.Refusals.{IsRefusedOn}
 use Rattle.folder_session.specs.Refusals as of_folder_refused
 use Rattle.folder_session.proofs.OutcomeLemmas as of_folder
-use Rattle.session.specs.Machine.{Job, Machine, Outcome, outcome, refused, is_named, is_open, job_named, left_of, stepped, steps_of, put_for, read_whole, OpensTo, StepsTo, ClosesTo, ClosesBy, IsClosing, DropsTo, Performs, PerformsBeside, IsReadOn, IsEvent, Remains, Step, held_by}
-use Rattle.session.specs.Refusals.{IsUnknown, IsClosingRefused, IsCloseRefused, IsRefusedFor, HasReadTo, StaysBut}
-use Rattle.session.proofs.SparingLemmas.{performed_spares, step_spares}
+use Rattle.session.specs.Machine.{Machine, Outcome, outcome, refused, is_open, job_named, OpensTo, StepsTo, ClosesTo, ClosesBy, IsClosing, LeavesRead, DropsTo, Performs, PerformsBeside, HasGoneOn, IsEvent, Remains, Step, held_by}
+use Rattle.session.specs.MachineJob.{Job, stepped}
+use Rattle.session.specs.Refusals.{IsUnknown, IsClosingRefused, IsCloseRefused, IsRefusedFor}
+use Rattle.session.proofs.SparingLemmas.{never_refused, performed_spares, step_spares}
 
 -- what is refused for one reason isn't refused for another
 same_refusal : (m new : Machine) (why told : Refusal) → outcome (answer.Refused why) new ≡ refused m told → told ≡ why
@@ -31,34 +32,35 @@ module _ (m new : Machine) (why : Refusal) where
   opened_cause name (Ok run) opens = let answers : answer.Refused why ≡ answer.Ready (capped (length (files_of opens.rewriting))) = ap (λ (o : Outcome). o.answer) opens.is in absurd (cc)
   opened_cause name (Err told) is = ap Err (same_refusal m new why told is)
 
-  stepped_cause : (name : List ℕ) (job : Option Job) → StepsTo m name job (outcome (answer.Refused why) new) → IsUnknown job name why
-  stepped_cause name (Some job) is = let answers : answer.Refused why ≡ answer.Left (capped (left_of (stepped job))) = ap (λ (o : Outcome). o.answer) is in absurd (cc)
-  stepped_cause name None is = sym (same_refusal m new why (refusal.Unknown name) is)
+  stepped_cause : (care : Care) (name : List ℕ) (job : Option Job) → StepsTo care m name job (outcome (answer.Refused why) new) → IsUnknown job name why
+  stepped_cause care name (Some job) (inl is) = absurd (never_refused m name (stepped job) why new is)
+  stepped_cause care name (Some job) (inr is) = absurd (never_refused m name is.0 why new is.2)
+  stepped_cause care name None is = sym (same_refusal m new why (refusal.Unknown name) is)
 
   dropped_cause : (name : List ℕ) (job : Option Job) → DropsTo m name job (outcome (answer.Refused why) new) → IsUnknown job name why
   dropped_cause name (Some job) is = let answers : answer.Refused why ≡ answer.Ok = ap (λ (o : Outcome). o.answer) is in absurd (cc)
   dropped_cause name None is = sym (same_refusal m new why (refusal.Unknown name) is)
 
-  on_cause : (name : List ℕ) (job : Job) (w : Refusal) → IsClosing m name job (answer.Refused w) new → IsRefusedOn m.state job.run.plan job.run.program.cuts w × (new ≡ read_whole m name job)
-  on_cause name job refusal.Overflow is = is
-  on_cause name job (refusal.Limit limit.Machine) is = is
-  on_cause name job _ is = absurd is
+  on_cause : (care : Care) (name : List ℕ) (job : Job) (w : Refusal) → IsClosing care m name job (answer.Refused w) new → IsRefusedOn m.state job.run.plan job.run.program.cuts w × LeavesRead care m name job new
+  on_cause care name job refusal.Overflow is = is
+  on_cause care name job (refusal.Limit limit.Machine) is = is
+  on_cause care name job _ is = absurd is
 
-  closing_cause : (name : List ℕ) (job : Job) (planned : Result Run Refusal) → ClosesBy m name job planned (outcome (answer.Refused why) new) → IsClosingRefused m job planned why
-  closing_cause name job (Ok run) is = (on_cause name job why is).0
-  closing_cause name job (Err told) is = same_refusal m new why told is
+  closing_cause : (care : Care) (name : List ℕ) (job : Job) (planned : Result Run Refusal) → ClosesBy care m name job planned (outcome (answer.Refused why) new) → IsClosingRefused m job planned why
+  closing_cause care name job (Ok run) is = (on_cause care name job why is).0
+  closing_cause care name job (Err told) is = same_refusal m new why told is
 
-  closed_cause : (name : List ℕ) (job : Option Job) → ClosesTo m name job (outcome (answer.Refused why) new) → IsCloseRefused m job name why
-  closed_cause name (Some job) is = closing_cause name job (storing (table m.state) job.run) is
-  closed_cause name None is = sym (same_refusal m new why (refusal.Unknown name) is)
+  closed_cause : (care : Care) (name : List ℕ) (job : Option Job) → ClosesTo care m name job (outcome (answer.Refused why) new) → IsCloseRefused m job name why
+  closed_cause care name (Some job) is = closing_cause care name job (storing (table m.state) job.run) is
+  closed_cause care name None is = sym (same_refusal m new why (refusal.Unknown name) is)
 
   beside_cause : (care : Care) (c : Command) → PerformsBeside care m c (outcome (answer.Refused why) new) → of_folder_refused.IsRefusedFor m.state c why
   beside_cause care c beside = of_folder.cause_of care (held_by m.jobs) m.state new.state c why beside.of_folder
 
   pub cause_of : (care : Care) (c : Command) → Performs care m c (outcome (answer.Refused why) new) → IsRefusedFor m c why
   cause_of care (command.OpenJob job name tree) is = opened_cause job (opening (table m.state) (is_open m.jobs job) (length m.jobs) job name tree) is
-  cause_of care (command.Step job) is = stepped_cause job (job_named m.jobs job) is
-  cause_of care (command.Close job) is = closed_cause job (job_named m.jobs job) is
+  cause_of care (command.Step job) is = stepped_cause care job (job_named m.jobs job) is
+  cause_of care (command.Close job) is = closed_cause care job (job_named m.jobs job) is
   cause_of care (command.DropJob job) is = dropped_cause job (job_named m.jobs job) is
   cause_of care (command.Stream name columns) is = beside_cause care (command.Stream name columns) is
   cause_of care (command.Append name lines) is = beside_cause care (command.Append name lines) is
@@ -77,9 +79,10 @@ module _ (m new : Machine) (why : Refusal) where
   opened_left name (Ok run) opens = let answers : answer.Refused why ≡ answer.Ready (capped (length (files_of opens.rewriting))) = ap (λ (o : Outcome). o.answer) opens.is in absurd (cc)
   opened_left name (Err told) is = left_as told is
 
-  stepped_left : (name : List ℕ) (job : Option Job) → StepsTo m name job (outcome (answer.Refused why) new) → new ≡ m
-  stepped_left name (Some job) is = let answers : answer.Refused why ≡ answer.Left (capped (left_of (stepped job))) = ap (λ (o : Outcome). o.answer) is in absurd (cc)
-  stepped_left name None is = left_as (refusal.Unknown name) is
+  stepped_left : (care : Care) (name : List ℕ) (job : Option Job) → StepsTo care m name job (outcome (answer.Refused why) new) → new ≡ m
+  stepped_left care name (Some job) (inl is) = absurd (never_refused m name (stepped job) why new is)
+  stepped_left care name (Some job) (inr is) = absurd (never_refused m name is.0 why new is.2)
+  stepped_left care name None is = left_as (refusal.Unknown name) is
 
   dropped_left : (name : List ℕ) (job : Option Job) → DropsTo m name job (outcome (answer.Refused why) new) → new ≡ m
   dropped_left name (Some job) is = let answers : answer.Refused why ≡ answer.Ok = ap (λ (o : Outcome). o.answer) is in absurd (cc)
@@ -90,61 +93,22 @@ module _ (m new : Machine) (why : Refusal) where
       let state = of_folder.state_kept care (held_by m.jobs) m.state new.state c why (inl beside.of_folder) in
       λ i. record { state = state i; jobs = beside.jobs i }
 
--- a job put in its own place
-own_place : (name : List ℕ) (jobs : List Job) (job : Job) → job_named jobs name ≡ Some job → put_for name (job ∷ []) jobs ≡ jobs
-own_place name [] job is = let never : None ≡ Some job = is in absurd (cc)
-own_place name (j ∷ jobs) job is = by (is_named name j) refl (own_place name jobs job)
-  where
-    by : (b : Bool) → is_named name j ≡ b → (job_named jobs name ≡ Some job → put_for name (job ∷ []) jobs ≡ jobs) → put_for name (job ∷ []) (j ∷ jobs) ≡ j ∷ jobs
-    by true e next =
-        let here : Some j ≡ Some job = subst (λ (b : Bool). cond b (Some j) (job_named jobs name) ≡ Some job) e is in
-        let same : j ≡ job = cc in
-        subst (λ (b : Bool). cond b (job ∷ jobs) (j ∷ put_for name (job ∷ []) jobs) ≡ j ∷ jobs) (sym e) (ap (λ (x : Job). x ∷ jobs) (sym same))
-    by false e next =
-        let there : job_named jobs name ≡ Some job = subst (λ (b : Bool). cond b (Some j) (job_named jobs name) ≡ Some job) e is in
-        subst (λ (b : Bool). cond b (job ∷ jobs) (j ∷ put_for name (job ∷ []) jobs) ≡ j ∷ jobs) (sym e) (ap (λ (xs : List Job). j ∷ xs) (next there))
+closing_left : (care : Care) (m new : Machine) (why : Refusal) (name : List ℕ) (job : Job) (planned : Result Run Refusal) → ClosesBy care m name job planned (outcome (answer.Refused why) new)
+    → (new ≡ m) ⊎ ((new.state ≡ m.state) × HasGoneOn care m.state name m.jobs (Some job) new.jobs)
+closing_left care m new why name job (Ok run) is =
+    let leaves = (on_cause m new why care name job why is).1 in
+    inr (ap (λ (x : Machine). x.state) leaves.2, (leaves.0, leaves.1.goes, ap (λ (x : Machine). x.jobs) leaves.2))
+closing_left care m new why name job (Err told) is = inl (ap (λ (o : Outcome). o.machine) is)
 
--- as it was, it has read to where it had
-not_further : (name : List ℕ) (jobs : List Job) (found : Option Job) → job_named jobs name ≡ found → HasReadTo name jobs found jobs
-not_further name jobs (Some job) is = (job.done, sym (own_place name jobs job is))
-not_further name jobs None is = refl
+closed_left : (care : Care) (m new : Machine) (why : Refusal) (name : List ℕ) (found : Option Job) → ClosesTo care m name found (outcome (answer.Refused why) new) → (new ≡ m) ⊎ ((new.state ≡ m.state) × HasGoneOn care m.state name m.jobs found new.jobs)
+closed_left care m new why name (Some job) is = closing_left care m new why name job (storing (table m.state) job.run) is
+closed_left care m new why name None is = inl (ap (λ (o : Outcome). o.machine) is)
 
-read_further : (name : List ℕ) (jobs : List Job) (found : Option Job) (new : List Job) → IsReadOn name jobs found new → HasReadTo name jobs found new
-read_further name jobs (Some job) new is = (is.0, is.3)
-read_further name jobs None new is = is
-
-closing_left : (m new : Machine) (why : Refusal) (name : List ℕ) (job : Job) (planned : Result Run Refusal) → job_named m.jobs name ≡ Some job → ClosesBy m name job planned (outcome (answer.Refused why) new)
-    → (new.state ≡ m.state) × HasReadTo name m.jobs (Some job) new.jobs
-closing_left m new why name job (Ok run) found is =
-    let whole : new ≡ read_whole m name job = (on_cause m new why name job why is).1 in
-    (ap (λ (x : Machine). x.state) whole, (steps_of job, ap (λ (x : Machine). x.jobs) whole))
-closing_left m new why name job (Err told) found is =
-    let same : new ≡ m = ap (λ (o : Outcome). o.machine) is in
-    (ap (λ (x : Machine). x.state) same, (job.done, ap (λ (x : Machine). x.jobs) same ∙ sym (own_place name m.jobs job found)))
-
-closed_left : (m new : Machine) (why : Refusal) (name : List ℕ) (found : Option Job) → job_named m.jobs name ≡ found → ClosesTo m name found (outcome (answer.Refused why) new)
-    → (new.state ≡ m.state) × HasReadTo name m.jobs found new.jobs
-closed_left m new why name (Some job) found is = closing_left m new why name job (storing (table m.state) job.run) found is
-closed_left m new why name None found is = let same : new ≡ m = ap (λ (o : Outcome). o.machine) is in (ap (λ (x : Machine). x.state) same, ap (λ (x : Machine). x.jobs) same)
-
-event_left : (m new : Machine) (c : Command) → Remains m c new → StaysBut m c new
-event_left m new (command.OpenJob job name tree) is = is
-event_left m new (command.Step job) is = is
-event_left m new (command.Close job) is = (is.0, read_further job m.jobs (job_named m.jobs job) new.jobs is.1)
-event_left m new (command.DropJob job) is = is
-event_left m new (command.Stream name columns) is = is
-event_left m new (command.Append name lines) is = is
-event_left m new (command.Run name tree) is = is
-event_left m new (command.Fetch name as_run) is = is
-event_left m new (command.Collect reclaim) is = is
-event_left m new command.Entries is = is
-event_left m new command.Catalog is = is
-
-pub unchanged : (care : Care) (m new : Machine) (c : Command) (why : Refusal) → Step care m c (answer.Refused why) new → StaysBut m c new
-unchanged care m new c why (inr event) = event_left m new c event.3
+pub unchanged : (care : Care) (m new : Machine) (c : Command) (why : Refusal) → Step care m c (answer.Refused why) new → Remains care m c new
+unchanged care m new c why (inr event) = event.3
 unchanged care m new (command.OpenJob job name tree) why (inl is) = opened_left m new why job (opening (table m.state) (is_open m.jobs job) (length m.jobs) job name tree) is
-unchanged care m new (command.Step job) why (inl is) = stepped_left m new why job (job_named m.jobs job) is
-unchanged care m new (command.Close job) why (inl is) = closed_left m new why job (job_named m.jobs job) refl is
+unchanged care m new (command.Step job) why (inl is) = stepped_left m new why care job (job_named m.jobs job) is
+unchanged care m new (command.Close job) why (inl is) = closed_left care m new why job (job_named m.jobs job) is
 unchanged care m new (command.DropJob job) why (inl is) = dropped_left m new why job (job_named m.jobs job) is
 unchanged care m new (command.Stream name columns) why (inl is) = beside_left m new why care (command.Stream name columns) is
 unchanged care m new (command.Append name lines) why (inl is) = beside_left m new why care (command.Append name lines) is
@@ -174,7 +138,7 @@ unread_folder care m _ file at is = is
 unread : (care : Care) (m : Machine) (c : Command) (file at : ℕ) → IsEvent care m c (refusal.Unreadable file at) → ⊥
 unread care m (command.OpenJob job name tree) file at is = is
 unread care m (command.Step job) file at is = unread_event care m.state file at is.1
-unread care m (command.Close job) file at is = unread_event care m.state file at is
+unread care m (command.Close job) file at is = unread_event care m.state file at is.0
 unread care m (command.DropJob job) file at is = is
 unread care m c file at is = unread_folder care m c file at is
 

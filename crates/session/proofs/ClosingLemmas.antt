@@ -1,71 +1,80 @@
--- The step of the machine in which a job is closed, or isn't.
-use Rattle.std.proofs.Common.{◌≡◌, inl, inr, sym, ap, ◌∙◌, subst, ℕ, ◌+◌, ◌≤◌, List, [], ◌∷◌, length, Some, Result, Ok, Err, IfOk, OnErr, get_or, arith}
+-- A job that is closed, or isn't.
+use Rattle.std.proofs.Common.{◌≡◌, inl, inr, refl, sym, ap, ◌∙◌, subst, ℕ, Bool, true, List, [], ◌∷◌, Some, Result, Ok, Err, IfOk, OnErr, get_or}
 use Rattle.std.proofs.Math.ListN.{set}
-use Rattle.std.specs.List.{remove}
-use Rattle.outside_traits.specs.View.{View}
+use Rattle.std.specs.Bool.{IsTrue}
+use Rattle.std.specs.List.{AllByRecursion, remove}
+use Rattle.outside_traits.specs.View.{View, Counts}
 use Rattle.outside_traits.specs.declared.failed.Failed.{Failed}
 use Rattle.plan_core.specs.PlainPlan.{PlainPlan}
+use Rattle.catalog_types.specs.declared.program.Program.{Program}
 use Rattle.catalog_core.specs.IsTable.{IsTable}
 use Rattle.catalog_core.specs.Table.{Table}
-use Rattle.planning.specs.Running.{storing}
+use Rattle.executor.specs.declared.refusal.RunRefusal.{RunRefusal}
+use Rattle.executor.specs.declared.refusal.RunRefusal.TheVariants as run
+use Rattle.planning.specs.Running.{Run, storing}
 use Rattle.script_text.specs.declared.answer.Answer.{Answer}
 use Rattle.script_text.specs.declared.answer.Answer.TheVariants as answer
-use Rattle.script_text.specs.declared.answer.LimitKind.TheVariants as limit
 use Rattle.script_text.specs.declared.answer.Refusal.{Refusal}
 use Rattle.script_text.specs.declared.answer.Refusal.TheVariants as refusal
 use Rattle.script_text.specs.declared.item.Command.TheVariants as command
 use Rattle.folder.specs.Folders.{table_in}
 use Rattle.folder.specs.Left.{Since, StaysSound}
-use Rattle.folder.specs.Next.{with_work}
 use Rattle.folder.specs.Sound.{Care}
 use Rattle.folder.specs.State.{State, table}
-use Rattle.folder_session.specs.Machine.{IsFileEvent}
+use Rattle.folder_session.specs.Machine.{IsFileEvent, IsOfExtent}
 use Rattle.folder_session.specs.Standing as folder
+use Rattle.folder_session.specs.WorkRefusals.{refusal_of}
 use Rattle.folder_session.specs.Working.{answer_of}
 use Rattle.folder_session.proofs.StepLemmas.{breaks_behind, records_behind}
 use Rattle.job_table.specs.Jobs.{place_of}
 use Rattle.job_table.specs.declared.table.OpenJob.{OpenJob}
 use Rattle.later_states.specs.Later.{IsLater}
-use Rattle.work_run.specs.Opened.{IsOpen, HasRead, IsSameWork, files_left, opened_rewriting}
-use Rattle.work_run.specs.declared.open.OpenWork.{OpenWork}
+use Rattle.work_run.specs.Ends.{CountsRead, IsRefusedWork}
+use Rattle.work_run.specs.Opened.{HasRead, files_left}
+use Rattle.work_run.specs.Working.{Overflows, IsDear}
 use Rattle.work_run.specs.declared.work.Work.{Work}
-use Rattle.session.specs.Jobs.{OpenJobs, IsJob, AreJobs}
-use Rattle.session.specs.Machine.{Job, Machine, Step, job_named, put_for, read_to, steps_of, with_jobs}
+use Rattle.work_turns.specs.Turns.{IsLost}
+use Rattle.job_turns.specs.Ends.{ComesAtLast, IsReadFor}
+use Rattle.job_turns.specs.Jobs as work
+use Rattle.job_turns.specs.Turns.{GoesOn, Reads}
+use Rattle.job_turns.specs.declared.job.JobWork.{JobWork}
+use Rattle.session.specs.Jobs.{OpenJobs, IsJob, AreJobs, held_of}
+use Rattle.session.specs.Machine.{Machine, Step, ReadsWhole, held_by, job_named, put_for, with_jobs}
+use Rattle.session.specs.MachineJob.{Job}
+use Rattle.session.specs.MachineJob as machine
 use Rattle.session.specs.Standing.{Stands, Performs, Breaks, folder_of, jobs_of}
-use Rattle.session.specs.Work.{IsClosed, IsNotClosed, IsReadOn, IsEnded, IsRecorded, run_of}
+use Rattle.session.specs.Work.{IsNotClosed, IsStopped, IsWithin, IsEnded, IsRecorded}
 use Rattle.session.specs.declared.session.Session.{Session}
-use Rattle.session.proofs.CloseLemmas.{closed_step, dear_step, event_step, limit_step, overflow_step, removed_same}
+use Rattle.session.proofs.CloseLemmas.{closed_step, dear_step, event_step, limit_step, machine_after, overflow_step, removed_same, same_run, state_after}
 use Rattle.session.proofs.FolderSteps.{same_rows}
-use Rattle.session.proofs.JobSteps.{same_at, same_name}
+use Rattle.session.proofs.GoingLemmas.{now, now_goes, now_is, now_whole}
+use Rattle.session.proofs.JobSteps.{same_at, same_name, same_whole}
 use Rattle.session.proofs.Places.{first_at, gone_at, job_at, put_at}
-use Rattle.session.proofs.ReadLemmas.{read_all, read_on}
-use Rattle.session.proofs.StayLemmas.{StaysOpen, StaysRead, all_held, holds_of, still_jobs}
+use Rattle.session.proofs.ReadLemmas.{read_none}
+use Rattle.session.proofs.StayLemmas.{StaysOpen, StaysRead, all_held, same_held, still_jobs}
 
-module _ (care : Care) (u : View) (session : Session) (m : Machine) (stands : Stands care u session m) (name : List ℕ) (at : ℕ) (d o new : OpenJob OpenWork) (place : place_of (jobs_of session) name ≡ Some at) (stood : get_or (jobs_of session) at d ≡ o)
-    (names : new.name ≡ o.name) (holds : new.holds.items ≡ o.holds.items) (same : IsSameWork o.job new.job)
-    (still : (plan : PlainPlan) → IsOpen (table m.state) plan o.job → IsOpen (table m.state) plan new.job) (reads : HasRead m.state o.job → IsReadOn m.state o.job new.job) where
-  -- the machine's job of the name, and what was read of it
+module _ (care : Care) (u : View) (session : Session) (m : Machine) (stands : Stands care u session m) (name : List ℕ) (at : ℕ) (d o new : OpenJob JobWork) (place : place_of (jobs_of session) name ≡ Some at) (stood : get_or (jobs_of session) at d ≡ o)
+    (names : new.name ≡ o.name) (still : (plan : PlainPlan) → work.IsJob (table m.state) plan o.job → work.IsJob (table m.state) plan new.job) where
+  -- the machine's job of the name
   pub record Found : Type 0 where
     pub job : Job
     pub named : job_named m.jobs name ≡ Some job
     pub is : IsJob m.state job o
-    pub on : IsReadOn m.state o.job new.job
 
   pub found : Found
   found =
       let of = job_at name (IsJob m.state) (same_name m.state) m.jobs (jobs_of session) at d stands.jobs (first_at name (jobs_of session) at place) in
-      let is : IsJob m.state of.0 o = subst (IsJob m.state of.0) stood of.3 in
-      record { job = of.0; named = of.1; is = is; on = reads is.read }
+      record { job = of.0; named = of.1; is = subst (IsJob m.state of.0) stood of.3 }
 
-  pub plan_of_job : PlainPlan
-  plan_of_job = found.job.run.plan
+  abbrev pub plan_found : PlainPlan
+  plan_found = found.job.run.plan
 
-  -- as far as it is read now
-  abbrev done_now : ℕ
-  done_now = found.job.done + length found.on.names
+  pub still_found : work.IsJob (table m.state) plan_found new.job
+  still_found = still plan_found found.is.is_job
 
-  read_now : (done_now ≤ steps_of found.job) × IsJob m.state (read_to done_now found.job) new
-  read_now = read_on m.state found.job o new found.is names holds same (still found.job.run.plan found.is.is_open) found.on.read found.on.names found.on.left
+  -- no limit is passed
+  pub within_found : IsWithin (table m.state) o.job → storing (table m.state) found.job.run ≡ Ok found.job.run
+  within_found within = subst (λ (r : Run). storing (table m.state) r ≡ Ok r) (same_run m.state found.job o found.is) (within plan_found)
 
   -- the jobs, with it in its place
   abbrev now_open : OpenJobs
@@ -80,111 +89,138 @@ module _ (care : Care) (u : View) (session : Session) (m : Machine) (stands : St
     are : AreJobs m.state jobs now_open
     step : Step care m (command.Close name) (answer.Refused why) (with_jobs m jobs)
 
-  by_event : (why : Refusal) → IsFileEvent care m.state why → Refuses why
-  by_event why event =
-      let least : found.job.done ≤ done_now = omega arith in
-      record { jobs = put_for name (read_to done_now found.job ∷ []) m.jobs; are = put (read_to done_now found.job) read_now.1; step = event_step care m name found.job found.named why done_now event least read_now.0 }
+  -- ---- it went on so
+
+  module _ (read : HasRead m.state new.job.work) (on : GoesOn true (table m.state) plan_found o.job new.job) (lost : AllByRecursion (IsLost care m.state) on.ids) where
+    abbrev pub last : Job
+    last = now m.state found.job o new found.is names still_found read on
+
+    pub shown : machine.GoesOn care m.state found.job last
+    shown = now_goes m.state found.job o new found.is names still_found read on care lost
+
+    pub is_last : IsJob m.state last new
+    is_last = now_is m.state found.job o new found.is names still_found read on
+
+    leaves : (why : Refusal) → Step care m (command.Close name) (answer.Refused why) (with_jobs m (put_for name (last ∷ []) m.jobs)) → Refuses why
+    leaves why step = record { jobs = put_for name (last ∷ []) m.jobs; are = put last is_last; step = step }
+
+    by_event : (why : Refusal) → IsFileEvent care m.state why → IsOfExtent (table m.state) why → Refuses why
+    by_event why event extent = leaves why (event_step care m name found.job found.named last why event extent shown)
+
+    pub whole : files_left new.job.work ≡ [] → ReadsWhole care m.state found.job last
+    whole none = record { goes = shown; whole = now_whole m.state found.job o new found.is names still_found read on none }
+
+    -- the cuts are those of the machine's job
+    at_cuts : (P : Program → Type 0) → P o.job.work.program → P found.job.run.program
+    at_cuts P is = subst P found.is.program is
+
+    by_met : (met : RunRefusal) → IsWithin (table m.state) o.job → IsOfExtent (table m.state) (refusal_of met) → IsRefusedWork care m.state plan_found o.job.work.program.cuts met → IsReadFor new.job.work met → Refuses (refusal_of met)
+    by_met run.Overflow within extent is all = leaves refusal.Overflow (overflow_step care m name found.job found.named last (whole all) (within_found within) (at_cuts (λ p. Overflows m.state plan_found p.cuts) is))
+    by_met run.Machine within extent is all = leaves _ (dear_step care m name found.job found.named last (whole all) (within_found within) (at_cuts (λ p. IsDear m.state plan_found p.cuts) is))
+    by_met run.Fault within extent is all = by_event refusal.Fault tt tt
+    by_met (run.Damaged file kept told taken) within extent is all = by_event (refusal.Damaged file kept told) is extent
+    by_met (run.Unreadable file spot taken) within extent is all = absurd is
+    by_met run.Memory within extent is all = by_event refusal.Memory tt tt
+
+  -- ---- a limit is passed
 
   stays_job : new.job ≡ o.job → (job : Job) → IsJob m.state job o → IsJob m.state job new
-  stays_job job_same job is = record {
-    name = names ∙ is.name;
-    program = ap (λ (w : OpenWork). w.program) job_same ∙ is.program;
-    rewriting = ap opened_rewriting job_same ∙ is.rewriting;
-    used = ap (λ (w : OpenWork). w.used.items) job_same ∙ is.used;
-    holds = holds ∙ is.holds;
-    is_open = still job.run.plan is.is_open;
-    within = is.within;
-    left = ap files_left job_same ∙ is.left;
-    read = subst (HasRead m.state) (sym job_same) is.read;
-  }
+  stays_job same job is =
+      read_none m.state job o new is names (same_whole o.job new.job same) (still job.run.plan is.is_job) (subst (λ (j : JobWork). HasRead m.state j.work) (sym same) is.read) (ap (λ (j : JobWork). files_left j.work) same)
 
-  by_limit : (why : Refusal) → storing (table m.state) (run_of found.job.run.plan o.job) ≡ Err why → new.job ≡ o.job → Refuses why
-  by_limit why passed job_same = record {
+  by_limit : (why : Refusal) → storing (table m.state) found.job.run ≡ Err why → new.job ≡ o.job → Refuses why
+  by_limit why passed same = record {
     jobs = m.jobs;
-    are = same_at (IsJob m.state) m.jobs (jobs_of session) at d new stands.jobs (λ j is_j. stays_job job_same j (subst (IsJob m.state j) stood is_j));
-    step = limit_step care m name found.job found.named o found.is why passed;
+    are = same_at (IsJob m.state) m.jobs (jobs_of session) at d new stands.jobs (λ j is_j. stays_job same j (subst (IsJob m.state j) stood is_j));
+    step = limit_step care m name found.job found.named why passed;
   }
 
-  refuses : (why : Refusal) → IsNotClosed care m.state found.job.run.plan o.job new.job why → Refuses why
-  refuses refusal.Overflow (whole, over) = record {
-    jobs = put_for name (read_to (steps_of found.job) found.job ∷ []) m.jobs;
-    are = put (read_to (steps_of found.job) found.job) (read_all m.state found.job o new found.is names holds same (still found.job.run.plan found.is.is_open) found.on.read found.on.names found.on.left whole.left);
-    step = overflow_step care m name found.job found.named o found.is new.job whole over;
-  }
-  refuses (refusal.Limit limit.Machine) (whole, dear) = record {
-    jobs = put_for name (read_to (steps_of found.job) found.job ∷ []) m.jobs;
-    are = put (read_to (steps_of found.job) found.job) (read_all m.state found.job o new found.is names holds same (still found.job.run.plan found.is.is_open) found.on.read found.on.names found.on.left whole.left);
-    step = dear_step care m name found.job found.named o found.is new.job whole dear;
-  }
-  refuses (refusal.Limit kind) passed = by_limit (refusal.Limit kind) passed.0 passed.1
-  refuses why event = by_event why event
+  -- ---- it isn't closed
 
-  -- it isn't closed
-  pub not_closed_performs : (w : View) (session' : Session) → jobs_of session' ≡ now_open → folder.Stands care w session'.base m.state → Since care m.state m.state u w → (why : Refusal) → IsNotClosed care m.state found.job.run.plan o.job new.job why
-      → Performs care u w session' m (command.Close name) (answer.Refused why)
-  not_closed_performs w session' are base since why is =
-      let r = refuses why is in
-      record { new = with_jobs m r.jobs; step = r.step; stands = record { base = base; jobs = subst (AreJobs m.state r.jobs) (sym are) r.are }; since = since }
+  module _ (tells : Bool) (told : IsTrue tells) (first then : Counts) where
+    stopped : (why : Refusal) → IsStopped true (table m.state) u plan_found o.job new.job first then why → Refuses why
+    stopped why is =
+        let over = is.halts.over refl care m.state stands.base.left refl found.is.read in
+        subst Refuses (sym is.why_is) (by_met over.0 is.halts.on over.1 is.met is.within (subst (IsOfExtent (table m.state)) is.why_is is.of_extent) over.2 is.whole)
 
-  -- its work is recorded, or isn't
-  module _ (w v : View) (before : StaysSound care m.state u w) (closed : Work) (is_closed : IsClosed m.state found.job.run.plan o.job closed) where
-    abbrev after : State
-    after = with_work m.state (Some o.job.program) closed.used.items [] is_closed.comes.news
+    refuses : (why : Refusal) → IsNotClosed tells (table m.state) u plan_found o.job new.job first then why → Refuses why
+    refuses why (inl over) =
+        let passed = subst (λ (r : Run). storing (table m.state) r ≡ Err (refusal.Limit over.kind)) (same_run m.state found.job o found.is) (over.over plan_found) in
+        by_limit why (passed ∙ ap Err (sym over.why_is)) over.same
+    refuses why (inr is) = stopped why (subst (λ (b : Bool). IsStopped b (table m.state) u plan_found o.job new.job first then why) told is)
 
-    abbrev closed_machine : Machine
-    closed_machine = record { state = after; jobs = put_for name [] m.jobs }
+    pub not_closed_performs : (w : View) (session' : Session) → jobs_of session' ≡ now_open → folder.Stands care w session'.base m.state → Since care m.state m.state u w → (why : Refusal)
+        → IsNotClosed tells (table m.state) u plan_found o.job new.job first then why → Performs care u w session' m (command.Close name) (answer.Refused why)
+    not_closed_performs w session' are base since why is =
+        let r = refuses why is in
+        record { new = with_jobs m r.jobs; step = r.step; stands = record { base = base; jobs = subst (AreJobs m.state r.jobs) (sym are) r.are }; since = since }
 
-    gone : AreJobs m.state (put_for name [] m.jobs) (remove (jobs_of session) at)
-    gone = gone_at name (IsJob m.state) (same_name m.state) m.jobs (jobs_of session) at stands.jobs (first_at name (jobs_of session) at place)
+    -- ---- its work is recorded, or isn't
 
-    pub closed_performs : StaysOpen → StaysRead → (session' : Session) → IsTable (table_in (folder_of session)) → IsTable (table_in (folder_of session')) → ((held : List ℕ) → IsLater held (table_in (folder_of session)) (table_in (folder_of session')))
-        → (given : Answer) → IsEnded closed at now_open (jobs_of session') given → IsRecorded care w v session'.base m.state after given → Performs care u v session' m (command.Close name) given
-    closed_performs open_stays read_stays session' is_table is_next later given (inl ended) recorded =
-        let is_recorded : folder.Records care w v session'.base m.state after = subst (λ (a : Answer). IsRecorded care w v session'.base m.state after a) ended.0 recorded in
-        let kept = records_behind care u w v m.state after before (Ok (session'.base, given)) is_recorded in
-        let rest = remove (jobs_of session) at in
-        let held = holds_of rest in
-        let start = stands.base.means.table_is in
-        let end = is_recorded.stands.means.table_is in
-        let now : jobs_of session' ≡ rest = ended.1 ∙ removed_same (jobs_of session) at new in
-        record {
-          new = closed_machine;
-          step = subst (λ (a : Answer). Step care m (command.Close name) a closed_machine) (sym ended.0) (closed_step care m name found.job found.named o found.is closed is_closed);
-          stands = record {
-            base = is_recorded.stands;
-            jobs = subst (AreJobs after (put_for name [] m.jobs)) (sym now)
-                (still_jobs open_stays read_stays held m.state after (subst IsTable start is_table) (subst IsTable end is_next)
-                (record { tables = subst (λ (y : Table). IsLater held y (table after)) start (subst (IsLater held (table_in (folder_of session))) end (later held)); rows = same_rows m.state.streams }) (put_for name [] m.jobs) rest (all_held rest) gone);
-          };
-          since = kept.since;
-        }
-    closed_performs open_stays read_stays session' is_table is_next later given (inr none) recorded =
-        let r = by_event refusal.Memory tt in
-        let is_recorded : folder.Records care w v session'.base m.state m.state = subst (λ (a : Answer). IsRecorded care w v session'.base m.state after a) none.0 recorded in
-        let kept = records_behind care u w v m.state m.state before (Ok (session'.base, given)) is_recorded in
-        record {
-          new = with_jobs m r.jobs;
-          step = subst (λ (a : Answer). Step care m (command.Close name) a (with_jobs m r.jobs)) (sym none.0) r.step;
-          stands = record { base = is_recorded.stands; jobs = subst (AreJobs m.state r.jobs) (sym none.1) r.are };
-          since = kept.since;
-        }
+    module _ (reads : Reads tells (table m.state) u plan_found o.job new.job first then) (none : files_left new.job.work ≡ []) (within : IsWithin (table m.state) o.job) (closed : Work) (held : List ℕ) (held_is : held ≡ held_of (remove (jobs_of session) at))
+        (comes : ComesAtLast held m.state plan_found new.job closed) (w v : View) (before : StaysSound care m.state u w) where
+      pub reads_told : Reads true (table m.state) u plan_found o.job new.job first then
+      reads_told = subst (λ (b : Bool). Reads b (table m.state) u plan_found o.job new.job first then) told reads
 
-    breaks : folder.KeepsNot care u v m.state after → Breaks care u v m (command.Close name)
-    breaks broke = record {
-      answer = answer_of closed;
-      new = closed_machine;
-      step = closed_step care m name found.job found.named o found.is closed is_closed;
-      recorded = broke.recorded;
-      since = broke.since;
-      left = broke.left;
-    }
+      pub over : HasRead m.state new.job.work × AllByRecursion (IsLost care m.state) reads_told.on.ids × CountsRead reads_told.on.passed first then
+      over = reads_told.over refl care m.state stands.base.left refl found.is.read
 
-    pub closed_breaks : (result : Result (Session × Answer) Failed) → OnErr result (folder.KeepsNot care w v m.state after) → OnErr result (Breaks care u v m (command.Close name))
-    closed_breaks (Ok next) broke = tt
-    closed_breaks (Err failed) broke = breaks (breaks_behind care u w v m.state after before (Err failed) broke)
+      gone : AreJobs m.state (put_for name [] m.jobs) (remove (jobs_of session) at)
+      gone = gone_at name (IsJob m.state) (same_name m.state) m.jobs (jobs_of session) at stands.jobs (first_at name (jobs_of session) at place)
 
-    pub closed_result : StaysOpen → StaysRead → IsTable (table_in (folder_of session)) → (result : Result (Session × Answer) Failed) → IfOk result (λ next. IsTable (table_in (folder_of next.0)))
-        → ((held : List ℕ) → IfOk result (λ next. IsLater held (table_in (folder_of session)) (table_in (folder_of next.0)))) → IfOk result (λ next. IsEnded closed at now_open (jobs_of next.0) next.1)
-        → IfOk result (λ next. IsRecorded care w v next.0.base m.state after next.1) → IfOk result (λ next. Performs care u v next.0 m (command.Close name) next.1)
-    closed_result open_stays read_stays is_table (Ok next) is_next later ended recorded = closed_performs open_stays read_stays next.0 is_table is_next later next.1 ended recorded
-    closed_result open_stays read_stays is_table (Err failed) is_next later ended recorded = tt
+      pub held_here : held ≡ held_by (put_for name [] m.jobs)
+      held_here = held_is ∙ sym (same_held m.state (put_for name [] m.jobs) (remove (jobs_of session) at) gone)
+
+      abbrev pub after : State
+      after = state_after care m name found.job found.named (last over.0 reads_told.on over.1) (whole over.0 reads_told.on over.1 none) (within_found within) new (is_last over.0 reads_told.on over.1) closed held held_here comes
+
+      abbrev closed_machine : Machine
+      closed_machine = machine_after care m name found.job found.named (last over.0 reads_told.on over.1) (whole over.0 reads_told.on over.1 none) (within_found within) new (is_last over.0 reads_told.on over.1) closed held held_here comes
+
+      answers : Step care m (command.Close name) (answer_of closed) closed_machine
+      answers = closed_step care m name found.job found.named (last over.0 reads_told.on over.1) (whole over.0 reads_told.on over.1 none) (within_found within) new (is_last over.0 reads_told.on over.1) closed held held_here comes
+
+      pub closed_performs : StaysOpen → StaysRead → (session' : Session) → IsTable (table_in (folder_of session)) → IsTable (table_in (folder_of session')) → IsLater held (table_in (folder_of session)) (table_in (folder_of session'))
+          → (given : Answer) → IsEnded closed at now_open (jobs_of session') given → IsRecorded care w v session'.base m.state after given → Performs care u v session' m (command.Close name) given
+      closed_performs open_stays read_stays session' is_table is_next later given (inl is) recorded =
+          let is_recorded : folder.Records care w v session'.base m.state after = subst (λ (a : Answer). IsRecorded care w v session'.base m.state after a) is.0 recorded in
+          let kept = records_behind care u w v m.state after before (Ok (session'.base, given)) is_recorded in
+          let rest = remove (jobs_of session) at in
+          let start = stands.base.means.table_is in
+          let end = is_recorded.stands.means.table_is in
+          let here : jobs_of session' ≡ rest = is.1 ∙ removed_same (jobs_of session) at new in
+          record {
+            new = closed_machine;
+            step = subst (λ (a : Answer). Step care m (command.Close name) a closed_machine) (sym is.0) answers;
+            stands = record {
+              base = is_recorded.stands;
+              jobs = subst (AreJobs after (put_for name [] m.jobs)) (sym here)
+                  (still_jobs open_stays read_stays (held_of rest) m.state after (subst IsTable start is_table) (subst IsTable end is_next)
+                  (record { tables = subst (λ (ids : List ℕ). IsLater ids (table m.state) (table after)) held_is (subst (λ (y : Table). IsLater held y (table after)) start (subst (IsLater held (table_in (folder_of session))) end later)); rows = same_rows m.state.streams })
+                  (put_for name [] m.jobs) rest (all_held rest) gone);
+            };
+            since = kept.since;
+          }
+      closed_performs open_stays read_stays session' is_table is_next later given (inr is) recorded =
+          let r = by_event over.0 reads_told.on over.1 refusal.Memory tt tt in
+          let is_recorded : folder.Records care w v session'.base m.state m.state = subst (λ (a : Answer). IsRecorded care w v session'.base m.state after a) is.0 recorded in
+          let kept = records_behind care u w v m.state m.state before (Ok (session'.base, given)) is_recorded in
+          record {
+            new = with_jobs m r.jobs;
+            step = subst (λ (a : Answer). Step care m (command.Close name) a (with_jobs m r.jobs)) (sym is.0) r.step;
+            stands = record { base = is_recorded.stands; jobs = subst (AreJobs m.state r.jobs) (sym is.1) r.are };
+            since = kept.since;
+          }
+
+      breaks : folder.KeepsNot care u v m.state after → Breaks care u v m (command.Close name)
+      breaks broke = record { answer = answer_of closed; new = closed_machine; step = answers; recorded = broke.recorded; since = broke.since; left = broke.left }
+
+      pub closed_breaks : (result : Result (Session × Answer) Failed) → OnErr result (folder.KeepsNot care w v m.state after) → OnErr result (Breaks care u v m (command.Close name))
+      closed_breaks (Ok next) broke = tt
+      closed_breaks (Err failed) broke = breaks (breaks_behind care u w v m.state after before (Err failed) broke)
+
+      pub closed_result : StaysOpen → StaysRead → IsTable (table_in (folder_of session)) → (result : Result (Session × Answer) Failed) → IfOk result (λ next. IsTable (table_in (folder_of next.0)))
+          → IfOk result (λ next. IsLater held (table_in (folder_of session)) (table_in (folder_of next.0))) → IfOk result (λ next. IsEnded closed at now_open (jobs_of next.0) next.1)
+          → IfOk result (λ next. IsRecorded care w v next.0.base m.state after next.1) → IfOk result (λ next. Performs care u v next.0 m (command.Close name) next.1)
+      closed_result open_stays read_stays is_table (Ok next) is_next later is recorded = closed_performs open_stays read_stays next.0 is_table is_next later next.1 is recorded
+      closed_result open_stays read_stays is_table (Err failed) is_next later is recorded = tt

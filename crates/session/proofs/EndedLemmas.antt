@@ -1,60 +1,60 @@
 -- What else is said of a close.
-use Rattle.std.proofs.Common.{◌≡◌, inl, inr, refl, sym, subst, ℕ, List, [], ◌∷◌, Option, Some, None, Result, Ok, Err, IfOk, get_or, arith}
+use Rattle.std.proofs.Common.{◌≡◌, ◌∙◌, inl, inr, sym, ap, subst, ℕ, ◌+◌, ◌-◌, ◌^◌, min, true, List, [], Option, Some, None, Result, Ok, Err, IfOk, get_or, arith}
 use Rattle.std.specs.List.{remove}
 use Rattle.outside_traits.specs.View.{View, Counts}
 use Rattle.outside_traits.specs.Runs.{Narrows}
 use Rattle.outside_traits.specs.declared.failed.Failed.{Failed}
 use Rattle.catalog_core.specs.IsTable.{IsTable}
 use Rattle.catalog_core.specs.Table.{Table}
+use Rattle.script_text.specs.Answer.{IsNarrow}
 use Rattle.script_text.specs.declared.answer.Answer.{Answer}
 use Rattle.script_text.specs.declared.answer.Answer.TheVariants as answer
 use Rattle.script_text.specs.declared.answer.Refusal.TheVariants as refusal
 use Rattle.script_text.specs.declared.item.Command.TheVariants as command
 use Rattle.folder.specs.Folders.{table_in}
 use Rattle.folder_session.specs.Standing.{AreGoneSince, LeavesWhereRefused}
+use Rattle.folder_session.specs.Working.{answer_of}
 use Rattle.folder_session.proofs.DroppedLemmas.{gone_read}
 use Rattle.folder_session.proofs.TakenLemmas.{read_then}
 use Rattle.outside_traits.proofs.RunLemmas.{narrows_on}
+use Rattle.plan_core.specs.PlainPlan.{PlainPlan}
+use Rattle.estimator.specs.Bytes.{capped}
+use Rattle.rewrite_core.specs.Files.{files_of}
 use Rattle.catalog_core.specs.Named.{bytes_named}
 use Rattle.job_table.specs.Jobs.{place_of}
 use Rattle.job_table.specs.declared.table.OpenJob.{OpenJob}
 use Rattle.work_run.specs.Ends.{CountsRead}
-use Rattle.work_run.specs.Opened.{files_left}
-use Rattle.work_run.specs.declared.open.OpenWork.{OpenWork}
+use Rattle.work_run.specs.Opened.{files_left, opened_rewriting}
+use Rattle.job_turns.specs.Jobs.{bytes_read}
+use Rattle.job_turns.specs.Turns.{Reads}
+use Rattle.job_turns.specs.declared.job.JobWork.{JobWork}
 use Rattle.session.specs.Causes.{HasByteCause, IsOfJob}
-use Rattle.session.specs.Taken.{TakesAsTold}
-use Rattle.catalog_types.specs.PlainEntry.{PlainEntry}
-use Rattle.later_states.specs.Later.{AreFree, IsLater}
-use Rattle.work_turns.specs.Ends.{files_among}
+use Rattle.session.specs.Taken.{CloseTakes, TakesAsTold}
+use Rattle.later_states.specs.Later.{IsLater}
 use Rattle.work_run.specs.declared.work.Work.{Work}
-use Rattle.session.specs.Jobs.{OpenJobs, IsHeldOver, AreHeldOver, open_named}
+use Rattle.session.specs.Jobs.{OpenJobs, IsHeldOver, AreHeldOver, held_of, open_named}
 use Rattle.session.specs.Standing.{HoldsJobs, folder_of, jobs_of}
-use Rattle.session.specs.Work.{IsEnded}
+use Rattle.session.specs.Work.{IsEnded, IsSameWhereRefused}
 use Rattle.session.specs.declared.session.Session.{Session}
 use Rattle.session.proofs.FoundLemmas.{close_taken}
 use Rattle.session.proofs.Places.{each_but}
-use Rattle.session.proofs.StayLemmas.{StaysOpen, all_held, holds_of, still_held_over}
-
--- none of none is held, and none has files
-pub none_free : (held : List ℕ) → AreFree held []
-none_free held = λ id has. absurd (omega (arith, has.1))
-
-pub no_files : (es : List PlainEntry) → files_among [] es ≡ []
-no_files [] = refl
-no_files (e ∷ es) = no_files es
+use Rattle.session.proofs.StayLemmas.{StaysOpen, all_held, still_held_over}
 
 -- the jobs that are left are open over the table after it
-ended_over : StaysOpen → (t u : Table) → IsTable t → IsTable u → ((held : List ℕ) → IsLater held t u) → (opens new : OpenJobs) (closed : Work) (at : ℕ) (given : Answer) → IsEnded closed at opens new given → AreHeldOver t opens → AreHeldOver u new
-ended_over stays t u is_table is_next later opens new closed at given (inl ended) over =
+ended_over : StaysOpen → (t u : Table) → IsTable t → IsTable u → (opens new : OpenJobs) (closed : Work) (at : ℕ) (given : Answer) (held : List ℕ) → held ≡ held_of (remove opens at) → IsLater held t u → IsSameWhereRefused t u given
+    → IsEnded closed at opens new given → AreHeldOver t opens → AreHeldOver u new
+ended_over stays t u is_table is_next opens new closed at given held held_is later same (inl ended) over =
     let rest = remove opens at in
-    subst (AreHeldOver u) (sym ended.1) (still_held_over stays (holds_of rest) t u is_table is_next (later (holds_of rest)) rest (all_held rest) (each_but (IsHeldOver t) opens at over))
-ended_over stays t u is_table is_next later opens new closed at given (inr none) over =
-    subst (AreHeldOver u) (sym none.1) (still_held_over stays (holds_of opens) t u is_table is_next (later (holds_of opens)) opens (all_held opens) over)
+    subst (AreHeldOver u) (sym ended.1) (still_held_over stays (held_of rest) t u is_table is_next (subst (λ (ids : List ℕ). IsLater ids t u) held_is later) rest (all_held rest) (each_but (IsHeldOver t) opens at over))
+ended_over stays t u is_table is_next opens new closed at given held held_is later same (inr none) over =
+    subst (AreHeldOver u) (sym none.1) (subst (λ (x : Table). AreHeldOver x opens) (sym (subst (IsSameWhereRefused t u) none.0 same)) over)
 
-pub ended_holds : StaysOpen → (t : Table) → IsTable t → (opens : OpenJobs) (closed : Work) (at : ℕ) → AreHeldOver t opens → (result : Result (Session × Answer) Failed) → IfOk result (λ next. IsTable (table_in (folder_of next.0)))
-    → ((held : List ℕ) → IfOk result (λ next. IsLater held t (table_in (folder_of next.0)))) → IfOk result (λ next. IsEnded closed at opens (jobs_of next.0) next.1) → IfOk result (λ next. HoldsJobs next.0)
-ended_holds stays t is_table opens closed at over (Ok next) is_next later ended = ended_over stays t (table_in (folder_of next.0)) is_table is_next later opens (jobs_of next.0) closed at next.1 ended over
-ended_holds stays t is_table opens closed at over (Err failed) is_next later ended = tt
+pub ended_holds : StaysOpen → (t : Table) → IsTable t → (opens : OpenJobs) (closed : Work) (at : ℕ) (held : List ℕ) → held ≡ held_of (remove opens at) → AreHeldOver t opens → (result : Result (Session × Answer) Failed)
+    → IfOk result (λ next. IsTable (table_in (folder_of next.0))) → IfOk result (λ next. IsLater held t (table_in (folder_of next.0))) → IfOk result (λ next. IsSameWhereRefused t (table_in (folder_of next.0)) next.1)
+    → IfOk result (λ next. IsEnded closed at opens (jobs_of next.0) next.1) → IfOk result (λ next. HoldsJobs next.0)
+ended_holds stays t is_table opens closed at held held_is over (Ok next) is_next later same ended =
+    ended_over stays t (table_in (folder_of next.0)) is_table is_next opens (jobs_of next.0) closed at next.1 held held_is later same ended over
+ended_holds stays t is_table opens closed at held held_is over (Err failed) is_next later same ended = tt
 
 -- ---- behind what was read
 
@@ -71,16 +71,29 @@ pub closed_gone : (t : Table) (v : View) (old mid new : Counts) → mid.removes 
 closed_gone t v old mid new same (Ok next) gone = gone_read t (table_in (folder_of next.0)) v old mid new same gone
 closed_gone t v old mid new same (Err failed) gone = tt
 
--- the bytes that it takes are those of the files that were left
-pub ended_taken : (t : Table) (jobs mid : OpenJobs) (name : List ℕ) (at : ℕ) (o : OpenJob OpenWork) → place_of jobs name ≡ Some at → o ≡ get_or jobs at o → (closed : Work) (old half new : Counts) → CountsRead (bytes_named t (files_left o.job)) old half → new.taken ≡ half.taken
+-- it tells the bytes that it takes, and those that the job took before
+pub closed_takes : (t : Table) (view : View) (plan : PlainPlan) (o : OpenJob JobWork) (new : JobWork) (closed : Work) (first last : Counts) → (reads : Reads true t view plan o.job new first last) → files_left new.work ≡ [] → CountsRead reads.on.passed first last
+    → closed.read ≡ capped (new.before + bytes_named t (files_of (opened_rewriting new.work))) → CloseTakes t (Some o) closed.read first last
+closed_takes t view plan o new closed first last reads none counts told =
+    let none_left : bytes_named t (files_left new.work) ≡ 0 = ap (bytes_named t) none in
+    let passed = reads.on.passed_is in
+    let before : new.before ≡ min (o.job.before + reads.on.bytes) (2 ^ 64 - 1) = reads.on.before in
+    let read : closed.read ≡ min (new.before + bytes_named t (files_of (opened_rewriting new.work))) (2 ^ 64 - 1) = told in
+    let sum : closed.read ≡ min (o.job.before + bytes_read t o.job.work + reads.on.passed) (2 ^ 64 - 1) = omega (arith, none_left, passed, before, read) in
+    (reads.on.passed, sum, counts)
+
+takes_then : (t : Table) (o : OpenJob JobWork) (told : ℕ) (old half new : Counts) → CloseTakes t (Some o) told old half → new.taken ≡ half.taken → CloseTakes t (Some o) told old new
+takes_then t o told old half new (passed, is, counts) same = (passed, is, read_then passed old half new counts same)
+
+pub ended_taken : (t : Table) (jobs mid : OpenJobs) (name : List ℕ) (at : ℕ) (o : OpenJob JobWork) → place_of jobs name ≡ Some at → o ≡ get_or jobs at o → (closed : Work) (old half new : Counts) → CloseTakes t (Some o) closed.read old half → new.taken ≡ half.taken
     → (result : Result (Session × Answer) Failed) → IfOk result (λ next. IsEnded closed at mid (jobs_of next.0) next.1) → IfOk result (λ next. TakesAsTold t jobs (command.Close name) next.1 old new)
-ended_taken t jobs mid name at o place stood closed old half new counts rises (Ok next) ended =
-    close_taken jobs name at o place stood t closed old new (read_then _ old half new counts rises) next.1 (elim ended [ inl is ↦ inl is.0 | inr is ↦ inr is.0 ])
-ended_taken t jobs mid name at o place stood closed old half new counts rises (Err failed) ended = tt
+ended_taken t jobs mid name at o place stood closed old half new takes same (Ok next) ended =
+    close_taken jobs name at o place stood t closed old new (takes_then t o closed.read old half new takes same) next.1 (elim ended [ inl is ↦ inl is.0 | inr is ↦ inr is.0 ])
+ended_taken t jobs mid name at o place stood closed old half new takes same (Err failed) ended = tt
 
 -- ---- it is laid to no file, once its files were read
 
-want_of_job : (t : Table) (opened : Option (OpenJob OpenWork)) (files : ℕ → List ℕ) → IsOfJob t opened files refusal.Memory
+want_of_job : (t : Table) (opened : Option (OpenJob JobWork)) (files : ℕ → List ℕ) → IsOfJob t opened files refusal.Memory
 want_of_job t (Some opened) files = tt
 want_of_job t None files = tt
 
@@ -92,3 +105,25 @@ ended_found t jobs mid name at closed files (Ok next) ended =
       | inr is ↦ subst (HasByteCause t jobs (command.Close name) files) (sym is.0) (want_of_job t (open_named jobs name) files)
     ]
 ended_found t jobs mid name at closed files (Err failed) ended = tt
+
+-- nor does it tell a failed read
+pub ended_no_fault : (mid : OpenJobs) (at : ℕ) (closed : Work) (P : Type 0) (result : Result (Session × Answer) Failed) → IfOk result (λ next. IsEnded closed at mid (jobs_of next.0) next.1) → IfOk result (λ next. next.1 ≡ answer.Refused refusal.Fault → P)
+ended_no_fault mid at closed P (Ok next) ended = λ fault.
+    elim ended [
+      | inl is ↦ (let never : answer_of closed ≡ answer.Refused refusal.Fault = sym is.0 ∙ fault in absurd (cc))
+      | inr is ↦ (let never : answer.Refused refusal.Memory ≡ answer.Refused refusal.Fault = sym is.0 ∙ fault in absurd (cc))
+    ]
+ended_no_fault mid at closed P (Err failed) ended = tt
+
+-- whatever is answered, so it is
+pub same_whatever : (result : Result (Session × Answer) Failed) (a b : ℕ) → b ≡ a → IfOk result (λ next. (next.1 ≡ answer.Refused refusal.Fault → ⊥) → b ≡ a)
+same_whatever (Ok next) a b same = λ other. same
+same_whatever (Err failed) a b same = tt
+
+-- it is short where the answer of its work is
+pub ended_narrow : (mid : OpenJobs) (at : ℕ) (closed : Work) → IsNarrow (answer_of closed) → (result : Result (Session × Answer) Failed) → IfOk result (λ next. IsEnded closed at mid (jobs_of next.0) next.1) → IfOk result (λ next. IsNarrow next.1)
+ended_narrow mid at closed narrow (Ok next) ended = elim ended [
+  | inl is ↦ subst IsNarrow (sym is.0) narrow
+  | inr is ↦ subst IsNarrow (sym is.0) tt
+]
+ended_narrow mid at closed narrow (Err failed) ended = tt

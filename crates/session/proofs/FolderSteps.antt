@@ -119,7 +119,7 @@ module _ (care : Care) (m : Machine) (new : State) where
   event_beside (command.Close job) why other event = absurd (other tt)
   event_beside (command.DropJob job) why other event = absurd (other tt)
 
-  remains_beside : (c : Command) → (IsOfJobs c → ⊥) → new ≡ m.state → Remains m c next
+  remains_beside : (c : Command) → (IsOfJobs c → ⊥) → new ≡ m.state → Remains care m c next
   remains_beside (command.Stream name columns) other same = ap (λ (x : State). record { state = x; jobs = m.jobs }) same
   remains_beside (command.Append name lines) other same = ap (λ (x : State). record { state = x; jobs = m.jobs }) same
   remains_beside (command.Run name tree) other same = ap (λ (x : State). record { state = x; jobs = m.jobs }) same

@@ -1,47 +1,28 @@
--- The files that are left of open work, and why it isn't read on.
-use Rattle.std.proofs.Common.{◌≡◌, ◌≢◌, refl, ap, ◌∙◌, ℕ, ◌+◌, List, [], ◌∷◌, Ok, Err, arith}
-use Rattle.std.proofs.lemmas.List.Sums.{sum_by-append, sum_by-cons}
-use Rattle.outside_traits.specs.View.{Counts}
+-- Why work isn't read on, or isn't closed.
+use Rattle.std.proofs.Common.{◌≡◌, refl, ℕ, List, [], ◌∷◌, length, ◌^◌, ◌-◌, min, arith}
 use Rattle.plan_core.specs.PlainPlan.{PlainPlan}
+use Rattle.estimator.specs.Bytes.{capped}
 use Rattle.estimator.specs.Cuts.{Cuts}
-use Rattle.rewrite_core.specs.Files.{FileName, files_of}
-use Rattle.catalog_core.specs.Named.{file_at, bytes_named}
+use Rattle.rewrite_core.specs.Files.{FileName}
+use Rattle.catalog_core.specs.IsTable.{IsTable}
+use Rattle.catalog_core.specs.Named.{file_at}
 use Rattle.catalog_core.specs.Table.{Table}
 use Rattle.kept_files.specs.declared.refusal.ReadRefusal.{ReadRefusal}
 use Rattle.kept_files.specs.declared.refusal.ReadRefusal.TheVariants as reading
-use Rattle.executor.specs.Running.{TookAtMost}
+use Rattle.executor.specs.Runs as runs
 use Rattle.executor.specs.Runs.{of_reading}
 use Rattle.executor.specs.declared.refusal.RunRefusal.{RunRefusal}
-use Rattle.executor.specs.declared.refusal.RunRefusal.TheVariants as run
 use Rattle.folder.specs.Sound.{Care}
-use Rattle.folder.specs.State.{State, table}
-use Rattle.planning.specs.Running.{storing}
-use Rattle.folder_session.specs.Machine.{IsFileEvent}
+use Rattle.folder.specs.State.{State}
+use Rattle.folder_session.specs.Machine.{IsFileEvent, IsOfExtent}
 use Rattle.folder_session.specs.WorkRefusals.{refusal_of}
+use Rattle.folder_session.proofs.TurnLemmas.{of_extent_named}
+use Rattle.plan_choice.specs.Leaving.{leaving_out}
 use Rattle.work_run.specs.Ends.{IsRefusedWork}
-use Rattle.work_run.specs.Opened.{IsOpen, IsReadWhole, files_left, opened_rewriting}
-use Rattle.work_run.specs.declared.open.OpenWork.{OpenWork}
-use Rattle.session.specs.Work.{IsNotClosed, run_of}
-
--- where some are left, one is the first
-pub first_left : (files : List FileName) → files ≢ [] → (name : FileName) × (others : List FileName) × (files ≡ name ∷ others)
-first_left [] some = absurd (some refl)
-first_left (name ∷ others) some = (name, others, refl)
-
-module _ (t : Table) (plan : PlainPlan) (work : OpenWork) (is : IsOpen t plan work) (old new : Counts) where
-  -- those that are left are among those of its rewriting
-  pub most_left : TookAtMost (bytes_named t (files_left work)) old new → TookAtMost (bytes_named t (files_of (opened_rewriting work))) old new
-  most_left most =
-      let len : FileName → ℕ = λ name. (file_at t name).len in
-      let whole : bytes_named t (files_of (opened_rewriting work)) ≡ bytes_named t is.names + bytes_named t (files_left work) = ap (bytes_named t) is.rest ∙ sum_by-append len is.names (files_left work) in
-      omega (arith, whole, most)
-
-  -- and so is the first of them
-  pub most_first : (name : FileName) (others : List FileName) → files_left work ≡ name ∷ others → TookAtMost (file_at t name).len old new → TookAtMost (bytes_named t (files_of (opened_rewriting work))) old new
-  most_first name others left most =
-      let len : FileName → ℕ = λ name. (file_at t name).len in
-      let front : bytes_named t (files_left work) ≡ (file_at t name).len + bytes_named t others = ap (bytes_named t) left ∙ sum_by-cons len name others in
-      most_left (omega (arith, front, most))
+use Rattle.work_run.specs.Opened.{opened_rewriting}
+use Rattle.work_turns.proofs.LeftOut.{FilesThere}
+use Rattle.job_turns.specs.Jobs as work
+use Rattle.job_turns.specs.declared.job.JobWork.{JobWork}
 
 -- what reading met is such an event
 pub reading_event : (care : Care) (s : State) (plan : PlainPlan) (cuts : Cuts) (why : ReadRefusal) → IsRefusedWork care s plan cuts (of_reading why) → IsFileEvent care s (refusal_of (of_reading why))
@@ -50,12 +31,14 @@ reading_event care s plan cuts (reading.Damaged file kept found taken) is = is
 reading_event care s plan cuts (reading.Unreadable file at taken) is = absurd is
 reading_event care s plan cuts reading.Memory is = tt
 
--- why it isn't closed, where no limit is passed
-pub not_closed : (care : Care) (s : State) (plan : PlainPlan) (old new : OpenWork) (why : RunRefusal) → storing (table s) (run_of plan old) ≡ Ok (run_of plan old) → IsRefusedWork care s plan old.program.cuts why → IsReadWhole (Err why) new
-    → IsNotClosed care s plan old new (refusal_of why)
-not_closed care s plan old new run.Overflow within is whole = (record { within = within; left = whole }, is)
-not_closed care s plan old new run.Machine within is whole = (record { within = within; left = whole }, is)
-not_closed care s plan old new run.Fault within is whole = tt
-not_closed care s plan old new (run.Damaged file kept found taken) within is whole = is
-not_closed care s plan old new (run.Unreadable file at taken) within is whole = absurd is
-not_closed care s plan old new run.Memory within is whole = tt
+-- damage that reading met is that of an extent
+pub of_extent_read : FilesThere → ((t : Table) (ids : List ℕ) → IsTable t → IsTable (leaving_out ids t)) → (t : Table) → IsTable t → (plan : PlainPlan) (job : JobWork) → work.IsJob t plan job → (why : RunRefusal)
+    → runs.IsOfExtent (file_at t) (opened_rewriting job.work) why → IsOfExtent t (refusal_of why)
+of_extent_read there left_out t is_table plan job is why of =
+    of_extent_named t job.noted.items (opened_rewriting job.work)
+    (there (leaving_out job.noted.items t) plan is.is_open.normal job.work.program.cuts (opened_rewriting job.work) (left_out t job.noted.items is_table) is.is_open.serves is.is_open.are_cuts) why of
+
+-- where their number is 0, none is left
+pub none_left : (files : List FileName) → capped (length files) ≡ 0 → files ≡ []
+none_left [] zero = refl
+none_left (name ∷ files) zero = (let none : min (length (name ∷ files)) (2 ^ 64 - 1) ≡ 0 = zero in absurd (omega (arith, none)))

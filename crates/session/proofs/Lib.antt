@@ -4,6 +4,7 @@ pub mod ClosingLemmas
 pub mod EndedLemmas
 pub mod FolderSteps
 pub mod FoundLemmas
+pub mod GoingLemmas
 pub mod HoldLemmas
 pub mod JobSteps
 pub mod LeftLemmas

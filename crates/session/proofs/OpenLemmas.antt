@@ -20,11 +20,13 @@ use Rattle.folder.specs.State.{State, table}
 use Rattle.folder_session.specs.Standing as folder
 use Rattle.folder_session.specs.declared.session.FolderSession.{FolderSession}
 use Rattle.folder_session.proofs.StepLemmas.{since_none}
-use Rattle.work_run.specs.Opened.{IsOpen, HasRead, files_left, opened_rewriting}
-use Rattle.work_run.specs.declared.open.OpenWork.{OpenWork}
+use Rattle.work_run.specs.Opened.{HasRead, files_left, opened_rewriting}
+use Rattle.job_turns.specs.Jobs as jobs
+use Rattle.job_turns.specs.declared.job.JobWork.{JobWork}
 use Rattle.session.specs.Jobs.{OpenJobs, Admitted, IsAdmitted, IsJob, AreJobs}
 use Rattle.session.specs.Machine as machine
-use Rattle.session.specs.Machine.{Job, Machine, OpensTo, is_open, new_job, outcome, refused, with_jobs}
+use Rattle.session.specs.Machine.{Machine, OpensTo, is_open, new_job, outcome, refused, with_jobs}
+use Rattle.session.specs.MachineJob.{Job}
 use Rattle.session.specs.Standing.{Stands, Performs, jobs_of}
 use Rattle.session.specs.Work.{IsOpened}
 use Rattle.session.specs.declared.session.Session.{Session}
@@ -53,20 +55,22 @@ stays care v session session' m c given stands base same step = record {
 -- ---- opened
 
 -- the job that stands for work as it is opened
-pub is_new_job : (s : State) (t : Table) → t ≡ table s → (name : List ℕ) (run : Run) (work : OpenWork) (old new : OpenJobs) (given : Answer) → (opened : IsOpened t run work) → (a : Admitted name work old new given)
-    → IsJob s (new_job name run (opened_rewriting work) work.used.items) a.added
+pub is_new_job : (s : State) (t : Table) → t ≡ table s → (name : List ℕ) (run : Run) (work : JobWork) (old new : OpenJobs) (given : Answer) → (opened : IsOpened t run work) → (a : Admitted name work old new given)
+    → IsJob s (new_job name run work.normal.plan (opened_rewriting work.work) work.work.used.items) a.added
 is_new_job s t same name run work old new given opened a =
     let job_is = a.job_is in
     record {
       name = a.name_is;
-      program = ap (λ (w : OpenWork). w.program) job_is ∙ opened.program;
-      rewriting = ap opened_rewriting job_is;
-      used = ap (λ (w : OpenWork). w.used.items) job_is;
-      holds = a.holds;
-      is_open = subst (λ (w : OpenWork). IsOpen (table s) run.plan w) (sym job_is) (subst (λ (x : Table). IsOpen x run.plan work) same opened.is_open);
+      program = ap (λ (j : JobWork). j.work.program) job_is ∙ opened.program_is;
+      normal = ap (λ (j : JobWork). j.normal.plan) job_is;
+      rewriting = ap (λ (j : JobWork). opened_rewriting j.work) job_is;
+      used = ap (λ (j : JobWork). j.work.used.items) job_is;
+      noted = ap (λ (j : JobWork). j.noted.items) job_is ∙ opened.noted;
+      before = ap (λ (j : JobWork). j.before) job_is ∙ opened.before;
+      is_job = subst (λ (j : JobWork). jobs.IsJob (table s) run.plan j) (sym job_is) (subst (λ (x : Table). jobs.IsJob x run.plan work) same opened.is_job);
       within = omega arith;
-      left = ap files_left job_is ∙ opened.left;
-      read = subst (λ (w : OpenWork). HasRead s w) (sym job_is) (opened.read s same);
+      left = ap (λ (j : JobWork). files_left j.work) job_is ∙ opened.unread;
+      read = subst (λ (j : JobWork). HasRead s j.work) (sym job_is) (opened.read s same);
     }
 
 module _ (care : Care) (v : View) (session session' : Session) (m : Machine) (stands : Stands care v session m) (base : session'.base ≡ session.base)
@@ -82,19 +86,19 @@ module _ (care : Care) (v : View) (session session' : Session) (m : Machine) (st
   opens_refused why (inl is) = inl (subst (λ (planned : Result Run Refusal). OpensTo m job planned (refused m why)) (sym (opening_so (Err why) is)) refl)
   opens_refused why (inr none) = inr (refusal.Memory, tt, ap answer.Refused none, refl)
 
-  pub opens : (run : Run) (work : OpenWork) (given : Answer) → opening t exists count job name tree ≡ Ok run → IsOpened t run work → IsAdmitted job work (jobs_of session) (jobs_of session') given
+  pub opens : (run : Run) (work : JobWork) (given : Answer) → opening t exists count job name tree ≡ Ok run → IsOpened t run work → IsAdmitted job work (jobs_of session) (jobs_of session') given
       → Performs care v v session' m (command.OpenJob job name tree) given
   opens run work given is opened (inl a) =
-      let added = new_job job run (opened_rewriting work) work.used.items in
+      let added = new_job job run work.normal.plan (opened_rewriting work.work) work.work.used.items in
       record {
         new = with_jobs m (m.jobs ++ added ∷ []);
         step = inl (subst (λ (planned : Result Run Refusal). OpensTo m job planned (outcome given (with_jobs m (m.jobs ++ added ∷ [])))) (sym (opening_so (Ok run) is)) (record {
-          normal = opened.normal;
-          rewriting = opened_rewriting work;
-          taken = subst (λ (x : Table). IsTaken x run.plan opened.normal run.program.cuts (opened_rewriting work)) same opened.taken;
-          used = work.used.items;
-          are_used = opened.used;
-          is = λ i. outcome ((a.told ∙ ap (λ (files : List FileName). answer.Ready (capped (length files))) opened.left) i) (with_jobs m (m.jobs ++ added ∷ []));
+          normal = work.normal.plan;
+          rewriting = opened_rewriting work.work;
+          taken = subst (λ (x : Table). IsTaken x run.plan work.normal.plan run.program.cuts (opened_rewriting work.work)) same opened.taken;
+          used = work.work.used.items;
+          are_used = opened.is_job.is_open.used;
+          is = λ i. outcome ((a.told ∙ ap (λ (files : List FileName). answer.Ready (capped (length files))) opened.unread) i) (with_jobs m (m.jobs ++ added ∷ []));
         }));
         stands = stands_with care v session session' m (m.jobs ++ added ∷ []) stands base
             (subst (AreJobs m.state (m.jobs ++ added ∷ [])) (sym a.behind) (both_more (IsJob m.state) m.jobs (jobs_of session) added a.added stands.jobs (is_new_job m.state t same job run work (jobs_of session) (jobs_of session') given opened a)));

@@ -22,13 +22,13 @@ use Rattle.folder_session.proofs.StepLemmas.{want_event}
 use Rattle.folder_session.proofs.TakenLemmas.{none_for}
 use Rattle.later_states.specs.Later.{IsLater, IsLaterState}
 use Rattle.session.specs.Causes.{HasByteCause}
-use Rattle.session.specs.Jobs.{OpenJobs, AreJobs}
+use Rattle.session.specs.Jobs.{OpenJobs, AreJobs, held_of}
 use Rattle.session.specs.Machine.{Machine, Step, held_by}
 use Rattle.session.specs.Standing.{Stands, Performs, Breaks, folder_of, jobs_of}
 use Rattle.session.specs.Taken.{TakesAsTold, TakesFor}
 use Rattle.session.specs.declared.session.Session.{Session}
 use Rattle.session.proofs.FolderSteps.{more_by_step, step_beside}
-use Rattle.session.proofs.StayLemmas.{StaysOpen, StaysRead, AreAllHeld, all_held, holds_of, same_held, still_jobs}
+use Rattle.session.proofs.StayLemmas.{StaysOpen, StaysRead, AreAllHeld, all_held, same_held, still_jobs}
 
 -- the state after it comes later
 later_state : (held : List ℕ) (s u : State) (t x : Table) → t ≡ table s → x ≡ table u → IsLater held t x → (care : Care) (c : Command) (given : Answer) → machine.Step care held s c given u → IsLaterState held s u
@@ -37,7 +37,7 @@ later_state held s u t x before after later care c given step = record {
   rows = more_by_step care held s u c given step;
 }
 
-module _ (stays : StaysOpen) (reads : StaysRead) (care : Care) (u v : View) (session session' : Session) (m : Machine) (held : List ℕ) (stands : Stands care u session m) (held_is : held ≡ holds_of (jobs_of session)) (c : Command) (other : IsOfJobs c → ⊥) where
+module _ (stays : StaysOpen) (reads : StaysRead) (care : Care) (u v : View) (session session' : Session) (m : Machine) (held : List ℕ) (stands : Stands care u session m) (held_is : held ≡ held_of (jobs_of session)) (c : Command) (other : IsOfJobs c → ⊥) where
   by_machine : held ≡ held_by m.jobs
   by_machine = held_is ∙ sym (same_held m.state m.jobs (jobs_of session) stands.jobs)
 

@@ -5,12 +5,13 @@ use Rattle.std.specs.List.{AllByRecursion, position, position_from, remove}
 use Rattle.std.proofs.lemmas.Iterator.Adapters.{position_from-zero}
 use Rattle.row_blob.specs.Kept.{AreEach}
 use Rattle.job_table.specs.declared.table.OpenJob.{OpenJob}
-use Rattle.work_run.specs.declared.open.OpenWork.{OpenWork}
+use Rattle.job_turns.specs.declared.job.JobWork.{JobWork}
 use Rattle.session.specs.Jobs.{OpenJobs, open_named}
-use Rattle.session.specs.Machine.{Job, is_named, job_named, is_open, put_for}
+use Rattle.session.specs.Machine.{is_named, job_named, is_open, put_for}
+use Rattle.session.specs.MachineJob.{Job}
 
 module _ (name : List ℕ) where
-  abbrev pub has_name : OpenJob OpenWork → Bool
+  abbrev pub has_name : OpenJob JobWork → Bool
   has_name o = bytes_eq o.name name
 
   -- the job at this place has the name, and none before it
@@ -56,7 +57,7 @@ module _ (name : List ℕ) where
   within_first (o ∷ os) zero is = omega arith
   within_first (o ∷ os) (suc at) is = let rest = within_first os at is.1 in omega (arith, rest)
 
-  pub opened_at : (opens : OpenJobs) (at : ℕ) (d : OpenJob OpenWork) → IsFirstNamed opens at → open_named opens name ≡ Some (get_or opens at d)
+  pub opened_at : (opens : OpenJobs) (at : ℕ) (d : OpenJob JobWork) → IsFirstNamed opens at → open_named opens name ≡ Some (get_or opens at d)
   opened_at [] at d is = absurd is
   opened_at (o ∷ os) zero d is = subst (λ (b : Bool). cond b (Some o) (open_named os name) ≡ Some o) (sym is) refl
   opened_at (o ∷ os) (suc at) d is = subst (λ (b : Bool). cond b (Some o) (open_named os name) ≡ Some (get_or os at d)) (sym is.0) (opened_at os at d is.1)
@@ -65,8 +66,8 @@ module _ (name : List ℕ) where
   none_opened [] none = refl
   none_opened (o ∷ os) none = subst (λ (b : Bool). cond b (Some o) (open_named os name) ≡ None) (sym none.0) (none_opened os none.1)
 
-  module _ (P : Job → OpenJob OpenWork → Type 0) (same_name : (job : Job) (o : OpenJob OpenWork) → P job o → o.name ≡ job.name) where
-    named_so : (job : Job) (o : OpenJob OpenWork) (b : Bool) → P job o → has_name o ≡ b → b ≡ is_named name job
+  module _ (P : Job → OpenJob JobWork → Type 0) (same_name : (job : Job) (o : OpenJob JobWork) → P job o → o.name ≡ job.name) where
+    named_so : (job : Job) (o : OpenJob JobWork) (b : Bool) → P job o → has_name o ≡ b → b ≡ is_named name job
     named_so job o b is e = sym e ∙ ap (λ (n : List ℕ). bytes_eq n name) (same_name job o is)
 
     -- no job of the machine has it either
@@ -82,7 +83,7 @@ module _ (name : List ℕ) where
         )
 
     -- the machine's job of the name
-    pub job_at : (jobs : List Job) (opens : OpenJobs) (at : ℕ) (d : OpenJob OpenWork) → AreEach P jobs opens → IsFirstNamed opens at → (job : Job) × (job_named jobs name ≡ Some job) × (is_open jobs name ≡ true) × P job (get_or opens at d)
+    pub job_at : (jobs : List Job) (opens : OpenJobs) (at : ℕ) (d : OpenJob JobWork) → AreEach P jobs opens → IsFirstNamed opens at → (job : Job) × (job_named jobs name ≡ Some job) × (is_open jobs name ≡ true) × P job (get_or opens at d)
     job_at [] [] at d are is = absurd is
     job_at [] (o ∷ os) at d are is = absurd are
     job_at (j ∷ js) [] at d are is = absurd is
@@ -103,7 +104,7 @@ module _ (name : List ℕ) where
         )
 
     -- another job in its place
-    pub put_at : (jobs : List Job) (opens : OpenJobs) (at : ℕ) (job : Job) (x : OpenJob OpenWork) → AreEach P jobs opens → IsFirstNamed opens at → P job x → AreEach P (put_for name (job ∷ []) jobs) (set opens at x)
+    pub put_at : (jobs : List Job) (opens : OpenJobs) (at : ℕ) (job : Job) (x : OpenJob JobWork) → AreEach P jobs opens → IsFirstNamed opens at → P job x → AreEach P (put_for name (job ∷ []) jobs) (set opens at x)
     put_at [] [] at job x are is new = absurd is
     put_at [] (o ∷ os) at job x are is new = absurd are
     put_at (j ∷ js) [] at job x are is new = absurd is

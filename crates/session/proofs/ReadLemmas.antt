@@ -4,12 +4,13 @@ use Rattle.rewrite_core.specs.Files.{FileName, files_of}
 use Rattle.rewrite_core.specs.PlainRewriting.{rewriting_of}
 use Rattle.folder.specs.State.{State, table}
 use Rattle.job_table.specs.declared.table.OpenJob.{OpenJob}
-use Rattle.work_run.specs.Opened.{IsOpen, HasRead, IsSameWork, files_left}
-use Rattle.work_run.specs.declared.open.OpenWork.{OpenWork}
+use Rattle.work_run.specs.Opened.{HasRead, IsSameWork, files_left}
+use Rattle.job_turns.specs.Jobs as work
+use Rattle.job_turns.specs.declared.job.JobWork.{JobWork}
 use Rattle.session.specs.Jobs.{IsJob}
-use Rattle.session.specs.Machine.{Job, steps_of, left_of, read_to, stepped}
+use Rattle.session.specs.MachineJob.{Job, steps_of, left_of, read_to, stepped}
 
-drop_more : {A : Type 0} (names rest : List A) → drop (length names) (names ++ rest) ≡ rest
+pub drop_more : {A : Type 0} (names rest : List A) → drop (length names) (names ++ rest) ≡ rest
 drop_more [] rest = refl
 drop_more (x ∷ names) rest = drop_more names rest
 
@@ -29,29 +30,44 @@ further_within d xs names rest low is =
     let count : length xs - d ≡ length names + length rest = sym (length-drop d xs) ∙ ap length is ∙ length-append names rest in
     omega (arith, count, low)
 
+-- nothing of the work changes but what is read of it
+pub record IsSameJob (old new : JobWork) : Type 0 where
+  pub same : IsSameWork old.work new.work
+  pub normal : new.normal ≡ old.normal
+  pub noted : new.noted ≡ old.noted
+  pub before : new.before ≡ old.before
+
 -- the job as it stands for work that is read on
-module _ (s : State) (job : Job) (o o' : OpenJob OpenWork) (is : IsJob s job o) (names_same : o'.name ≡ o.name) (holds_same : o'.holds.items ≡ o.holds.items) (same : IsSameWork o.job o'.job)
-    (still : IsOpen (table s) job.run.plan o'.job) (read : HasRead s o'.job) where
-  pub read_on : (names : List FileName) → files_left o.job ≡ names ++ files_left o'.job → (job.done + length names ≤ steps_of job) × IsJob s (read_to (job.done + length names) job) o'
+module _ (s : State) (job : Job) (o o' : OpenJob JobWork) (is : IsJob s job o) (names_same : o'.name ≡ o.name) (same : IsSameJob o.job o'.job) (still : work.IsJob (table s) job.run.plan o'.job) (read : HasRead s o'.job.work) where
+  pub read_on : (names : List FileName) → files_left o.job.work ≡ names ++ files_left o'.job.work → (job.done + length names ≤ steps_of job) × IsJob s (read_to (job.done + length names) job) o'
   read_on names left =
-      let is_left : drop job.done (files_of job.rewriting) ≡ names ++ files_left o'.job = sym is.left ∙ left in
-      let within = further_within job.done (files_of job.rewriting) names (files_left o'.job) is.within is_left in (
+      let is_left : drop job.done (files_of job.rewriting) ≡ names ++ files_left o'.job.work = sym is.left ∙ left in
+      let within = further_within job.done (files_of job.rewriting) names (files_left o'.job.work) is.within is_left in (
         within,
         record {
           name = names_same ∙ is.name;
-          program = same.program ∙ is.program;
-          rewriting = ap rewriting_of same.rewriting ∙ is.rewriting;
-          used = ap (λ u. u.items) same.used ∙ is.used;
-          holds = holds_same ∙ is.holds;
-          is_open = still;
+          program = same.same.program ∙ is.program;
+          normal = ap (λ n. n.plan) same.normal ∙ is.normal;
+          rewriting = ap rewriting_of same.same.rewriting ∙ is.rewriting;
+          used = ap (λ u. u.items) same.same.used ∙ is.used;
+          noted = ap (λ u. u.items) same.noted ∙ is.noted;
+          before = same.before ∙ is.before;
+          is_job = still;
           within = within;
-          left = further job.done (files_of job.rewriting) names (files_left o'.job) is_left;
+          left = further job.done (files_of job.rewriting) names (files_left o'.job.work) is_left;
           read = read;
         },
       )
 
+  -- nothing is read
+  pub read_none : files_left o'.job.work ≡ files_left o.job.work → IsJob s job o'
+  read_none left =
+      let on = read_on [] (sym left) in
+      let none : job.done + 0 ≡ job.done = omega arith in
+      subst (λ (n : ℕ). IsJob s (read_to n job) o') none on.1
+
   -- one file further
-  pub step_on : (name : FileName) → files_left o.job ≡ name ∷ files_left o'.job → IsJob s (stepped job) o' × (length (files_left o'.job) ≡ left_of (stepped job))
+  pub step_on : (name : FileName) → files_left o.job.work ≡ name ∷ files_left o'.job.work → IsJob s (stepped job) o' × (length (files_left o'.job.work) ≡ left_of (stepped job))
   step_on name left =
       let on = read_on (name ∷ []) left in
       let low = on.0 in
@@ -62,11 +78,11 @@ module _ (s : State) (job : Job) (o o' : OpenJob OpenWork) (is : IsJob s job o) 
       )
 
   -- none is left
-  pub stay_on : files_left o.job ≡ [] → o'.job ≡ o.job → IsJob s (stepped job) o' × (length (files_left o'.job) ≡ left_of (stepped job))
-  stay_on none job_same =
-      let on = read_on [] (sym (ap files_left job_same)) in
-      let count : length (files_left o.job) ≡ steps_of job - job.done = ap length is.left ∙ length-drop job.done (files_of job.rewriting) in
-      let empty : length (files_left o.job) ≡ 0 = ap length none in
+  pub stay_on : files_left o.job.work ≡ [] → files_left o'.job.work ≡ files_left o.job.work → IsJob s (stepped job) o' × (length (files_left o'.job.work) ≡ left_of (stepped job))
+  stay_on none left_same =
+      let on = read_on [] (sym left_same) in
+      let count : length (files_left o.job.work) ≡ steps_of job - job.done = ap length is.left ∙ length-drop job.done (files_of job.rewriting) in
+      let empty : length (files_left o.job.work) ≡ 0 = ap length none in
       let low = is.within in
       let all : job.done + 0 ≡ min (job.done + 1) (steps_of job) = omega (arith, count, empty, low) in
       let now : IsJob s (stepped job) o' = subst (λ (n : ℕ). IsJob s (read_to n job) o') all on.1 in (
@@ -74,20 +90,11 @@ module _ (s : State) (job : Job) (o o' : OpenJob OpenWork) (is : IsJob s job o) 
         ap length now.left ∙ length-drop (stepped job).done (files_of job.rewriting),
       )
 
-  -- all are read
-  pub read_all : (names : List FileName) → files_left o.job ≡ names ++ files_left o'.job → files_left o'.job ≡ [] → IsJob s (read_to (steps_of job) job) o'
-  read_all names left none =
-      let on = read_on names left in
-      let count : length (files_left o'.job) ≡ steps_of job - (job.done + length names) = ap length on.1.left ∙ length-drop (job.done + length names) (files_of job.rewriting) in
-      let empty : length (files_left o'.job) ≡ 0 = ap length none in
-      let low = on.0 in
-      subst (λ (n : ℕ). IsJob s (read_to n job) o') (omega (arith, count, empty, low)) on.1
-
 -- a file of a job is left where one of its work is
-pub has_left : (s : State) (job : Job) (o : OpenJob OpenWork) → IsJob s job o → files_left o.job ≢ [] → 0 < left_of job
+pub has_left : (s : State) (job : Job) (o : OpenJob JobWork) → IsJob s job o → files_left o.job.work ≢ [] → 0 < left_of job
 has_left s job o is some =
-    let count : length (files_left o.job) ≡ left_of job = ap length is.left ∙ length-drop job.done (files_of job.rewriting) in
-    by (files_left o.job) some count
+    let count : length (files_left o.job.work) ≡ left_of job = ap length is.left ∙ length-drop job.done (files_of job.rewriting) in
+    by (files_left o.job.work) some count
   where
     by : (files : List FileName) → files ≢ [] → length files ≡ left_of job → 0 < left_of job
     by [] some count = absurd (some refl)

@@ -24,7 +24,8 @@ use Rattle.folder_session.specs.Causes.{SparesStore}
 use Rattle.folder_session.specs.Machine as folder
 use Rattle.folder_session.proofs.RefusalLemmas.{spares_if, storing_spares, untyped_spares, unbound_spares}
 use Rattle.folder_session.proofs.RefusalLemmas as of_folder
-use Rattle.session.specs.Machine.{Job, Machine, Outcome, outcome, refused, is_open, job_named, OpensTo, StepsTo, IsClosing, ClosesBy, ClosesTo, DropsTo, PerformsBeside, Performs, IsEvent, Step, held_by, left_of, stepped}
+use Rattle.session.specs.Machine.{Machine, Outcome, outcome, refused, is_open, job_named, OpensTo, StandsSo, StepsTo, IsClosing, ClosesBy, ClosesTo, DropsTo, PerformsBeside, Performs, IsEvent, Step, held_by}
+use Rattle.session.specs.MachineJob.{Job, left_of, stepped}
 
 -- ---- what the opening of a job refuses is laid to the command
 
@@ -70,25 +71,30 @@ opened_spares m name (Ok run) why new spares opens =
     absurd (cc)
 opened_spares m name (Err w) why new spares is = refused_spares m why w new is spares
 
-stepped_spares : (m : Machine) (name : List ℕ) (job : Option Job) (why : Refusal) (new : Machine) → StepsTo m name job (outcome (answer.Refused why) new) → SparesStore why
-stepped_spares m name (Some job) why new is =
-    let same : answer.Refused why ≡ answer.Left (capped (left_of (stepped job))) = ap (λ (o : Outcome). o.answer) is in
+-- a job that stands so isn't refused
+pub never_refused : (m : Machine) (name : List ℕ) (job : Job) (why : Refusal) (new : Machine) → StandsSo m name job (outcome (answer.Refused why) new) → ⊥
+never_refused m name job why new is =
+    let same : answer.Refused why ≡ answer.Left (capped (left_of job)) = ap (λ (o : Outcome). o.answer) is in
     absurd (cc)
-stepped_spares m name None why new is = refused_spares m why (refusal.Unknown name) new is tt
 
-closing_spares : (m : Machine) (name : List ℕ) (job : Job) (why : Refusal) (new : Machine) → IsClosing m name job (answer.Refused why) new → SparesStore why
-closing_spares m name job refusal.Fault new is = absurd is
-closing_spares m name job (refusal.Damaged file kept found) new is = absurd is
-closing_spares m name job (refusal.Unreadable file at) new is = absurd is
-closing_spares m name job _ new is = tt
+stepped_spares : (care : Care) (m : Machine) (name : List ℕ) (job : Option Job) (why : Refusal) (new : Machine) → StepsTo care m name job (outcome (answer.Refused why) new) → SparesStore why
+stepped_spares care m name (Some job) why new (inl is) = absurd (never_refused m name (stepped job) why new is)
+stepped_spares care m name (Some job) why new (inr is) = absurd (never_refused m name is.0 why new is.2)
+stepped_spares care m name None why new is = refused_spares m why (refusal.Unknown name) new is tt
 
-closed_by_spares : (m : Machine) (name : List ℕ) (job : Job) (planned : Result Run Refusal) (why : Refusal) (new : Machine) → IfErr planned SparesStore → ClosesBy m name job planned (outcome (answer.Refused why) new) → SparesStore why
-closed_by_spares m name job (Ok run) why new spares is = closing_spares m name job why new is
-closed_by_spares m name job (Err w) why new spares is = refused_spares m why w new is spares
+closing_spares : (care : Care) (m : Machine) (name : List ℕ) (job : Job) (why : Refusal) (new : Machine) → IsClosing care m name job (answer.Refused why) new → SparesStore why
+closing_spares care m name job refusal.Fault new is = absurd is
+closing_spares care m name job (refusal.Damaged file kept found) new is = absurd is
+closing_spares care m name job (refusal.Unreadable file at) new is = absurd is
+closing_spares care m name job _ new is = tt
 
-closed_spares : (m : Machine) (name : List ℕ) (job : Option Job) (why : Refusal) (new : Machine) → ClosesTo m name job (outcome (answer.Refused why) new) → SparesStore why
-closed_spares m name (Some job) why new is = closed_by_spares m name job (storing (table m.state) job.run) why new (storing_spares (table m.state) job.run) is
-closed_spares m name None why new is = refused_spares m why (refusal.Unknown name) new is tt
+closed_by_spares : (care : Care) (m : Machine) (name : List ℕ) (job : Job) (planned : Result Run Refusal) (why : Refusal) (new : Machine) → IfErr planned SparesStore → ClosesBy care m name job planned (outcome (answer.Refused why) new) → SparesStore why
+closed_by_spares care m name job (Ok run) why new spares is = closing_spares care m name job why new is
+closed_by_spares care m name job (Err w) why new spares is = refused_spares m why w new is spares
+
+closed_spares : (care : Care) (m : Machine) (name : List ℕ) (job : Option Job) (why : Refusal) (new : Machine) → ClosesTo care m name job (outcome (answer.Refused why) new) → SparesStore why
+closed_spares care m name (Some job) why new is = closed_by_spares care m name job (storing (table m.state) job.run) why new (storing_spares (table m.state) job.run) is
+closed_spares care m name None why new is = refused_spares m why (refusal.Unknown name) new is tt
 
 dropped_spares : (m : Machine) (name : List ℕ) (job : Option Job) (why : Refusal) (new : Machine) → DropsTo m name job (outcome (answer.Refused why) new) → SparesStore why
 dropped_spares m name (Some job) why new is =
@@ -102,8 +108,8 @@ beside_spares care m c why new beside = of_folder.performed_spares care (held_by
 pub performed_spares : (care : Care) (m : Machine) (c : Command) (why : Refusal) (new : Machine) → Performs care m c (outcome (answer.Refused why) new) → SparesStore why
 performed_spares care m (command.OpenJob job name tree) why new is =
     opened_spares m job (opening (table m.state) (is_open m.jobs job) (length m.jobs) job name tree) why new (opening_spares (table m.state) (is_open m.jobs job) (length m.jobs) job name tree) is
-performed_spares care m (command.Step job) why new is = stepped_spares m job (job_named m.jobs job) why new is
-performed_spares care m (command.Close job) why new is = closed_spares m job (job_named m.jobs job) why new is
+performed_spares care m (command.Step job) why new is = stepped_spares care m job (job_named m.jobs job) why new is
+performed_spares care m (command.Close job) why new is = closed_spares care m job (job_named m.jobs job) why new is
 performed_spares care m (command.DropJob job) why new is = dropped_spares m job (job_named m.jobs job) why new is
 performed_spares care m c why new is = beside_spares care m c why new is
 
@@ -117,7 +123,7 @@ of_command s c why event none = of_folder.step_spares [] s s c why (inr (why, ev
 event_spares : (m : Machine) (c : Command) (why : Refusal) → IsEvent Whole m c why → (why ≡ refusal.Fault → ⊥) → SparesStore why
 event_spares m (command.OpenJob job name tree) why event none = of_command m.state command.Entries why event none
 event_spares m (command.Step job) why event none = of_folder.file_event_spares m.state why event.1 none
-event_spares m (command.Close job) why event none = of_folder.file_event_spares m.state why event none
+event_spares m (command.Close job) why event none = of_folder.file_event_spares m.state why event.0 none
 event_spares m (command.DropJob job) why event none = absurd event
 event_spares m c why event none = of_command m.state c why event none
 

@@ -1,5 +1,5 @@
 -- The abstract machine: a folder's state and the open jobs, what is answered to each command, and what is held then.
-use Rattle.std.specs.Prelude.{◌≡◌, ◌⊎◌, ℕ, ◌+◌, ◌-◌, ◌≤◌, ◌<◌, min, bytes_eq, if◌then◌else◌, Bool, List, [], ◌∷◌, ◌++◌, length, flat_map, Option, None, Some, Result, Ok, Err}
+use Rattle.std.specs.Prelude.{◌≡◌, ◌⊎◌, ℕ, ◌<◌, bytes_eq, if◌then◌else◌, Bool, List, [], ◌∷◌, ◌++◌, length, flat_map, Option, None, Some, Result, Ok, Err}
 use Rattle.std.specs.List.{find, list_any}
 use Rattle.plan_core.specs.PlainPlan.{PlainPlan}
 use Rattle.estimator.specs.Bytes.{capped}
@@ -19,31 +19,11 @@ use Rattle.script_text.specs.declared.item.Command.TheVariants as command
 use Rattle.folder.specs.Sound.{Care}
 use Rattle.folder.specs.State.{State, kinds_in, table}
 use Rattle.folder_session.specs.Machine as folder
-use Rattle.folder_session.specs.Machine.{IsFileEvent, IsWant}
-use Rattle.work_run.specs.Working.{WorksBy, Overflows, IsDear}
+use Rattle.folder_session.specs.Machine.{IsFileEvent, IsOfExtent, IsWant}
+use Rattle.work_run.specs.Working.{Overflows, IsDear}
 use Rattle.work_run.specs.Working as work
-
--- ---- jobs
-
--- A job: its name; the plan that it was opened with, and what that is stored as when it is closed, with the extents of its opening;
--- the rewriting that was taken then, and the ids of the kept results that this reads; and how many of its files are read.
-pub record Job : Type 0 where
-  pub name : List ℕ
-  pub run : Run
-  pub rewriting : PlainRewriting
-  pub used : List ℕ
-  pub done : ℕ
-
--- how many files it reads, each as often as it is named, and how many of them are left
-abbrev pub steps_of : Job → ℕ
-steps_of job = length (files_of job.rewriting)
-
-abbrev pub left_of : Job → ℕ
-left_of job = steps_of job - job.done
-
--- so many of its files are read
-abbrev pub read_to : ℕ → Job → Job
-read_to done job = record job { done = done }
+use Rattle.job_turns.specs.Ends.{WorksAtLast}
+use Rattle.session.specs.MachineJob.{Job, GoesOn, NotesNext, left_of, steps_of, stepped}
 
 -- ---- jobs by name, in the order of their opening
 
@@ -91,9 +71,9 @@ refused m why = outcome (answer.Refused why) m
 
 -- ---- commands on jobs
 
--- the job as it is opened: none of its files is read
-abbrev pub new_job : List ℕ → Run → PlainRewriting → List ℕ → Job
-new_job name run rewriting used = record { name = name; run = run; rewriting = rewriting; used = used; done = 0 }
+-- the job as it is opened: none of its files is read, and none is noted
+abbrev pub new_job : List ℕ → Run → PlainPlan → PlainRewriting → List ℕ → Job
+new_job name run normal rewriting used = record { name = name; run = run; normal = normal; rewriting = rewriting; used = used; done = 0; noted = []; before = 0 }
 
 -- a least rewriting of the plan's normal form is taken, and the job stands behind the others
 pub record Opens (m : Machine) (name : List ℕ) (run : Run) (given : Outcome) : Type 0 where
@@ -102,47 +82,55 @@ pub record Opens (m : Machine) (name : List ℕ) (run : Run) (given : Outcome) :
   pub taken : IsTaken (table m.state) run.plan normal run.program.cuts rewriting
   pub used : List ℕ
   pub are_used : AreIdsOf (files_of rewriting) used
-  pub is : given ≡ outcome (answer.Ready (capped (length (files_of rewriting)))) (with_jobs m (m.jobs ++ new_job name run rewriting used ∷ []))
+  pub is : given ≡ outcome (answer.Ready (capped (length (files_of rewriting)))) (with_jobs m (m.jobs ++ new_job name run normal rewriting used ∷ []))
 
 abbrev pub OpensTo : Machine → List ℕ → Result Run Refusal → Outcome → Type 0
 OpensTo m name (Ok run) given = Opens m name run given
 OpensTo m name (Err why) given = given ≡ refused m why
 
--- one more of the job's files is read, or none where none is left
-abbrev pub stepped : Job → Job
-stepped job = read_to (min (job.done + 1) (steps_of job)) job
+-- the job is this now, and so many of its files are left
+abbrev pub StandsSo : Machine → List ℕ → Job → Outcome → Type 0
+StandsSo m name job given = given ≡ outcome (answer.Left (capped (left_of job))) (with_jobs m (put_for name (job ∷ []) m.jobs))
 
-abbrev pub StepsTo : Machine → List ℕ → Option Job → Outcome → Type 0
-StepsTo m name (Some job) given = given ≡ outcome (answer.Left (capped (left_of (stepped job)))) (with_jobs m (put_for name (stepped job ∷ []) m.jobs))
-StepsTo m name None given = given ≡ refused m (refusal.Unknown name)
+-- one more of its files is read, or none where none is left; or a kept result is noted, whose file is the next one
+abbrev pub StepsTo : Care → Machine → List ℕ → Option Job → Outcome → Type 0
+StepsTo care m name (Some job) given = StandsSo m name (stepped job) given ⊎ ((new : Job) × NotesNext care m.state job new × StandsSo m name new given)
+StepsTo care m name None given = given ≡ refused m (refusal.Unknown name)
 
 -- all its files are read
-abbrev pub read_whole : Machine → List ℕ → Job → Machine
-read_whole m name job = with_jobs m (put_for name (read_to (steps_of job) job ∷ []) m.jobs)
+pub record ReadsWhole (care : Care) (s : State) (job last : Job) : Type 0 where
+  pub goes : GoesOn care s job last
+  pub whole : last.done ≡ steps_of last
 
--- The rows are the meaning of the plan as it is written, on the extents at the job's opening, whatever came between. They are made by
--- the job's rewriting of the plan's normal form; and the job is gone.
-pub record Closes (m : Machine) (name : List ℕ) (job : Job) (is : work.Given) (new : Machine) : Type 0 where
-  pub normal : PlainPlan
-  pub is_normal : IsNormalFormOf (kinds_in m.state.streams) job.run.plan normal
-  pub works : WorksBy m.state (Some job.run.program) job.run.plan normal job.run.program.cuts job.rewriting is new.state
+-- The rows are the meaning of the plan as it is written, on the extents at the job's opening, whatever came between and whatever was
+-- damaged. They are made by the rewriting of the plan's normal form that it came to; the results that it noted are dropped, but those
+-- that other jobs hold; and the job is gone.
+pub record Closes (care : Care) (m : Machine) (name : List ℕ) (job : Job) (is : work.Given) (new : Machine) : Type 0 where
+  pub last : Job
+  pub reads : ReadsWhole care m.state job last
+  pub is_normal : IsNormalFormOf (kinds_in m.state.streams) job.run.plan job.normal
+  pub works : WorksAtLast (held_by (put_for name [] m.jobs)) last.noted last.before m.state (Some job.run.program) job.run.plan job.normal job.run.program.cuts last.rewriting is new.state
   pub gone : new.jobs ≡ put_for name [] m.jobs
 
--- Or it is refused for an overflow, or for a machine time above its limit; then the job stays, and its files are read.
-abbrev pub IsClosing : Machine → List ℕ → Job → Answer → Machine → Type 0
-IsClosing m name job (answer.Result rows used kept read) new = Closes m name job (work.given rows used kept read) new
-IsClosing m name job (answer.Refused refusal.Overflow) new = Overflows m.state job.run.plan job.run.program.cuts × (new ≡ read_whole m name job)
-IsClosing m name job (answer.Refused (refusal.Limit limit.Machine)) new = IsDear m.state job.run.plan job.run.program.cuts × (new ≡ read_whole m name job)
-IsClosing m name job _ new = ⊥
+-- the job stays, with all its files read
+abbrev pub LeavesRead : Care → Machine → List ℕ → Job → Machine → Type 0
+LeavesRead care m name job new = (last : Job) × ReadsWhole care m.state job last × (new ≡ with_jobs m (put_for name (last ∷ []) m.jobs))
 
-abbrev pub ClosesBy : Machine → List ℕ → Job → Result Run Refusal → Outcome → Type 0
-ClosesBy m name job (Ok run) given = IsClosing m name job given.answer given.machine
-ClosesBy m name job (Err why) given = given ≡ refused m why
+-- Or it is refused for an overflow, or for a machine time above its limit.
+abbrev pub IsClosing : Care → Machine → List ℕ → Job → Answer → Machine → Type 0
+IsClosing care m name job (answer.Result rows used kept read) new = Closes care m name job (work.given rows used kept read) new
+IsClosing care m name job (answer.Refused refusal.Overflow) new = Overflows m.state job.run.plan job.run.program.cuts × LeavesRead care m name job new
+IsClosing care m name job (answer.Refused (refusal.Limit limit.Machine)) new = IsDear m.state job.run.plan job.run.program.cuts × LeavesRead care m name job new
+IsClosing care m name job _ new = ⊥
+
+abbrev pub ClosesBy : Care → Machine → List ℕ → Job → Result Run Refusal → Outcome → Type 0
+ClosesBy care m name job (Ok run) given = IsClosing care m name job given.answer given.machine
+ClosesBy care m name job (Err why) given = given ≡ refused m why
 
 -- the limits of programs and of commands are looked at when it is closed
-abbrev pub ClosesTo : Machine → List ℕ → Option Job → Outcome → Type 0
-ClosesTo m name (Some job) given = ClosesBy m name job (storing (table m.state) job.run) given
-ClosesTo m name None given = given ≡ refused m (refusal.Unknown name)
+abbrev pub ClosesTo : Care → Machine → List ℕ → Option Job → Outcome → Type 0
+ClosesTo care m name (Some job) given = ClosesBy care m name job (storing (table m.state) job.run) given
+ClosesTo care m name None given = given ≡ refused m (refusal.Unknown name)
 
 abbrev pub DropsTo : Machine → List ℕ → Option Job → Outcome → Type 0
 DropsTo m name (Some job) given = given ≡ outcome answer.Ok (with_jobs m (put_for name [] m.jobs))
@@ -155,12 +143,11 @@ pub record PerformsBeside (care : Care) (m : Machine) (c : Command) (given : Out
   pub of_folder : folder.Performs care (held_by m.jobs) m.state c (folder.outcome given.answer given.machine.state)
   pub jobs : given.machine.jobs ≡ m.jobs
 
--- What the machine does where there is memory and the file of each extent, and of each kept result that a job reads, is read. So much is
--- known of the files.
+-- What the machine does where there is memory and the file of each extent is read. So much is known of the files.
 abbrev pub Performs : Care → Machine → Command → Outcome → Type 0
 Performs care m (command.OpenJob job name tree) given = OpensTo m job (opening (table m.state) (is_open m.jobs job) (length m.jobs) job name tree) given
-Performs care m (command.Step job) given = StepsTo m job (job_named m.jobs job) given
-Performs care m (command.Close job) given = ClosesTo m job (job_named m.jobs job) given
+Performs care m (command.Step job) given = StepsTo care m job (job_named m.jobs job) given
+Performs care m (command.Close job) given = ClosesTo care m job (job_named m.jobs job) given
 Performs care m (command.DropJob job) given = DropsTo m job (job_named m.jobs job) given
 Performs care m c given = PerformsBeside care m c given
 
@@ -169,25 +156,25 @@ abbrev pub HasLeft : Option Job → Type 0
 HasLeft (Some job) = 0 < left_of job
 HasLeft None = ⊥
 
--- What may come in the course of a command in place of its answer: want of memory, and where files are read what reading meets. A
--- step reads where a file is left; where none is, and where a job is dropped, no memory is wanted.
+-- What may come in the course of a command in place of its answer: want of memory, and where files are read what reading meets, of
+-- which damage is that of extents. A step reads where a file is left; where none is, and where a job is dropped, no memory is wanted.
 abbrev pub IsEvent : Care → Machine → Command → Refusal → Type 0
 IsEvent care m (command.OpenJob job name tree) why = IsWant why
-IsEvent care m (command.Step job) why = HasLeft (job_named m.jobs job) × IsFileEvent care m.state why
-IsEvent care m (command.Close job) why = IsFileEvent care m.state why
+IsEvent care m (command.Step job) why = HasLeft (job_named m.jobs job) × IsFileEvent care m.state why × IsOfExtent (table m.state) why
+IsEvent care m (command.Close job) why = IsFileEvent care m.state why × IsOfExtent (table m.state) why
 IsEvent care m (command.DropJob job) why = ⊥
 IsEvent care m c why = folder.IsEvent care m.state c why
 
--- some more of the job's files may be read
-abbrev pub IsReadOn : List ℕ → List Job → Option Job → List Job → Type 0
-IsReadOn name jobs (Some job) new = (done : ℕ) × (job.done ≤ done) × (done ≤ steps_of job) × (new ≡ put_for name (read_to done job ∷ []) jobs)
-IsReadOn name jobs None new = new ≡ jobs
+-- some more of the job's files are read, and results may be noted
+abbrev pub HasGoneOn : Care → State → List ℕ → List Job → Option Job → List Job → Type 0
+HasGoneOn care s name jobs (Some job) new = (last : Job) × GoesOn care s job last × (new ≡ put_for name (last ∷ []) jobs)
+HasGoneOn care s name jobs None new = ⊥
 
--- what an event leaves: all as it was, but that a close that is refused leaves read what it read whole
-abbrev pub Remains : Machine → Command → Machine → Type 0
-Remains m (command.Close job) new = (new.state ≡ m.state) × IsReadOn job m.jobs (job_named m.jobs job) new.jobs
-Remains m c new = new ≡ m
+-- what a refusal leaves: all as it was, but that a job whose close is refused may have gone on
+abbrev pub Remains : Care → Machine → Command → Machine → Type 0
+Remains care m (command.Close job) new = (new ≡ m) ⊎ ((new.state ≡ m.state) × HasGoneOn care m.state job m.jobs (job_named m.jobs job) new.jobs)
+Remains care m c new = new ≡ m
 
 -- one step over files of which so much is known
 abbrev pub Step : Care → Machine → Command → Answer → Machine → Type 0
-Step care old given_to given new = Performs care old given_to (outcome given new) ⊎ ((why : Refusal) × IsEvent care old given_to why × (given ≡ answer.Refused why) × Remains old given_to new)
+Step care old given_to given new = Performs care old given_to (outcome given new) ⊎ ((why : Refusal) × IsEvent care old given_to why × (given ≡ answer.Refused why) × Remains care old given_to new)

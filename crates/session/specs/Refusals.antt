@@ -1,5 +1,5 @@
 -- For which cause each refusal of a command comes.
-use Rattle.std.specs.Prelude.{◌≡◌, ℕ, List, [], ◌∷◌, length, Option, None, Some, Result, Ok, Err}
+use Rattle.std.specs.Prelude.{◌≡◌, ℕ, List, length, Option, None, Some, Result, Ok, Err}
 use Rattle.folder.specs.State.{table}
 use Rattle.planning.specs.Opening.{opening}
 use Rattle.planning.specs.Running.{Run, storing}
@@ -9,7 +9,8 @@ use Rattle.script_text.specs.declared.item.Command.{Command}
 use Rattle.script_text.specs.declared.item.Command.TheVariants as command
 use Rattle.folder_session.specs.Refusals as folder
 use Rattle.folder_session.specs.Refusals.{IsRefusedOn}
-use Rattle.session.specs.Machine.{Job, Machine, is_open, job_named, put_for, read_to}
+use Rattle.session.specs.Machine.{Machine, is_open, job_named}
+use Rattle.session.specs.MachineJob.{Job}
 
 -- no job of the name is open
 abbrev pub IsUnknown : Option Job → List ℕ → Refusal → Type 0
@@ -32,15 +33,3 @@ IsRefusedFor m (command.Step job) why = IsUnknown (job_named m.jobs job) job why
 IsRefusedFor m (command.Close job) why = IsCloseRefused m (job_named m.jobs job) job why
 IsRefusedFor m (command.DropJob job) why = IsUnknown (job_named m.jobs job) job why
 IsRefusedFor m c why = folder.IsRefusedFor m.state c why
-
--- ---- what a refusal changes
-
--- so many files of the job are read
-abbrev pub HasReadTo : List ℕ → List Job → Option Job → List Job → Type 0
-HasReadTo name jobs (Some job) new = (done : ℕ) × (new ≡ put_for name (read_to done job ∷ []) jobs)
-HasReadTo name jobs None new = new ≡ jobs
-
--- nothing, but that a job whose close is refused may have read on
-abbrev pub StaysBut : Machine → Command → Machine → Type 0
-StaysBut m (command.Close job) new = (new.state ≡ m.state) × HasReadTo job m.jobs (job_named m.jobs job) new.jobs
-StaysBut m c new = new ≡ m

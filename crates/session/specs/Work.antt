@@ -1,94 +1,94 @@
 -- Open work of a command: as it is opened, read on and closed.
-use Rattle.std.specs.Prelude.{◌≡◌, ◌≢◌, ◌⊎◌, ℕ, List, [], ◌∷◌, ◌++◌, length, Some, Ok, Err, ⊤}
+use Rattle.std.specs.Prelude.{◌≡◌, ◌≢◌, ◌⊎◌, ℕ, Bool, [], length, Ok, Err, ⊤}
 use Rattle.std.specs.List.{remove}
-use Rattle.outside_traits.specs.View.{View}
+use Rattle.outside_traits.specs.View.{View, Counts}
 use Rattle.plan_core.specs.PlainPlan.{PlainPlan}
-use Rattle.plan_canon.specs.Normal.{IsNormalFormOf}
 use Rattle.estimator.specs.Bytes.{capped}
-use Rattle.rewrite_core.specs.Files.{FileName, AreIdsOf, files_of}
+use Rattle.rewrite_core.specs.Files.{files_of}
 use Rattle.catalog_core.specs.Table.{Table}
+use Rattle.kept_files.specs.declared.refusal.ReadRefusal.{ReadRefusal}
+use Rattle.executor.specs.Runs.{of_reading}
+use Rattle.executor.specs.declared.refusal.RunRefusal.{RunRefusal}
 use Rattle.folder.specs.Sound.{Care}
-use Rattle.folder.specs.State.{State, kinds_in, table}
+use Rattle.folder.specs.State.{State, table}
 use Rattle.plan_choice.specs.Taken.{IsTaken}
 use Rattle.planning.specs.Running.{Run, storing}
 use Rattle.script_text.specs.declared.answer.Answer.{Answer}
 use Rattle.script_text.specs.declared.answer.Answer.TheVariants as answer
-use Rattle.script_text.specs.declared.answer.LimitKind.TheVariants as limit
+use Rattle.script_text.specs.declared.answer.LimitKind.{LimitKind}
 use Rattle.script_text.specs.declared.answer.Refusal.{Refusal}
 use Rattle.script_text.specs.declared.answer.Refusal.TheVariants as refusal
-use Rattle.folder_session.specs.Causes.{IsOfFiles}
-use Rattle.folder_session.specs.Machine.{IsFileEvent}
+use Rattle.folder_session.specs.Machine.{IsOfExtent}
 use Rattle.folder_session.specs.Standing.{Records}
+use Rattle.folder_session.specs.WorkRefusals.{refusal_of}
 use Rattle.folder_session.specs.Working.{answer_of}
 use Rattle.folder_session.specs.declared.session.FolderSession.{FolderSession}
-use Rattle.work_run.specs.Ends.{ComesBy}
-use Rattle.work_run.specs.Opened.{IsOpen, HasRead, files_left, opened_rewriting}
-use Rattle.work_run.specs.Working.{Overflows, IsDear}
-use Rattle.work_run.specs.declared.open.OpenWork.{OpenWork}
+use Rattle.work_run.specs.Opened.{HasRead, files_left, opened_rewriting}
 use Rattle.work_run.specs.declared.work.Work.{Work}
+use Rattle.job_turns.specs.Ends.{IsReadFor}
+use Rattle.job_turns.specs.Jobs as work
+use Rattle.job_turns.specs.Steps.{IsAsBefore, IsStep}
+use Rattle.job_turns.specs.Turns.{Halts, Reads}
+use Rattle.job_turns.specs.declared.job.JobStep.{JobStep}
+use Rattle.job_turns.specs.declared.job.JobWork.{JobWork}
 use Rattle.session.specs.Jobs.{OpenJobs}
 
--- a least rewriting was taken of the plan, and none of its files is read
-pub record IsOpened (t : Table) (run : Run) (work : OpenWork) : Type 0 where
-  pub program : work.program ≡ run.program
-  pub normal : PlainPlan
-  pub taken : IsTaken t run.plan normal run.program.cuts (opened_rewriting work)
-  pub used : AreIdsOf (files_of (opened_rewriting work)) work.used.items
-  pub is_open : IsOpen t run.plan work
-  pub left : files_left work ≡ files_of (opened_rewriting work)
-  pub read : (s : State) → t ≡ table s → HasRead s work
+-- a least rewriting was taken of the plan's normal form; none of its files is read, and no result is noted
+pub record IsOpened (t : Table) (run : Run) (job : JobWork) : Type 0 where
+  pub program_is : job.work.program ≡ run.program
+  pub taken : IsTaken t run.plan job.normal.plan run.program.cuts (opened_rewriting job.work)
+  pub is_job : work.IsJob t run.plan job
+  pub unread : files_left job.work ≡ files_of (opened_rewriting job.work)
+  pub noted : job.noted.items ≡ []
+  pub before : job.before ≡ 0
+  pub read : (s : State) → t ≡ table s → HasRead s job.work
 
 -- ---- one file further
 
--- one file is read, or none where none is left, and so many are left; a refusal comes where one is left, and leaves those that were
-abbrev pub StepsOn : OpenWork → OpenWork → Answer → Type 0
-StepsOn old new (answer.Left n) =
-    (n ≡ capped (length (files_left new))) × (((files_left old ≡ []) × (new ≡ old)) ⊎ ((name : FileName) × (files_left old ≡ name ∷ files_left new)))
-StepsOn old new (answer.Refused why) = (files_left old ≢ []) × (files_left new ≡ files_left old)
-StepsOn old new _ = ⊥
+-- Where a file is left it is read, or the kept result that it is of is noted, and so many are left. A refusal comes where one is
+-- left, and leaves those that were.
+abbrev pub StepsOn : Bool → Table → PlainPlan → JobWork → JobWork → Counts → Counts → Answer → Type 0
+StepsOn tells t plan old new first last (answer.Left n) =
+    (n ≡ capped (length (files_left new.work)))
+    × (((files_left old.work ≡ []) × (new ≡ old) × (last ≡ first)) ⊎ ((files_left old.work ≢ []) × (step : JobStep) × IsStep tells t plan old new first last step))
+StepsOn tells t plan old new first last (answer.Refused why) = (files_left old.work ≢ []) × IsAsBefore old new
+StepsOn tells t plan old new first last _ = ⊥
 
--- what was read is what the state's files hold, and a refusal is for what reading met
-abbrev pub HasReadOn : Care → State → OpenWork → Answer → Type 0
-HasReadOn care s new (answer.Refused why) = HasRead s new × IsFileEvent care s why
-HasReadOn care s new _ = HasRead s new
-
-abbrev pub LeftAsTold : Answer → Type 0 → Type 0
-LeftAsTold (answer.Left n) P = P
-LeftAsTold _ P = ⊤
-
-abbrev pub IsFoundIn : Table → OpenWork → (ℕ → List ℕ) → Answer → Type 0
-IsFoundIn t work files (answer.Refused why) = IsOfFiles t (opened_rewriting work) files why
-IsFoundIn t work files _ = ⊤
+-- it went on so, or was refused for what reading met, of which damage is that of an extent
+abbrev pub ReadsOn : Bool → Table → View → PlainPlan → JobWork → JobWork → Counts → Counts → Answer → Type 0
+ReadsOn tells t view plan old new first last (answer.Refused why) =
+    (met : ReadRefusal) × (why ≡ refusal_of (of_reading met)) × IsOfExtent t why × Halts tells t view plan old new first last (of_reading met)
+ReadsOn tells t view plan old new first last _ = Reads tells t view plan old new first last
 
 -- ---- closed
 
-abbrev pub run_of : PlainPlan → OpenWork → Run
-run_of plan work = record { plan = plan; program = work.program }
+abbrev pub run_of : PlainPlan → JobWork → Run
+run_of plan job = record { plan = plan; program = job.work.program }
 
--- no limit is passed, and it comes to this by its rewriting of the plan's normal form
-pub record IsClosed (s : State) (plan : PlainPlan) (work : OpenWork) (closed : Work) : Type 0 where
-  pub within : storing (table s) (run_of plan work) ≡ Ok (run_of plan work)
-  pub normal : PlainPlan
-  pub is_normal : IsNormalFormOf (kinds_in s.streams) plan normal
-  pub comes : ComesBy s (Some work.program) plan normal work.program.cuts (opened_rewriting work) closed
+-- no limit is passed
+abbrev pub IsWithin : Table → JobWork → Type 0
+IsWithin t job = (plan : PlainPlan) → storing t (run_of plan job) ≡ Ok (run_of plan job)
 
--- the first of the files that were left are read
-pub record IsReadOn (s : State) (old new : OpenWork) : Type 0 where
-  pub names : List FileName
-  pub left : files_left old ≡ names ++ files_left new
-  pub read : HasRead s new
+-- a limit is passed, and nothing is read
+pub record IsOver (t : Table) (old new : JobWork) (first last : Counts) (why : Refusal) : Type 0 where
+  pub kind : LimitKind
+  pub why_is : why ≡ refusal.Limit kind
+  pub over : (plan : PlainPlan) → storing t (run_of plan old) ≡ Err (refusal.Limit kind)
+  pub same : new ≡ old
+  pub unread : last ≡ first
 
--- no limit is passed, and all files are read
-pub record IsReadWhole (s : State) (plan : PlainPlan) (old new : OpenWork) : Type 0 where
-  pub within : storing (table s) (run_of plan old) ≡ Ok (run_of plan old)
-  pub left : files_left new ≡ []
+-- reading met something, or the rows aren't made of what was read
+pub record IsStopped (tells : Bool) (t : Table) (view : View) (plan : PlainPlan) (old new : JobWork) (first last : Counts) (why : Refusal) : Type 0 where
+  pub within : IsWithin t old
+  pub met : RunRefusal
+  pub why_is : why ≡ refusal_of met
+  pub of_extent : IsOfExtent t why
+  pub halts : Halts tells t view plan old new first last met
+  pub whole : IsReadFor new.work met
 
--- why it isn't closed: a limit is passed, and nothing is read; by what its files hold, when all are read; or for what reading met
-abbrev pub IsNotClosed : Care → State → PlainPlan → OpenWork → OpenWork → Refusal → Type 0
-IsNotClosed care s plan old new refusal.Overflow = IsReadWhole s plan old new × Overflows s plan old.program.cuts
-IsNotClosed care s plan old new (refusal.Limit limit.Machine) = IsReadWhole s plan old new × IsDear s plan old.program.cuts
-IsNotClosed care s plan old new (refusal.Limit kind) = (storing (table s) (run_of plan old) ≡ Err (refusal.Limit kind)) × (new ≡ old)
-IsNotClosed care s plan old new why = IsFileEvent care s why
+-- why it isn't closed
+abbrev pub IsNotClosed : Bool → Table → View → PlainPlan → JobWork → JobWork → Counts → Counts → Refusal → Type 0
+IsNotClosed tells t view plan old new first last why = IsOver t old new first last why ⊎ IsStopped tells t view plan old new first last why
 
 -- ---- recorded
 
@@ -100,3 +100,8 @@ IsEnded closed at old new given = ((given ≡ answer_of closed) × (new ≡ remo
 abbrev pub IsRecorded : Care → View → View → FolderSession → State → State → Answer → Type 0
 IsRecorded care u v base s new (answer.Refused why) = Records care u v base s s
 IsRecorded care u v base s new _ = Records care u v base s new
+
+-- and there its table is as it was
+abbrev pub IsSameWhereRefused : Table → Table → Answer → Type 0
+IsSameWhereRefused t u (answer.Refused why) = u ≡ t
+IsSameWhereRefused t u _ = ⊤

@@ -1,6 +1,7 @@
 //! Commands on jobs.
-ghost use Rattle.std.specs.Prelude.{◌≡◌, ◌≢◌, ◌⊎◌, ◌<◌, ℕ, List, [], Some, None, length, flat_map, remove};
-ghost use Rattle.std.specs.Prelude.{IsTrue, IfOk, IfErr, OnOk, OnErr};
+ghost use Rattle.std.specs.Prelude.{◌≡◌, ◌<◌, ℕ, List, Some, length};
+ghost use Rattle.std.specs.Prelude.{IsTrue, IfOk, OnOk, OnErr};
+ghost use Rattle.std.specs.List.{remove};
 ghost use Rattle.outside_traits.specs.Counts.{Rose};
 ghost use Rattle.outside_traits.specs.View.{View, Counts};
 ghost use Rattle.outside_traits.specs.Calls.{Rises, MayRaiseReads};
@@ -17,35 +18,35 @@ ghost use Rattle.folder.specs.Folders.{table_in, FolderStands};
 ghost use Rattle.folder.specs.Next.{with_work};
 ghost use Rattle.folder.specs.Sound.{Care};
 ghost use Rattle.folder.specs.State.{State};
-ghost use Rattle.later_states.specs.Later.{IsLater};
+ghost use Rattle.later_states.specs.Later.{IsLater, SparesHeld};
 ghost use Rattle.work_plan.specs.Planning.{IsWorkPlan};
 ghost use Rattle.work_run.specs.Ends.{AreNewFiles};
-ghost use Rattle.job_table.specs.Jobs.{place_of};
+ghost use Rattle.work_turns.specs.Ends.{files_among};
 ghost use Rattle.script_text.specs.Answer.{IsNarrow};
 ghost use Rattle.script_text.specs.declared.answer.Refusal.{Refusal};
 ghost use Rattle.script_text.specs.declared.item.Command.TheVariants as command;
 ghost use Rattle.folder_session.specs.Causes.{TellsOfNoFile};
-ghost use Rattle.folder_session.specs.Standing.{AreGoneSince, LeavesWhereRefused, WritesAtMost};
+ghost use Rattle.folder_session.specs.Standing.{AreGoneSince, LeavesWhereRefused, WorkChangesAtMost};
 ghost use Rattle.folder_session.specs.Standing as folder;
 ghost use Rattle.session.specs.Causes.{HasByteCause};
-ghost use Rattle.session.specs.Jobs.{IsAdmitted};
+ghost use Rattle.session.specs.Jobs.{IsAdmitted, held_of};
 ghost use Rattle.session.specs.Machine.{Machine};
 ghost use Rattle.session.specs.Taken.{TakesAsTold, TakesFor};
-ghost use Rattle.session.specs.Work.{IsEnded, IsRecorded};
+ghost use Rattle.session.specs.Work.{IsEnded, IsRecorded, IsSameWhereRefused};
 
 use crate::session::Session;
 use crate::work::{close_work, opened, read_file};
 use catalog_core::Catalog;
 use folder::left_stores;
-use job_table::JobTable;
-use later_states::open_work_stays;
+use job_table::{JobTable, OpenJob};
+use job_turns::{JobWork, job_work_stays};
 use outside_traits::{Failed, Store};
 use plan_text::NamedPlan;
 use planning::OpenJobs;
 use rows_core::{Memory, Name};
 use script_text::{Answer, Refusal};
 use std::alloc::Global;
-use work_run::{OpenWork, Work};
+use work_turns::WorkInTurns;
 
 impl Session {
     ghost use Rattle.session.specs.Standing.{Stands, Performs, Breaks, HoldsJobs, folder_of, jobs_of};
@@ -82,22 +83,20 @@ impl Session {
     }
 
     // Takes open work up as the job of this name, behind the others.
-    fn admit(self, name: Name, work: OpenWork) -> (Session, Answer)
+    fn admit(self, name: Name, work: JobWork) -> (Session, Answer)
         ensures base { result.0.base ≡ self.base }
         ensures admitted { IsAdmitted name work (jobs_of self) (jobs_of result.0) result.1 }
     {
         let mut session = self;
         let steps = work.left();
-        let Ok(holds) = copied(session.alloc, &work.used) else {
-            return (session, Answer::Refused(Refusal::Memory));
-        };
-        match session.jobs.admit(name, work, holds) {
+        match session.jobs.admit(name, work) {
             Ok(()) => (session, Answer::Ready(steps)),
             Err(_) => (session, Answer::Refused(Refusal::Memory)),
         }
     }
 
-    /// Reads the next file of a job, where one is left. A refusal leaves the job as it was.
+    /// Reads the next file of a job, where one is left, or notes the kept result that it is of. A refusal leaves
+    /// the job as it was.
     pub(crate) fn read_next<D: Store>(self, store: &mut D, name: Name) -> (Session, Answer)
         requires holds { HoldsJobs self }
         ensures holds { HoldsJobs result.0 }
@@ -132,7 +131,8 @@ impl Session {
         (Session { base, jobs, alloc }, answer)
     }
 
-    /// Closes a job: its work is done on the extents of its opening, and recorded.
+    /// Closes a job: its work is done on the extents of its opening, and recorded. The kept results that it noted
+    /// are dropped, but those that other jobs hold.
     pub(crate) fn close<D: Store>(
         self,
         store: &mut D,
@@ -146,8 +146,8 @@ impl Session {
         ensures err { IsTrue D.tells → (care : Care) (m : Machine) → Stands care (D.view store.old) self m
             → OnErr result (Breaks care (D.view store.old) (D.view store.new) m (command.Close name)) }
         ensures narrow { IfOk result (λ next. IsNarrow next.1) }
-        ensures alone { WritesAtMost (folder_of self) (D.view store.old) (D.view store.new) }
-        ensures gone { IfOk result (λ next. AreGoneSince (table_in (folder_of self))
+        ensures alone { WorkChangesAtMost (folder_of self) (D.view store.old) (D.view store.new) }
+        ensures gone { IsTrue D.tells → IfOk result (λ next. AreGoneSince (table_in (folder_of self))
             (table_in (folder_of next.0)) (D.view store.new) (D.counts store.old) (D.counts store.new)) }
         ensures cause { OnErr result (Rose (D.counts store.old).writes (D.counts store.new).writes) }
         ensures no_fault { OnOk result ((D.counts store.new).writes ≡ (D.counts store.old).writes) }
@@ -170,7 +170,7 @@ impl Session {
         ensures counts { Rises (D.counts store.old) (D.counts store.new) }
     {
         left_stores::<D>();
-        open_work_stays();
+        job_work_stays();
         know_table(self.base.catalog());
         let Session {
             base,
@@ -181,10 +181,15 @@ impl Session {
             let session = Session { base, jobs, alloc };
             return Ok((session, Answer::Refused(Refusal::Unknown(name))));
         };
-        let closed = close_work(alloc, &mut jobs.jobs[at].job, store, base.catalog());
+        let Ok(held) = held_beside(alloc, &jobs, at) else {
+            let session = Session { base, jobs, alloc };
+            return Ok((session, Answer::Refused(Refusal::Memory)));
+        };
+        let job = &mut jobs.jobs[at].job;
+        let closed = close_work(alloc, job, store, base.catalog(), &held);
         let session = Session { base, jobs, alloc };
         match closed {
-            Ok(work) => session.record_closed(store, at, work),
+            Ok(done) => session.record_closed(store, at, done),
             Err(refusal) => Ok((session, Answer::Refused(refusal))),
         }
     }
@@ -194,30 +199,34 @@ impl Session {
         self,
         store: &mut D,
         at: usize,
-        work: Work,
+        done: WorkInTurns,
     ) -> Result<(Session, Answer), Failed>
         requires at { at < length (jobs_of self) }
-        requires planned { (program : Program) × (mades : List MadeResult) × IsWorkPlan
-            (table_in (folder_of self)) (Some program) work.used.items [] mades work.plan }
+        requires planned { (program : Program) × (dropped : List ℕ) × (mades : List MadeResult)
+            × IsWorkPlan (table_in (folder_of self)) (Some program) done.work.used.items dropped mades
+            done.work.plan
+            × (done.gone.items ≡ files_among dropped (table_in (folder_of self)).entries) }
         ensures ended { IfOk result
-            (λ next. IsEnded work at (jobs_of self) (jobs_of next.0) next.1) }
-        ensures ok { IsTrue D.tells → (care : Care) (s : State) (program : Program)
+            (λ next. IsEnded done.work at (jobs_of self) (jobs_of next.0) next.1) }
+        ensures ok { IsTrue D.tells → (care : Care) (s : State) (program : Program) (dropped : List ℕ)
             (news : List PlainNewEntry) → folder.Stands care (D.view store.old) self.base s
-            → work.plan.change ≡ change.Work (Some program) work.used.items [] news
-            → AreNewFiles s.streams news work.plan.files.items
+            → done.work.plan.change ≡ change.Work (Some program) done.work.used.items dropped news
+            → AreNewFiles s.streams news done.work.plan.files.items
             → IfOk result (λ next. IsRecorded care (D.view store.old) (D.view store.new) next.0.base s
-            (with_work s (Some program) work.used.items [] news) next.1) }
-        ensures err { IsTrue D.tells → (care : Care) (s : State) (program : Program)
+            (with_work s (Some program) done.work.used.items dropped news) next.1) }
+        ensures err { IsTrue D.tells → (care : Care) (s : State) (program : Program) (dropped : List ℕ)
             (news : List PlainNewEntry) → folder.Stands care (D.view store.old) self.base s
-            → work.plan.change ≡ change.Work (Some program) work.used.items [] news
-            → AreNewFiles s.streams news work.plan.files.items
+            → done.work.plan.change ≡ change.Work (Some program) done.work.used.items dropped news
+            → AreNewFiles s.streams news done.work.plan.files.items
             → OnErr result (folder.KeepsNot care (D.view store.old) (D.view store.new) s
-            (with_work s (Some program) work.used.items [] news)) }
-        ensures later { (held : List ℕ) → IfOk result (λ next.
+            (with_work s (Some program) done.work.used.items dropped news)) }
+        ensures later { (held : List ℕ) → SparesHeld held done.work.plan.change → IfOk result (λ next.
             IsLater held (table_in (folder_of self)) (table_in (folder_of next.0))) }
+        ensures same { IfOk result (λ next. IsSameWhereRefused (table_in (folder_of self))
+            (table_in (folder_of next.0)) next.1) }
         ensures table { IfOk result (λ next. IsTable (table_in (folder_of next.0))) }
-        ensures alone { WritesAtMost (folder_of self) (D.view store.old) (D.view store.new) }
-        ensures gone { IfOk result (λ next. AreGoneSince (table_in (folder_of self))
+        ensures alone { WorkChangesAtMost (folder_of self) (D.view store.old) (D.view store.new) }
+        ensures gone { IsTrue D.tells → IfOk result (λ next. AreGoneSince (table_in (folder_of self))
             (table_in (folder_of next.0)) (D.view store.new) (D.counts store.old) (D.counts store.new)) }
         ensures cause { OnErr result (Rose (D.counts store.old).writes (D.counts store.new).writes) }
         ensures no_fault { OnOk result ((D.counts store.new).writes ≡ (D.counts store.old).writes) }
@@ -229,12 +238,13 @@ impl Session {
         ensures taken { (D.counts store.new).taken ≡ (D.counts store.old).taken }
         ensures counts { Rises (D.counts store.old) (D.counts store.new) }
     {
+        let WorkInTurns { work, gone } = done;
         let mut session = self;
         match session.base.prepare(&work.plan.change) {
             Ok(()) => {
                 session.jobs.jobs.remove(at);
                 let Session { base, jobs, alloc } = session;
-                match base.record_work(store, work, &[]) {
+                match base.record_work(store, work, &gone) {
                     Ok((base, answer)) => {
                         know_table(base.catalog());
                         Ok((Session { base, jobs, alloc }, answer))
@@ -268,24 +278,25 @@ impl Session {
     }
 }
 
-/// The ids of all kept results that open jobs hold.
-pub(crate) fn held_ids(alloc: Global, jobs: &JobTable<OpenWork>) -> Result<Vec<u32>, Memory>
-    ensures { IfOk result (λ held. held.items ≡ flat_map (λ o. o.holds.items) jobs.now.jobs.items) }
+/// The ids of all kept results that these jobs hold.
+pub(crate) fn held_ids(alloc: Global, jobs: &[OpenJob<JobWork>]) -> Result<Vec<u32>, Memory>
+    ensures { IfOk result (λ held. held.items ≡ held_of jobs.now) }
 {
     let mut held = Vec::new(alloc);
-    for opened in &jobs.jobs {
-        held.extend_from_slice(&opened.holds)?;
+    for opened in jobs {
+        held.extend_from_slice(&opened.job.work.used)?;
     }
     Ok(held)
 }
 
-// The same ids once more.
-fn copied(alloc: Global, ids: &[u32]) -> Result<Vec<u32>, Memory>
-    ensures { IfOk result (λ copy. copy.items ≡ ids.now) }
+// The ids of those that the jobs hold but the one at this place.
+fn held_beside(alloc: Global, jobs: &JobTable<JobWork>, at: usize) -> Result<Vec<u32>, Memory>
+    requires { at < length jobs.now.jobs.items }
+    ensures { IfOk result (λ held. held.items ≡ held_of (remove jobs.now.jobs.items at)) }
 {
-    let mut copy = Vec::with_capacity(alloc, ids.len())?;
-    copy.extend_from_slice(ids)?;
-    Ok(copy)
+    let mut held = held_ids(alloc, &jobs.jobs[..at])?;
+    held.extend_from_slice(&held_ids(alloc, &jobs.jobs[at + 1..])?)?;
+    Ok(held)
 }
 
 /// What a catalogue holds is a table, which its readers say.

@@ -26,19 +26,18 @@ use crate::jobs::{held_ids, know_table};
 use folder::left_stores;
 use folder_session::{FolderSession, LoadRefusal};
 use job_table::JobTable;
-use later_states::open_work_stays;
+use job_turns::{JobWork, job_work_stays};
 use outside_traits::{Failed, Store};
 use rows_core::Memory;
 use script_text::{Answer, Command, Refusal};
 use std::alloc::Global;
-use work_run::OpenWork;
 
 /// A folder that was loaded, and the jobs that are open over it, which end with the process. What it holds in
 /// memory is the folder's table, and what was read for jobs: the rows of extents stand in their files alone.
 #[derive(Drop)]
 pub struct Session {
     pub(crate) base: FolderSession,
-    pub(crate) jobs: JobTable<OpenWork>,
+    pub(crate) jobs: JobTable<JobWork>,
     pub(crate) alloc: Global,
 }
 
@@ -114,7 +113,7 @@ impl Session {
     }
 
     /// Performs a command, and answers it. A refused command changes nothing, but that a job whose close is
-    /// refused has read what it read. All memory is taken before the first write; from then on only a failed
+    /// refused has read and noted what it did. All memory is taken before the first write; from then on only a failed
     /// write or sync ends the command, which is `Failed`: then the store is left with the state before the
     /// command and the one after it. No answer but those of commands on jobs changes a job, and no job is in
     /// the store.
@@ -210,10 +209,10 @@ impl Session {
             → IfOk result (λ next. FolderStands (D.view store.new) (folder_of next.0)) }
         ensures counts { Rises (D.counts store.old) (D.counts store.new) }
     {
-        open_work_stays();
+        job_work_stays();
         know_table(self.base.catalog());
         let Session { base, jobs, alloc } = self;
-        let held = match held_ids(alloc, &jobs) {
+        let held = match held_ids(alloc, &jobs.jobs) {
             Ok(held) => held,
             Err(Memory) => {
                 let session = Session { base, jobs, alloc };

@@ -1,43 +1,41 @@
 //! Work that is open: how it is opened, read on and closed for a command.
-ghost use Rattle.std.specs.Prelude.{◌≡◌, ◌≢◌, ◌⊎◌, ◌≤◌, ◌<◌, ℕ, List, [], Ok, Err, length, IsTrue, IfOk, IfErr};
-ghost use Rattle.std.specs.Prelude.{IsErrOf, OnOk, OnErr};
-ghost use Rattle.outside_traits.specs.Counts.{Rose};
+ghost use Rattle.std.specs.Prelude.{◌≡◌, ◌⊎◌, ◌≤◌, ◌<◌, ℕ, List, [], Some, Ok, Err, length, IsTrue};
+ghost use Rattle.std.specs.Prelude.{IfOk, IfErr, OnOk};
 ghost use Rattle.outside_traits.specs.View.{View, Counts};
 ghost use Rattle.outside_traits.specs.Calls.{MayRaiseReads};
 ghost use Rattle.outside_traits.specs.Runs.{Narrows};
 ghost use Rattle.plan_core.specs.PlainPlan.{PlainPlan};
 ghost use Rattle.plan_grammar.specs.Counts.{IsWithinLimits};
-ghost use Rattle.rewrite_core.specs.Files.{files_of};
 ghost use Rattle.catalog_core.specs.Catalogs.{table_of};
-ghost use Rattle.catalog_core.specs.Named.{bytes_named};
-ghost use Rattle.catalog_core.specs.Table.{FitsProgram};
 ghost use Rattle.admission.specs.Admitting.{MadeResult};
-ghost use Rattle.executor.specs.Running.{TookAtMost};
 ghost use Rattle.folder.specs.Left.{IsLeft};
 ghost use Rattle.folder.specs.Sound.{Care};
 ghost use Rattle.folder.specs.State.{State, table};
 ghost use Rattle.planning.specs.Opening.{opening};
 ghost use Rattle.planning.specs.Running.{Run};
-ghost use Rattle.script_text.specs.Answer.{IsNarrow};
 ghost use Rattle.script_text.specs.declared.answer.Refusal.{Refusal};
-ghost use Rattle.folder_session.specs.Causes.{SparesStore, IsOfFiles};
 ghost use Rattle.work_plan.specs.Planning.{IsWorkPlan};
-ghost use Rattle.work_run.specs.Ends.{CountsRead, HaveFewValues};
-ghost use Rattle.work_run.specs.Opened.{IsOpen, HasRead, IsSameWork, files_left, opened_rewriting};
-ghost use Rattle.session.specs.Taken.{TakesFirst};
-ghost use Rattle.session.specs.Work.{IsOpened, HasReadOn, StepsOn, IsFoundIn, LeftAsTold};
-ghost use Rattle.session.specs.Work.{IsClosed, IsNotClosed, IsReadOn};
+ghost use Rattle.work_run.specs.Ends.{HaveFewValues};
+ghost use Rattle.work_run.specs.Opened.{HasRead, files_left};
+ghost use Rattle.work_turns.specs.Ends.{files_among, free_of, those_among};
+ghost use Rattle.job_turns.specs.Ends.{ComesAtLast};
+ghost use Rattle.job_turns.specs.Jobs.{IsJob};
+ghost use Rattle.job_turns.specs.Turns.{Reads};
+ghost use Rattle.session.specs.Work.{IsOpened, StepsOn, ReadsOn, IsWithin, IsNotClosed};
 
+use crate::jobs::know_table;
 use catalog_core::Catalog;
 use executor::RunRefusal;
-use folder_session::{chosen, refusal_of};
+use folder_session::{NormalChoice, chosen, refusal_of};
+use job_turns::{JobWork, open_job};
 use outside_traits::Store;
+use plan_choice::{results_are_left_out, serving_rewritings};
 use plan_text::NamedPlan;
 use planning::{OpenJobs, RunPlan, plan_close, plan_open};
 use rows_core::{Memory, Name};
 use script_text::{Answer, Refusal};
 use std::alloc::Global;
-use work_run::{OpenWork, Work, open_work};
+use work_turns::WorkInTurns;
 
 /// Work of a plan on all extents that is opened as a job, or why it is refused.
 pub(crate) fn opened(
@@ -47,7 +45,7 @@ pub(crate) fn opened(
     job: Name,
     name: Name,
     plan: &NamedPlan,
-) -> Result<OpenWork, Refusal>
+) -> Result<JobWork, Refusal>
     requires { IsWithinLimits plan.now }
     ensures ok { IfOk result (λ work. (run : Run)
         × (opening (table_of catalog.now) jobs.exists jobs.count job name plan.now ≡ Ok run)
@@ -56,6 +54,7 @@ pub(crate) fn opened(
         (opening (table_of catalog.now) jobs.exists jobs.count job name plan.now ≡ Err why)
         ⊎ (why ≡ Refusal.Memory)) }
 {
+    results_are_left_out();
     let RunPlan { typed, program } = match plan_open(alloc, catalog, jobs, job, name, plan) {
         Ok(plan) => plan,
         Err(refusal) => return Err(refusal),
@@ -63,94 +62,91 @@ pub(crate) fn opened(
     let Ok(taken) = chosen(alloc, catalog, typed, program.cuts.items()) else {
         return Err(Refusal::Memory);
     };
-    match open_work(alloc, program, taken.choice, catalog) {
+    let NormalChoice { normal, choice } = taken;
+    match open_job(alloc, catalog, program, normal, choice) {
         Ok(work) => Ok(work),
         Err(Memory) => Err(Refusal::Memory),
     }
 }
 
-/// Reads the next file of the work, where one is left, and tells how many are left then. A refusal leaves the
-/// work as it was.
+/// Reads the next file of the work, where one is left, and tells how many are left then. Where it is that of a
+/// kept result and shows damage, the result is noted, and the files that are left are those of another
+/// rewriting. A refusal leaves the work as it was.
 pub(crate) fn read_file<D: Store>(
     alloc: Global,
-    work: &mut OpenWork,
+    work: &mut JobWork,
     store: &mut D,
     catalog: &Catalog,
 ) -> Answer
-    requires { (plan : PlainPlan) × IsOpen (table_of catalog.now) plan work.old }
-    ensures same { IsSameWork work.old work.new }
-    ensures is_open { (plan : PlainPlan) → IsOpen (table_of catalog.now) plan work.old
-        → IsOpen (table_of catalog.now) plan work.new }
-    ensures told { StepsOn work.old work.new result }
-    ensures read { IsTrue D.tells → (care : Care) (s : State) → IsLeft care (D.view store.old) s s
-        → table_of catalog.now ≡ table s → HasRead s work.old → HasReadOn care s work.new result }
-    ensures taken { IsTrue D.tells → (care : Care) (s : State) → IsLeft care (D.view store.old) s s
-        → table_of catalog.now ≡ table s → HasRead s work.old → LeftAsTold result
-        (TakesFirst (table_of catalog.now) (files_left work.old) (D.counts store.old) (D.counts store.new)) }
-    ensures most { IsTrue D.tells → TookAtMost (bytes_named (table_of catalog.now)
-        (files_of (opened_rewriting work.old))) (D.counts store.old) (D.counts store.new) }
-    ensures found { IsTrue D.tells → IsFoundIn (table_of catalog.now) work.old (D.view store.old).files result }
-    ensures fault { result ≡ Answer.Refused Refusal.Fault
-        → Rose (D.counts store.old).reads (D.counts store.new).reads }
-    ensures only_fault { (result ≡ Answer.Refused Refusal.Fault → ⊥)
-        → (D.counts store.new).reads ≡ (D.counts store.old).reads }
+    requires { (plan : PlainPlan) × IsJob (table_of catalog.now) plan work.old }
+    ensures job { (plan : PlainPlan) → IsJob (table_of catalog.now) plan work.old
+        → IsJob (table_of catalog.now) plan work.new }
+    ensures told { (plan : PlainPlan) → IsJob (table_of catalog.now) plan work.old
+        → StepsOn D.tells (table_of catalog.now) plan work.old work.new (D.counts store.old)
+        (D.counts store.new) result }
+    ensures reads { (plan : PlainPlan) → IsJob (table_of catalog.now) plan work.old
+        → ReadsOn D.tells (table_of catalog.now) (D.view store.old) plan work.old work.new
+        (D.counts store.old) (D.counts store.new) result }
     ensures narrows { Narrows (D.view store.old) (D.view store.new) }
     ensures counts { MayRaiseReads (D.counts store.old) (D.counts store.new) }
 {
+    serving_rewritings();
+    results_are_left_out();
+    know_table(catalog);
     if work.left() == 0 {
         return Answer::Left(0);
     }
     match work.step(alloc, store, catalog) {
-        Ok(()) => Answer::Left(work.left()),
+        Ok(_) => Answer::Left(work.left()),
         Err(refusal) => Answer::Refused(refusal_of(RunRefusal::from(refusal))),
     }
 }
 
-/// Closes the work, unless a limit of programs or commands is passed: its files that are left are read, and
-/// its rows made, and what is recorded of it. A refusal leaves the work, with what it has read.
+/// Closes the work, unless a limit of programs or commands is passed: its files that are left are read, where
+/// kept results may be noted, and its rows made, and what is recorded of it. The noted results are dropped by
+/// that, but those that are held by others. A refusal leaves the work, with what it has read and noted.
 pub(crate) fn close_work<D: Store>(
     alloc: Global,
-    work: &mut OpenWork,
+    work: &mut JobWork,
     store: &mut D,
     catalog: &Catalog,
-) -> Result<Work, Refusal>
-    requires { (plan : PlainPlan) × IsOpen (table_of catalog.now) plan work.old }
-    ensures same { IsSameWork work.old work.new }
-    ensures is_open { (plan : PlainPlan) → IsOpen (table_of catalog.now) plan work.old
-        → IsOpen (table_of catalog.now) plan work.new }
-    ensures read_on { IsTrue D.tells → (care : Care) (s : State) → IsLeft care (D.view store.old) s s
-        → table_of catalog.now ≡ table s → HasRead s work.old → IsReadOn s work.old work.new }
-    ensures ok { IsTrue D.tells → (care : Care) (s : State) (plan : PlainPlan)
-        → IsLeft care (D.view store.old) s s → table_of catalog.now ≡ table s → HasRead s work.old
-        → IsOpen (table_of catalog.now) plan work.old → IfOk result (IsClosed s plan work.old) }
-    ensures err { IsTrue D.tells → (care : Care) (s : State) (plan : PlainPlan)
-        → IsLeft care (D.view store.old) s s → table_of catalog.now ≡ table s → HasRead s work.old
-        → IsOpen (table_of catalog.now) plan work.old
-        → IfErr result (IsNotClosed care s plan work.old work.new) }
-    ensures recorded { IfOk result (λ closed. (mades : List MadeResult) × IsWorkPlan (table_of catalog.now)
-        (Some work.old.program) closed.used.items [] mades closed.plan) }
-    ensures narrow { IfOk result
-        (λ closed. HaveFewValues closed.rows.items × (length closed.used.items ≤ 4096)) }
-    ensures taken { IsTrue D.tells → (care : Care) (s : State) → IsLeft care (D.view store.old) s s
-        → table_of catalog.now ≡ table s → HasRead s work.old
-        → OnOk result (CountsRead (bytes_named (table_of catalog.now) (files_left work.old))
+    held: &[u32],
+) -> Result<WorkInTurns, Refusal>
+    requires { (plan : PlainPlan) × IsJob (table_of catalog.now) plan work.old }
+    ensures job { (plan : PlainPlan) → IsJob (table_of catalog.now) plan work.old
+        → IsJob (table_of catalog.now) plan work.new }
+    ensures within { OnOk result (IsWithin (table_of catalog.now) work.old) }
+    ensures reads { (plan : PlainPlan) → IsJob (table_of catalog.now) plan work.old
+        → OnOk result (Reads D.tells (table_of catalog.now) (D.view store.old) plan work.old work.new
         (D.counts store.old) (D.counts store.new)) }
-    ensures most { IsTrue D.tells → TookAtMost (bytes_named (table_of catalog.now)
-        (files_of (opened_rewriting work.old))) (D.counts store.old) (D.counts store.new) }
-    ensures found { IsTrue D.tells → IfErr result (IsOfFiles (table_of catalog.now) (opened_rewriting work.old)
-        (D.view store.old).files) }
-    ensures fault { IsErrOf result Refusal.Fault
-        → Rose (D.counts store.old).reads (D.counts store.new).reads }
-    ensures only_fault { (IsErrOf result Refusal.Fault → ⊥)
-        → (D.counts store.new).reads ≡ (D.counts store.old).reads }
+    ensures whole { OnOk result (files_left work.new.work ≡ []) }
+    ensures ok { IsTrue D.tells → (care : Care) (s : State) (plan : PlainPlan)
+        → IsLeft care (D.view store.old) s s → table_of catalog.now ≡ table s → HasRead s work.old.work
+        → IsJob (table_of catalog.now) plan work.old
+        → IfOk result (λ done. ComesAtLast held.now s plan work.new done.work) }
+    ensures err { (plan : PlainPlan) → IsJob (table_of catalog.now) plan work.old
+        → IfErr result (IsNotClosed D.tells (table_of catalog.now) (D.view store.old) plan work.old work.new
+        (D.counts store.old) (D.counts store.new)) }
+    ensures recorded { IfOk result (λ done. (mades : List MadeResult) × IsWorkPlan (table_of catalog.now)
+        (Some work.old.work.program) done.work.used.items
+        (those_among (free_of held.now work.new.noted.items) (table_of catalog.now).entries) mades
+        done.work.plan) }
+    ensures gone { IfOk result (λ done. done.gone.items ≡ files_among
+        (those_among (free_of held.now work.new.noted.items) (table_of catalog.now).entries)
+        (table_of catalog.now).entries) }
+    ensures narrow { IfOk result
+        (λ done. HaveFewValues done.work.rows.items × (length done.work.used.items ≤ 4096)) }
     ensures narrows { Narrows (D.view store.old) (D.view store.new) }
     ensures counts { MayRaiseReads (D.counts store.old) (D.counts store.new) }
 {
-    if let Some(kind) = plan_close(catalog, &work.program) {
+    serving_rewritings();
+    results_are_left_out();
+    know_table(catalog);
+    if let Some(kind) = plan_close(catalog, &work.work.program) {
         return Err(Refusal::Limit(kind));
     }
-    match work.close(alloc, store, catalog) {
-        Ok(closed) => Ok(closed),
+    match work.close(alloc, store, catalog, held) {
+        Ok(done) => Ok(done),
         Err(refusal) => Err(refusal_of(refusal)),
     }
 }

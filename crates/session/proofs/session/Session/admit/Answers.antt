@@ -5,7 +5,7 @@ use Rattle.session.specs.Jobs.{OpenJobs}
 use Rattle.session.specs.Standing.{jobs_of}
 use Rattle.session.specs.declared.session.Session.{Session}
 use Rattle.session.proofs.session.Session.admit.Goals as goal
-use Rattle.session.proofs.session.Session.admit.Goals.{in-Ok-admit, in-Err}
+use Rattle.session.proofs.session.Session.admit.Goals.{in-Ok, in-Err}
 
 abbrev jobs_after : Session × Answer → OpenJobs
 jobs_after next = jobs_of next.0
@@ -15,12 +15,11 @@ answer_of next = next.1
 
 pub returns-clause-admitted : goal.returns-clause-admitted
 returns-clause-admitted c = elim c.match-admit.branch [
-  | in-Ok-admit w ↦ inl (record {
-    added = record { name = c.args.name; job = c.args.work; holds = c.in-Ok.holds };
+  | in-Ok w ↦ inl (record {
+    added = record { name = c.args.name; job = c.args.work };
     name_is = refl;
     job_is = refl;
-    holds = c.in-Ok.ensures ∙ c.deref.ensures.value;
-    behind = ap jobs_after w.result-is ∙ w.in-Ok-admit.ensures.admitted;
+    behind = ap jobs_after w.result-is ∙ w.in-Ok.ensures.admitted;
     told = ap answer_of w.result-is ∙ ap answer.Ready c.left-steps.ensures;
   })
   | in-Err w ↦ inr (ap answer_of w.result-is, ap jobs_after w.result-is ∙ w.in-Err.ensures.refused)

@@ -1,33 +1,34 @@
-use Rattle.std.proofs.Common.{IfOk, inl, refl, sym, ◌∙◌, subst}
+use Rattle.std.proofs.Common.{◌≡◌, IfOk, inl, refl, sym, ap, ◌∙◌, subst, Bool}
 use Rattle.std.proofs.Math.ListN.{set}
 use Rattle.outside_traits.proofs.RunLemmas.{spans_narrowed}
 use Rattle.plan_core.specs.PlainPlan.{PlainPlan}
-use Rattle.rewrite_core.specs.Files.{files_of}
 use Rattle.catalog_core.specs.Catalogs.{table_of}
 use Rattle.catalog_core.specs.IsTable.{IsTable}
-use Rattle.catalog_core.specs.Named.{bytes_named}
 use Rattle.catalog_core.specs.Table.{Table}
-use Rattle.executor.specs.Running.{TookAtMost}
 use Rattle.script_text.specs.declared.answer.Answer.TheVariants as answer
 use Rattle.script_text.specs.declared.answer.Refusal.TheVariants as refusal
 use Rattle.script_text.specs.declared.item.Command.TheVariants as command
 use Rattle.folder.specs.Folders.{table_in}
 use Rattle.folder.specs.Left.{Everything, IsSoundForOneOf}
 use Rattle.folder.specs.Sound.{IsSound}
-use Rattle.folder_session.specs.Causes.{IsOfFiles}
-use Rattle.folder_session.proofs.DroppedLemmas.{gone_from_none}
-use Rattle.folder_session.proofs.LeavingLemmas.{reads_only, writes_on}
-use Rattle.folder_session.proofs.TakenLemmas.{most_then}
+use Rattle.folder.specs.State.{table}
+use Rattle.folder_session.proofs.DroppedLemmas.{dropped_free, gone_from_none}
+use Rattle.folder_session.proofs.LeavingLemmas.{failed_after, work_on, work_reads}
 use Rattle.job_table.specs.declared.table.OpenJob.{OpenJob}
-use Rattle.work_run.specs.Opened.{IsOpen, opened_rewriting}
-use Rattle.work_run.specs.declared.open.OpenWork.{OpenWork}
-use Rattle.session.specs.Jobs.{AreHeldOver, IsJob}
+use Rattle.later_states.specs.Later.{SparesHeld}
+use Rattle.work_turns.specs.Ends.{free_of, those_among}
+use Rattle.job_turns.specs.Jobs as work
+use Rattle.job_turns.specs.Turns.{Reads}
+use Rattle.job_turns.specs.declared.job.JobWork.{JobWork}
+use Rattle.session.specs.Jobs.{AreHeldOver, IsJob, held_of}
 use Rattle.session.specs.Standing.{folder_of, jobs_of}
-use Rattle.session.specs.Taken.{TakesAsTold}
-use Rattle.session.proofs.CloseLemmas.{unknown_close}
+use Rattle.session.specs.Causes.{IsFoundOf}
+use Rattle.session.specs.Taken.{TakesAsTold, TakesGoingOn}
+use Rattle.session.specs.Work.{IsNotClosed, IsWithin}
+use Rattle.session.proofs.CloseLemmas.{removed_same, unknown_close, want_close}
 use Rattle.session.proofs.ClosingLemmas.{closed_breaks, closed_result, found, not_closed_performs}
-use Rattle.session.proofs.EndedLemmas.{closed_gone, ended_found, ended_holds, ended_taken, refused_since}
-use Rattle.session.proofs.FoundLemmas.{close_found, close_most, held_at, read_held}
+use Rattle.session.proofs.EndedLemmas.{closed_gone, closed_takes, ended_found, ended_holds, ended_narrow, ended_no_fault, ended_taken, refused_since, same_whatever}
+use Rattle.session.proofs.FoundLemmas.{close_found, close_most, held_at, most_on, none_most, not_closed_rose, not_closed_unread, read_held, reads_most, stopped_found, stopped_most, unclosed_most}
 use Rattle.session.proofs.JobSteps.{same_name}
 use Rattle.session.proofs.OpenLemmas.{stays}
 use Rattle.session.proofs.Places.{first_at, job_at, none_at, none_named}
@@ -42,158 +43,278 @@ returns-in_default-clause-ok g c = λ told care m stands.
     stays care (g.D.Store.view c.args.store.now) c.args.self c.args.self m (command.Close c.args.name) (answer.Refused (refusal.Unknown c.args.name)) stands refl refl (unknown_close care m c.args.name without.0)
 
 pub returns-in_default-clause-gone : goal.returns-in_default-clause-gone
-returns-in_default-clause-gone g c = (let t = table_in (folder_of c.args.self) in gone_from_none t t refl (g.D.Store.view c.args.store.now) (g.D.Store.counts c.args.store.now) (g.D.Store.counts c.args.store.now))
+returns-in_default-clause-gone g c = λ told. (let t = table_in (folder_of c.args.self) in gone_from_none t t refl (g.D.Store.view c.args.store.now) (g.D.Store.counts c.args.store.now) (g.D.Store.counts c.args.store.now))
+
+-- ---- want of memory for the ids that are held
+
+pub returns-in_default-held_beside-clause-ok : goal.returns-in_default-held_beside-clause-ok
+returns-in_default-held_beside-clause-ok g c = λ told care m stands.
+    stays care (g.D.Store.view c.args.store.now) c.args.self c.args.self m (command.Close c.args.name) (answer.Refused refusal.Memory) stands refl refl (want_close care m c.args.name)
+
+pub returns-in_default-held_beside-clause-gone : goal.returns-in_default-held_beside-clause-gone
+returns-in_default-held_beside-clause-gone g c = λ told. (let t = table_in (folder_of c.args.self) in gone_from_none t t refl (g.D.Store.view c.args.store.now) (g.D.Store.counts c.args.store.now) (g.D.Store.counts c.args.store.now))
+
+pub returns-in_default-clause-most : goal.returns-in_default-clause-most
+returns-in_default-clause-most g c = λ told. unclosed_most (jobs_of c.args.self) c.args.name (sym c.place_of.ensures ∙ c.in_default.is) (table_in (folder_of c.args.self)) (g.D.Store.counts c.args.store.now)
+
+pub returns-in_default-held_beside-clause-most : goal.returns-in_default-held_beside-clause-most
+returns-in_default-held_beside-clause-most g c = λ told.
+    let t = table_in (folder_of c.args.self) in
+    none_most (jobs_of c.args.self) c.args.name c.in-Some.at (sym c.place_of.ensures ∙ c.in-Some.is) t c.requires.holds (g.D.Store.view c.args.store.now) (g.D.Store.counts c.args.store.now)
+
+-- ---- what closing asks
 
 pub close_work-closed-requires : goal.close_work-closed-requires
 close_work-closed-requires g c =
     let jobs = jobs_of c.args.self in
     let is = held_at jobs c.args.name c.in-Some.at c.index_mut.result.now (sym c.place_of.ensures ∙ c.in-Some.is) c.index_mut.ensures.value (table_of c.catalog-2.result.now)
     (subst (λ (t : Table). AreHeldOver t jobs) (sym c.catalog-2.ensures) c.requires.holds) in
-    (is.plan, is.is_open)
+    (is.plan, is.is_job)
 
 -- ---- closed
 
-pub returns-in-Ok-clause-holds : goal.returns-in-Ok-clause-holds
-returns-in-Ok-clause-holds g c =
+pub returns-in-Ok-closed-clause-holds : goal.returns-in-Ok-closed-clause-holds
+returns-in-Ok-closed-clause-holds g c =
     let t = table_in (folder_of c.args.self) in
     let jobs = jobs_of c.args.self in
+    let at = c.in-Some.at in
     let o = c.index_mut.result.now in
-    let work = c.close_work-closed.new.work in
-    let still = subst (λ (x : Table). (plan : PlainPlan) → IsOpen x plan o.job → IsOpen x plan work) c.catalog-2.ensures c.in-Ok.ensures.is_open in
-    let over = read_held jobs c.args.name c.in-Some.at o (sym c.place_of.ensures ∙ c.in-Some.is) c.index_mut.ensures.value t work c.in-Ok.ensures.same still c.requires.holds in
-    ended_holds c.open_work_stays.ensures.open t (subst IsTable c.catalog.ensures c.know_table.ensures) (set jobs c.in-Some.at (record { name = o.name; job = work; holds = o.holds })) c.in-Ok.work c.in-Some.at over c.record_closed.result c.record_closed.ensures.table
-    c.record_closed.ensures.later c.record_closed.ensures.ended
+    let job = c.close_work-closed.new.work in
+    let after : OpenJob JobWork = record { name = o.name; job = job } in
+    let still = subst (λ (x : Table). (plan : PlainPlan) → work.IsJob x plan o.job → work.IsJob x plan job) c.catalog-2.ensures c.in-Ok-closed.ensures.job in
+    let over = read_held jobs c.args.name at o (sym c.place_of.ensures ∙ c.in-Some.is) c.index_mut.ensures.value t job still c.requires.holds in
+    let held = c.deref.result.now in
+    let held_is = c.deref.ensures.value ∙ c.in-Ok.ensures ∙ ap held_of (sym (removed_same jobs at after)) in
+    let spares = subst (SparesHeld held) (sym c.in-Ok-closed.ensures.recorded.1.change) (dropped_free held job.noted.items (table_of c.catalog-2.result.now).entries) in
+    ended_holds c.job_work_stays.ensures.job t (subst IsTable c.catalog.ensures c.know_table.ensures) (set jobs at after) c.in-Ok-closed.done.work at held held_is over c.record_closed.result c.record_closed.ensures.table
+    (c.record_closed.ensures.later held spares) c.record_closed.ensures.same c.record_closed.ensures.ended
 
-pub returns-in-Ok-clause-ok : goal.returns-in-Ok-clause-ok
-returns-in-Ok-clause-ok g c = λ told care m stands.
+pub returns-in-Ok-closed-clause-ok : goal.returns-in-Ok-closed-clause-ok
+returns-in-Ok-closed-clause-ok g c = λ told care m stands.
     let u = g.D.Store.view c.args.store.now in
     let w = g.D.Store.view c.close_work-closed.new.store in
     let v = g.D.Store.view c.record_closed.new.store in
+    let first = g.D.Store.counts c.args.store.now in
+    let then = g.D.Store.counts c.close_work-closed.new.store in
+    let tells = g.D.Store.tells in
+    let at = c.in-Some.at in
     let o = c.index_mut.result.now in
-    let new : OpenJob OpenWork = record { name = o.name; job = c.close_work-closed.new.work; holds = o.holds } in
+    let job = c.close_work-closed.new.work in
+    let after : OpenJob JobWork = record { name = o.name; job = job } in
     let e = c.catalog-2.ensures ∙ stands.base.means.table_is in
-    let narrows = c.in-Ok.ensures.narrows in
+    let narrows = c.in-Ok-closed.ensures.narrows in
     let means = c.left_stores.ensures.means care c.args.store.now c.close_work-closed.new.store _ _ m.state narrows stands.base.means in
-    let still = subst (λ (x : Table). (plan : PlainPlan) → IsOpen x plan o.job → IsOpen x plan new.job) e c.in-Ok.ensures.is_open in
-    let reads = c.in-Ok.ensures.read_on told care m.state stands.base.left e in
+    let still = subst (λ (x : Table). (plan : PlainPlan) → work.IsJob x plan o.job → work.IsJob x plan job) e c.in-Ok-closed.ensures.job in
     let place = sym c.place_of.ensures ∙ c.in-Some.is in
-    let of = found care u c.args.self m stands c.args.name c.in-Some.at o o new place (sym c.index_mut.ensures.value) refl refl c.in-Ok.ensures.same still reads in
-    let is_open = subst (λ (x : Table). IsOpen x of.job.run.plan o.job) (sym e) of.is.is_open in
-    let closed = c.in-Ok.ensures.ok told care m.state of.job.run.plan stands.base.left e of.is.read is_open in
-    closed_result care u c.args.self m stands c.args.name c.in-Some.at o o new place (sym c.index_mut.ensures.value) refl refl c.in-Ok.ensures.same still reads w v
-    (spans_narrowed Everything (λ image. IsSound care image m.state) _ _ narrows stands.base.means.settled) c.in-Ok.work closed c.open_work_stays.ensures.open c.open_work_stays.ensures.read
-    (subst IsTable c.catalog.ensures c.know_table.ensures) c.record_closed.result c.record_closed.ensures.table c.record_closed.ensures.later c.record_closed.ensures.ended
-    (c.record_closed.ensures.ok told care m.state o.job.program closed.comes.news (record { means = means; left = c.left_stores.ensures.meant care c.close_work-closed.new.store _ _ m.state means }) closed.comes.change closed.comes.files)
+    let of = found care u c.args.self m stands c.args.name at o o after place (sym c.index_mut.ensures.value) refl still in
+    let is_job = subst (λ (x : Table). work.IsJob x of.job.run.plan o.job) (sym e) of.is.is_job in
+    let comes = c.in-Ok-closed.ensures.ok told care m.state of.job.run.plan stands.base.left e of.is.read is_job in
+    let reads = subst (λ (x : Table). Reads tells x u of.job.run.plan o.job job first then) e (c.in-Ok-closed.ensures.reads of.job.run.plan is_job) in
+    let within = subst (λ (x : Table). IsWithin x o.job) e c.in-Ok-closed.ensures.within in
+    let held = c.deref.result.now in
+    let held_is = c.deref.ensures.value ∙ c.in-Ok.ensures in
+    let spares = subst (SparesHeld held) (sym c.in-Ok-closed.ensures.recorded.1.change) (dropped_free held job.noted.items (table_of c.catalog-2.result.now).entries) in
+    let dropped = those_among (free_of held job.noted.items) m.state.entries in
+    closed_result care u c.args.self m stands c.args.name at o o after place (sym c.index_mut.ensures.value) refl still tells told first then reads c.in-Ok-closed.ensures.whole within c.in-Ok-closed.done.work held held_is comes w v
+    (spans_narrowed Everything (λ image. IsSound care image m.state) _ _ narrows stands.base.means.settled) c.job_work_stays.ensures.job c.job_work_stays.ensures.read
+    (subst IsTable c.catalog.ensures c.know_table.ensures) c.record_closed.result c.record_closed.ensures.table (c.record_closed.ensures.later held spares) c.record_closed.ensures.ended
+    (c.record_closed.ensures.ok told care m.state job.work.program dropped comes.news (record { means = means; left = c.left_stores.ensures.meant care c.close_work-closed.new.store _ _ m.state means }) comes.change_is comes.files)
 
-pub returns-in-Ok-clause-err : goal.returns-in-Ok-clause-err
-returns-in-Ok-clause-err g c = λ told care m stands.
+pub returns-in-Ok-closed-clause-err : goal.returns-in-Ok-closed-clause-err
+returns-in-Ok-closed-clause-err g c = λ told care m stands.
     let u = g.D.Store.view c.args.store.now in
     let w = g.D.Store.view c.close_work-closed.new.store in
     let v = g.D.Store.view c.record_closed.new.store in
+    let first = g.D.Store.counts c.args.store.now in
+    let then = g.D.Store.counts c.close_work-closed.new.store in
+    let tells = g.D.Store.tells in
+    let at = c.in-Some.at in
     let o = c.index_mut.result.now in
-    let new : OpenJob OpenWork = record { name = o.name; job = c.close_work-closed.new.work; holds = o.holds } in
+    let job = c.close_work-closed.new.work in
+    let after : OpenJob JobWork = record { name = o.name; job = job } in
     let e = c.catalog-2.ensures ∙ stands.base.means.table_is in
-    let narrows = c.in-Ok.ensures.narrows in
+    let narrows = c.in-Ok-closed.ensures.narrows in
     let means = c.left_stores.ensures.means care c.args.store.now c.close_work-closed.new.store _ _ m.state narrows stands.base.means in
-    let still = subst (λ (x : Table). (plan : PlainPlan) → IsOpen x plan o.job → IsOpen x plan new.job) e c.in-Ok.ensures.is_open in
-    let reads = c.in-Ok.ensures.read_on told care m.state stands.base.left e in
+    let still = subst (λ (x : Table). (plan : PlainPlan) → work.IsJob x plan o.job → work.IsJob x plan job) e c.in-Ok-closed.ensures.job in
     let place = sym c.place_of.ensures ∙ c.in-Some.is in
-    let of = found care u c.args.self m stands c.args.name c.in-Some.at o o new place (sym c.index_mut.ensures.value) refl refl c.in-Ok.ensures.same still reads in
-    let is_open = subst (λ (x : Table). IsOpen x of.job.run.plan o.job) (sym e) of.is.is_open in
-    let closed = c.in-Ok.ensures.ok told care m.state of.job.run.plan stands.base.left e of.is.read is_open in
-    closed_breaks care u c.args.self m stands c.args.name c.in-Some.at o o new place (sym c.index_mut.ensures.value) refl refl c.in-Ok.ensures.same still reads w v
-    (spans_narrowed Everything (λ image. IsSound care image m.state) _ _ narrows stands.base.means.settled) c.in-Ok.work closed c.record_closed.result
-    (c.record_closed.ensures.err told care m.state o.job.program closed.comes.news (record { means = means; left = c.left_stores.ensures.meant care c.close_work-closed.new.store _ _ m.state means }) closed.comes.change closed.comes.files)
+    let of = found care u c.args.self m stands c.args.name at o o after place (sym c.index_mut.ensures.value) refl still in
+    let is_job = subst (λ (x : Table). work.IsJob x of.job.run.plan o.job) (sym e) of.is.is_job in
+    let comes = c.in-Ok-closed.ensures.ok told care m.state of.job.run.plan stands.base.left e of.is.read is_job in
+    let reads = subst (λ (x : Table). Reads tells x u of.job.run.plan o.job job first then) e (c.in-Ok-closed.ensures.reads of.job.run.plan is_job) in
+    let within = subst (λ (x : Table). IsWithin x o.job) e c.in-Ok-closed.ensures.within in
+    let held = c.deref.result.now in
+    let held_is = c.deref.ensures.value ∙ c.in-Ok.ensures in
+    let dropped = those_among (free_of held job.noted.items) m.state.entries in
+    closed_breaks care u c.args.self m stands c.args.name at o o after place (sym c.index_mut.ensures.value) refl still tells told first then reads c.in-Ok-closed.ensures.whole within c.in-Ok-closed.done.work held held_is comes w v
+    (spans_narrowed Everything (λ image. IsSound care image m.state) _ _ narrows stands.base.means.settled) c.record_closed.result
+    (c.record_closed.ensures.err told care m.state job.work.program dropped comes.news (record { means = means; left = c.left_stores.ensures.meant care c.close_work-closed.new.store _ _ m.state means }) comes.change_is comes.files)
 
-pub returns-in-Ok-clause-alone : goal.returns-in-Ok-clause-alone
-returns-in-Ok-clause-alone g c = writes_on (folder_of c.args.self) _ _ _ (reads_only (folder_of c.args.self) _ _ c.in-Ok.ensures.narrows) c.record_closed.ensures.alone
+pub returns-in-Ok-closed-clause-alone : goal.returns-in-Ok-closed-clause-alone
+returns-in-Ok-closed-clause-alone g c = work_on (folder_of c.args.self) _ _ _ (work_reads (folder_of c.args.self) _ _ c.in-Ok-closed.ensures.narrows) c.record_closed.ensures.alone
 
-pub returns-in-Ok-clause-gone : goal.returns-in-Ok-clause-gone
-returns-in-Ok-clause-gone g c =
-    closed_gone (table_in (folder_of c.args.self)) (g.D.Store.view c.record_closed.new.store) (g.D.Store.counts c.args.store.now) (g.D.Store.counts c.close_work-closed.new.store) (g.D.Store.counts c.record_closed.new.store) c.in-Ok.ensures.counts.removes c.record_closed.result
-    c.record_closed.ensures.gone
+pub returns-in-Ok-closed-clause-gone : goal.returns-in-Ok-closed-clause-gone
+returns-in-Ok-closed-clause-gone g c = λ told.
+    closed_gone (table_in (folder_of c.args.self)) (g.D.Store.view c.record_closed.new.store) (g.D.Store.counts c.args.store.now) (g.D.Store.counts c.close_work-closed.new.store) (g.D.Store.counts c.record_closed.new.store) c.in-Ok-closed.ensures.counts.removes c.record_closed.result
+    (c.record_closed.ensures.gone told)
 
-pub returns-in-Ok-clause-refused : goal.returns-in-Ok-clause-refused
-returns-in-Ok-clause-refused g c = refused_since _ _ _ c.in-Ok.ensures.narrows c.record_closed.result c.record_closed.ensures.refused
-
-pub returns-in-Ok-clause-taken : goal.returns-in-Ok-clause-taken
-returns-in-Ok-clause-taken g c = λ told care m stands.
-    let t = table_in (folder_of c.args.self) in
-    let jobs = jobs_of c.args.self in
+pub returns-in-Ok-closed-clause-narrow : goal.returns-in-Ok-closed-clause-narrow
+returns-in-Ok-closed-clause-narrow g c =
     let o = c.index_mut.result.now in
+    let few = c.in-Ok-closed.ensures.narrow in
+    ended_narrow (set (jobs_of c.args.self) c.in-Some.at (record { name = o.name; job = c.close_work-closed.new.work })) c.in-Some.at c.in-Ok-closed.done.work (few.0, few.1, c.in-Ok-closed.ensures.recorded.1.few) c.record_closed.result c.record_closed.ensures.ended
+
+pub returns-in-Ok-closed-clause-refused : goal.returns-in-Ok-closed-clause-refused
+returns-in-Ok-closed-clause-refused g c = refused_since _ _ _ c.in-Ok-closed.ensures.narrows c.record_closed.result c.record_closed.ensures.refused
+
+pub returns-in-Ok-closed-clause-taken : goal.returns-in-Ok-closed-clause-taken
+returns-in-Ok-closed-clause-taken g c = λ told care m stands.
+    let s = table m.state in
+    let u = g.D.Store.view c.args.store.now in
+    let first = g.D.Store.counts c.args.store.now in
+    let then = g.D.Store.counts c.close_work-closed.new.store in
+    let last = g.D.Store.counts c.record_closed.new.store in
+    let jobs = jobs_of c.args.self in
+    let at = c.in-Some.at in
+    let o = c.index_mut.result.now in
+    let job = c.close_work-closed.new.work in
+    let after : OpenJob JobWork = record { name = o.name; job = job } in
     let e = c.catalog-2.ensures ∙ stands.base.means.table_is in
     let place = sym c.place_of.ensures ∙ c.in-Some.is in
-    let of = job_at c.args.name (IsJob m.state) (same_name m.state) m.jobs jobs c.in-Some.at o stands.jobs (first_at c.args.name jobs c.in-Some.at place) in
-    let is_job = subst (IsJob m.state of.0) (sym c.index_mut.ensures.value) of.3 in
-    let new : OpenJob OpenWork = record { name = o.name; job = c.close_work-closed.new.work; holds = o.holds } in
-    subst (λ (x : Table). IfOk c.record_closed.result (λ next. TakesAsTold x jobs (command.Close c.args.name) next.1 (g.D.Store.counts c.args.store.now) (g.D.Store.counts c.record_closed.new.store))) c.catalog-2.ensures
-    (ended_taken (table_of c.catalog-2.result.now) jobs (set jobs c.in-Some.at new) c.args.name c.in-Some.at o place c.index_mut.ensures.value c.in-Ok.work (g.D.Store.counts c.args.store.now) (g.D.Store.counts c.close_work-closed.new.store) (g.D.Store.counts c.record_closed.new.store)
-    (c.in-Ok.ensures.taken told care m.state stands.base.left e is_job.read) c.record_closed.ensures.taken c.record_closed.result c.record_closed.ensures.ended)
+    let of = job_at c.args.name (IsJob m.state) (same_name m.state) m.jobs jobs at o stands.jobs (first_at c.args.name jobs at place) in
+    let is = subst (IsJob m.state of.0) (sym c.index_mut.ensures.value) of.3 in
+    let plan = of.0.run.plan in
+    let is_job = subst (λ (x : Table). work.IsJob x plan o.job) (sym e) is.is_job in
+    let comes = c.in-Ok-closed.ensures.ok told care m.state plan stands.base.left e is.read is_job in
+    let reads = subst (λ (b : Bool). Reads b s u plan o.job job first then) told (subst (λ (x : Table). Reads g.D.Store.tells x u plan o.job job first then) e (c.in-Ok-closed.ensures.reads plan is_job)) in
+    subst (λ (x : Table). IfOk c.record_closed.result (λ next. TakesAsTold x jobs (command.Close c.args.name) next.1 first last)) (sym stands.base.means.table_is)
+    (ended_taken s jobs (set jobs at after) c.args.name at o place c.index_mut.ensures.value c.in-Ok-closed.done.work first then last
+    (closed_takes s u plan o job c.in-Ok-closed.done.work first then reads c.in-Ok-closed.ensures.whole (reads.over refl care m.state stands.base.left refl is.read).2 comes.works.read) c.record_closed.ensures.taken c.record_closed.result c.record_closed.ensures.ended)
 
-pub returns-in-Ok-clause-most : goal.returns-in-Ok-clause-most
-returns-in-Ok-clause-most g c = λ told.
+pub returns-in-Ok-closed-clause-most : goal.returns-in-Ok-closed-clause-most
+returns-in-Ok-closed-clause-most g c = λ told.
+    let jobs = jobs_of c.args.self in
+    let t = table_of c.catalog-2.result.now in
     let o = c.index_mut.result.now in
+    let job = c.close_work-closed.new.work in
+    let u = g.D.Store.view c.args.store.now in
     let old = g.D.Store.counts c.args.store.now in
     let half = g.D.Store.counts c.close_work-closed.new.store in
     let new = g.D.Store.counts c.record_closed.new.store in
-    close_most (jobs_of c.args.self) c.args.name c.in-Some.at o (sym c.place_of.ensures ∙ c.in-Some.is) c.index_mut.ensures.value (table_in (folder_of c.args.self)) old new
-    (most_then _ old half new (subst (λ (x : Table). TookAtMost (bytes_named x (files_of (opened_rewriting o.job))) old half) c.catalog-2.ensures (c.in-Ok.ensures.most told)) c.record_closed.ensures.taken)
+    let place = sym c.place_of.ensures ∙ c.in-Some.is in
+    let is = held_at jobs c.args.name c.in-Some.at o place c.index_mut.ensures.value t (subst (λ (x : Table). AreHeldOver x jobs) (sym c.catalog-2.ensures) c.requires.holds) in
+    let reads = subst (λ (b : Bool). Reads b t u is.plan o.job job old half) told (c.in-Ok-closed.ensures.reads is.plan is.is_job) in
+    close_most jobs c.args.name c.in-Some.at o place c.index_mut.ensures.value (table_in (folder_of c.args.self)) old new
+    (subst (λ (x : Table). TakesGoingOn x o.job old new) c.catalog-2.ensures (most_on t o.job old half new (reads_most t u is.plan o.job job old half reads) c.record_closed.ensures.taken))
 
-pub returns-in-Ok-clause-crash : goal.returns-in-Ok-clause-crash
-returns-in-Ok-clause-crash g c = λ told stands. c.record_closed.ensures.crash told (c.left_stores.ensures.stands c.args.store.now c.close_work-closed.new.store _ _ c.in-Ok.ensures.narrows stands)
+pub returns-in-Ok-closed-clause-crash : goal.returns-in-Ok-closed-clause-crash
+returns-in-Ok-closed-clause-crash g c = λ told stands. c.record_closed.ensures.crash told (c.left_stores.ensures.stands c.args.store.now c.close_work-closed.new.store _ _ c.in-Ok-closed.ensures.narrows stands)
 
-pub returns-in-Ok-clause-found : goal.returns-in-Ok-clause-found
-returns-in-Ok-clause-found g c = λ told.
+pub returns-in-Ok-closed-clause-found : goal.returns-in-Ok-closed-clause-found
+returns-in-Ok-closed-clause-found g c = λ told.
     let o = c.index_mut.result.now in
     let jobs = jobs_of c.args.self in
-    ended_found (table_in (folder_of c.args.self)) jobs (set jobs c.in-Some.at (record { name = o.name; job = c.close_work-closed.new.work; holds = o.holds })) c.args.name c.in-Some.at c.in-Ok.work (g.D.Store.view c.args.store.now).files c.record_closed.result
+    ended_found (table_in (folder_of c.args.self)) jobs (set jobs c.in-Some.at (record { name = o.name; job = c.close_work-closed.new.work })) c.args.name c.in-Some.at c.in-Ok-closed.done.work (g.D.Store.view c.args.store.now).files c.record_closed.result
     c.record_closed.ensures.ended
+
+pub returns-in-Ok-closed-clause-fault : goal.returns-in-Ok-closed-clause-fault
+returns-in-Ok-closed-clause-fault g c =
+    let o = c.index_mut.result.now in
+    ended_no_fault (set (jobs_of c.args.self) c.in-Some.at (record { name = o.name; job = c.close_work-closed.new.work })) c.in-Some.at c.in-Ok-closed.done.work _ c.record_closed.result c.record_closed.ensures.ended
+
+pub returns-in-Ok-closed-clause-only_fault : goal.returns-in-Ok-closed-clause-only_fault
+returns-in-Ok-closed-clause-only_fault g c =
+    let jobs = jobs_of c.args.self in
+    let o = c.index_mut.result.now in
+    let is = held_at jobs c.args.name c.in-Some.at o (sym c.place_of.ensures ∙ c.in-Some.is) c.index_mut.ensures.value (table_of c.catalog-2.result.now) (subst (λ (x : Table). AreHeldOver x jobs) (sym c.catalog-2.ensures) c.requires.holds) in
+    same_whatever c.record_closed.result _ _ (c.record_closed.ensures.reads ∙ (c.in-Ok-closed.ensures.reads is.plan is.is_job).no_fault)
+
+pub returns-in-Ok-closed-clause-looks : goal.returns-in-Ok-closed-clause-looks
+returns-in-Ok-closed-clause-looks g c =
+    let jobs = jobs_of c.args.self in
+    let o = c.index_mut.result.now in
+    let is = held_at jobs c.args.name c.in-Some.at o (sym c.place_of.ensures ∙ c.in-Some.is) c.index_mut.ensures.value (table_of c.catalog-2.result.now) (subst (λ (x : Table). AreHeldOver x jobs) (sym c.catalog-2.ensures) c.requires.holds) in
+    failed_after c.record_closed.result _ (c.record_closed.ensures.reads ∙ (c.in-Ok-closed.ensures.reads is.plan is.is_job).no_fault)
 
 -- ---- not closed
 
 pub returns-clause-gone : goal.returns-clause-gone
-returns-clause-gone g c = (let t = table_in (folder_of c.args.self) in gone_from_none t t refl (g.D.Store.view c.close_work-closed.new.store) (g.D.Store.counts c.args.store.now) (g.D.Store.counts c.close_work-closed.new.store))
+returns-clause-gone g c = λ told. (let t = table_in (folder_of c.args.self) in gone_from_none t t refl (g.D.Store.view c.close_work-closed.new.store) (g.D.Store.counts c.args.store.now) (g.D.Store.counts c.close_work-closed.new.store))
+
+pub returns-clause-alone : goal.returns-clause-alone
+returns-clause-alone g c = work_reads (folder_of c.args.self) _ _ c.in-Err.ensures.narrows
 
 pub returns-clause-holds : goal.returns-clause-holds
 returns-clause-holds g c =
     let o = c.index_mut.result.now in
-    let work = c.close_work-closed.new.work in
-    let still = subst (λ (x : Table). (plan : PlainPlan) → IsOpen x plan o.job → IsOpen x plan work) c.catalog-2.ensures c.in-Err.ensures.is_open in
-    read_held (jobs_of c.args.self) c.args.name c.in-Some.at o (sym c.place_of.ensures ∙ c.in-Some.is) c.index_mut.ensures.value (table_in (folder_of c.args.self)) work c.in-Err.ensures.same still c.requires.holds
+    let job = c.close_work-closed.new.work in
+    let still = subst (λ (x : Table). (plan : PlainPlan) → work.IsJob x plan o.job → work.IsJob x plan job) c.catalog-2.ensures c.in-Err.ensures.job in
+    read_held (jobs_of c.args.self) c.args.name c.in-Some.at o (sym c.place_of.ensures ∙ c.in-Some.is) c.index_mut.ensures.value (table_in (folder_of c.args.self)) job still c.requires.holds
 
 pub returns-clause-ok : goal.returns-clause-ok
 returns-clause-ok g c = λ told care m stands.
     let u = g.D.Store.view c.args.store.now in
     let w = g.D.Store.view c.close_work-closed.new.store in
+    let first = g.D.Store.counts c.args.store.now in
+    let then = g.D.Store.counts c.close_work-closed.new.store in
+    let tells = g.D.Store.tells in
     let o = c.index_mut.result.now in
-    let new : OpenJob OpenWork = record { name = o.name; job = c.close_work-closed.new.work; holds = o.holds } in
+    let job = c.close_work-closed.new.work in
+    let after : OpenJob JobWork = record { name = o.name; job = job } in
     let e = c.catalog-2.ensures ∙ stands.base.means.table_is in
     let narrows = c.in-Err.ensures.narrows in
     let means = c.left_stores.ensures.means care c.args.store.now c.close_work-closed.new.store _ _ m.state narrows stands.base.means in
-    let still = subst (λ (x : Table). (plan : PlainPlan) → IsOpen x plan o.job → IsOpen x plan new.job) e c.in-Err.ensures.is_open in
-    let reads = c.in-Err.ensures.read_on told care m.state stands.base.left e in
+    let still = subst (λ (x : Table). (plan : PlainPlan) → work.IsJob x plan o.job → work.IsJob x plan job) e c.in-Err.ensures.job in
     let place = sym c.place_of.ensures ∙ c.in-Some.is in
-    let of = found care u c.args.self m stands c.args.name c.in-Some.at o o new place (sym c.index_mut.ensures.value) refl refl c.in-Err.ensures.same still reads in
-    let is_open = subst (λ (x : Table). IsOpen x of.job.run.plan o.job) (sym e) of.is.is_open in
-    not_closed_performs care u c.args.self m stands c.args.name c.in-Some.at o o new place (sym c.index_mut.ensures.value) refl refl c.in-Err.ensures.same still reads w _ refl
+    let of = found care u c.args.self m stands c.args.name c.in-Some.at o o after place (sym c.index_mut.ensures.value) refl still in
+    let is_job = subst (λ (x : Table). work.IsJob x of.job.run.plan o.job) (sym e) of.is.is_job in
+    let why = c.in-Err.refusal in
+    not_closed_performs care u c.args.self m stands c.args.name c.in-Some.at o o after place (sym c.index_mut.ensures.value) refl still tells told first then w _ refl
     (record { means = means; left = c.left_stores.ensures.meant care c.close_work-closed.new.store _ _ m.state means })
-    (spans_narrowed Everything (IsSoundForOneOf care m.state m.state) _ _ narrows (λ image is. inl (stands.base.means.settled image is))) c.in-Err.refusal
-    (c.in-Err.ensures.err told care m.state of.job.run.plan stands.base.left e of.is.read is_open)
+    (spans_narrowed Everything (IsSoundForOneOf care m.state m.state) _ _ narrows (λ image is. inl (stands.base.means.settled image is))) why
+    (subst (λ (x : Table). IsNotClosed tells x u of.job.run.plan o.job job first then why) e (c.in-Err.ensures.err of.job.run.plan is_job))
 
 pub returns-clause-found : goal.returns-clause-found
 returns-clause-found g c = λ told.
-    let files = (g.D.Store.view c.args.store.now).files in
+    let jobs = jobs_of c.args.self in
+    let t = table_of c.catalog-2.result.now in
+    let view = g.D.Store.view c.args.store.now in
     let o = c.index_mut.result.now in
-    close_found (jobs_of c.args.self) c.args.name c.in-Some.at o (sym c.place_of.ensures ∙ c.in-Some.is) c.index_mut.ensures.value (table_in (folder_of c.args.self)) files c.in-Err.refusal
-    (subst (λ (x : Table). IsOfFiles x (opened_rewriting o.job) files c.in-Err.refusal) c.catalog-2.ensures (c.in-Err.ensures.found told))
+    let place = sym c.place_of.ensures ∙ c.in-Some.is in
+    let is = held_at jobs c.args.name c.in-Some.at o place c.index_mut.ensures.value t (subst (λ (x : Table). AreHeldOver x jobs) (sym c.catalog-2.ensures) c.requires.holds) in
+    close_found jobs c.args.name c.in-Some.at o place c.index_mut.ensures.value (table_in (folder_of c.args.self)) view.files c.in-Err.refusal
+    (subst (λ (x : Table). IsFoundOf x o.job view.files c.in-Err.refusal) c.catalog-2.ensures
+    (stopped_found g.D.Store.tells told t view is.plan o.job c.close_work-closed.new.work (g.D.Store.counts c.args.store.now) (g.D.Store.counts c.close_work-closed.new.store) c.in-Err.refusal (c.in-Err.ensures.err is.plan is.is_job)))
 
 pub returns-clause-most : goal.returns-clause-most
 returns-clause-most g c = λ told.
+    let jobs = jobs_of c.args.self in
+    let t = table_of c.catalog-2.result.now in
+    let view = g.D.Store.view c.args.store.now in
     let o = c.index_mut.result.now in
     let old = g.D.Store.counts c.args.store.now in
     let new = g.D.Store.counts c.close_work-closed.new.store in
-    close_most (jobs_of c.args.self) c.args.name c.in-Some.at o (sym c.place_of.ensures ∙ c.in-Some.is) c.index_mut.ensures.value (table_in (folder_of c.args.self)) old new
-    (subst (λ (x : Table). TookAtMost (bytes_named x (files_of (opened_rewriting o.job))) old new) c.catalog-2.ensures (c.in-Err.ensures.most told))
+    let place = sym c.place_of.ensures ∙ c.in-Some.is in
+    let is = held_at jobs c.args.name c.in-Some.at o place c.index_mut.ensures.value t (subst (λ (x : Table). AreHeldOver x jobs) (sym c.catalog-2.ensures) c.requires.holds) in
+    close_most jobs c.args.name c.in-Some.at o place c.index_mut.ensures.value (table_in (folder_of c.args.self)) old new
+    (subst (λ (x : Table). TakesGoingOn x o.job old new) c.catalog-2.ensures
+    (stopped_most g.D.Store.tells told t view is.plan o.job c.close_work-closed.new.work old new c.in-Err.refusal is.is_job (c.in-Err.ensures.err is.plan is.is_job)))
+
+pub returns-clause-fault : goal.returns-clause-fault
+returns-clause-fault g c = λ fault.
+    let jobs = jobs_of c.args.self in
+    let t = table_of c.catalog-2.result.now in
+    let o = c.index_mut.result.now in
+    let is = held_at jobs c.args.name c.in-Some.at o (sym c.place_of.ensures ∙ c.in-Some.is) c.index_mut.ensures.value t (subst (λ (x : Table). AreHeldOver x jobs) (sym c.catalog-2.ensures) c.requires.holds) in
+    let same : c.in-Err.refusal ≡ refusal.Fault = cc in
+    not_closed_rose g.D.Store.tells t (g.D.Store.view c.args.store.now) is.plan o.job c.close_work-closed.new.work (g.D.Store.counts c.args.store.now) (g.D.Store.counts c.close_work-closed.new.store) c.in-Err.refusal (c.in-Err.ensures.err is.plan is.is_job) same
+
+pub returns-clause-only_fault : goal.returns-clause-only_fault
+returns-clause-only_fault g c = λ other.
+    let jobs = jobs_of c.args.self in
+    let t = table_of c.catalog-2.result.now in
+    let o = c.index_mut.result.now in
+    let is = held_at jobs c.args.name c.in-Some.at o (sym c.place_of.ensures ∙ c.in-Some.is) c.index_mut.ensures.value t (subst (λ (x : Table). AreHeldOver x jobs) (sym c.catalog-2.ensures) c.requires.holds) in
+    not_closed_unread g.D.Store.tells t (g.D.Store.view c.args.store.now) is.plan o.job c.close_work-closed.new.work (g.D.Store.counts c.args.store.now) (g.D.Store.counts c.close_work-closed.new.store) c.in-Err.refusal (c.in-Err.ensures.err is.plan is.is_job) (λ is. other (ap answer.Refused is))
 
 pub returns-clause-crash : goal.returns-clause-crash
 returns-clause-crash g c = λ told stands. c.left_stores.ensures.stands c.args.store.now c.close_work-closed.new.store _ _ c.in-Err.ensures.narrows stands

@@ -1,9 +1,10 @@
-use Rattle.std.proofs.Common.{◌∙◌, sym, subst, refl}
+use Rattle.std.proofs.Common.{◌∙◌, sym, ap, subst, refl}
 use Rattle.catalog_core.specs.IsTable.{IsTable}
 use Rattle.script_text.specs.declared.answer.Answer.TheVariants as answer
 use Rattle.script_text.specs.declared.answer.Refusal.TheVariants as refusal
 use Rattle.folder.specs.Folders.{table_in}
 use Rattle.folder_session.proofs.DroppedLemmas.{gone_from_none}
+use Rattle.session.specs.Jobs.{held_of}
 use Rattle.session.specs.Standing.{folder_of, jobs_of}
 use Rattle.session.proofs.OpenLemmas.{stays}
 use Rattle.session.proofs.PerformLemmas.{breaks_beside, found_beside, performs_beside, taken_beside, want_beside, want_found, want_most}
@@ -29,14 +30,14 @@ returns-in-Err-clause-most g c = λ told. want_most (table_in (folder_of c.args.
 pub returns-in-Ok-step-clause-holds : goal.returns-in-Ok-step-clause-holds
 returns-in-Ok-step-clause-holds g c =
     let opens = jobs_of c.args.self in
-    let held_is = c.deref.ensures.value ∙ c.in-Ok.ensures in
-    still_held_over c.open_work_stays.ensures.open c.deref.result.now (table_in (folder_of c.args.self)) (table_in c.in-Ok-step.base.folder) (subst IsTable c.catalog.ensures c.know_table.ensures)
+    let held_is = c.deref-2.ensures.value ∙ c.in-Ok.ensures ∙ ap held_of c.deref.ensures.value in
+    still_held_over c.job_work_stays.ensures.job c.deref-2.result.now (table_in (folder_of c.args.self)) (table_in c.in-Ok-step.base.folder) (subst IsTable c.catalog.ensures c.know_table.ensures)
     (subst IsTable c.catalog-in-Ok-step.ensures c.know_table-in-Ok-step.ensures) c.in-Ok-step.ensures.later opens (subst (λ ids. AreAllHeld ids opens) (sym held_is) (all_held opens)) c.requires.holds
 
 pub returns-in-Ok-step-clause-ok : goal.returns-in-Ok-step-clause-ok
 returns-in-Ok-step-clause-ok g c = λ told care m stands.
-    performs_beside c.open_work_stays.ensures.open c.open_work_stays.ensures.read care (g.D.Store.view c.args.store.now) (g.D.Store.view c.step.new.store) c.args.self
-    (record { base = c.in-Ok-step.base; jobs = c.args.self.jobs; alloc = c.args.self.alloc }) m c.deref.result.now stands (c.deref.ensures.value ∙ c.in-Ok.ensures) c.args.command c.requires.of_folder c.in-Ok-step.answer refl
+    performs_beside c.job_work_stays.ensures.job c.job_work_stays.ensures.read care (g.D.Store.view c.args.store.now) (g.D.Store.view c.step.new.store) c.args.self
+    (record { base = c.in-Ok-step.base; jobs = c.args.self.jobs; alloc = c.args.self.alloc }) m c.deref-2.result.now stands (c.deref-2.ensures.value ∙ c.in-Ok.ensures ∙ ap held_of c.deref.ensures.value) c.args.command c.requires.of_folder c.in-Ok-step.answer refl
     (subst IsTable c.catalog.ensures c.know_table.ensures) (subst IsTable c.catalog-in-Ok-step.ensures c.know_table-in-Ok-step.ensures) c.in-Ok-step.ensures.later (c.in-Ok-step.ensures.ok told care m.state stands.base)
 
 pub returns-in-Ok-step-clause-found : goal.returns-in-Ok-step-clause-found
@@ -49,5 +50,5 @@ returns-in-Ok-step-clause-taken g c = λ told care m stands.
 
 pub returns-in-Err-step-clause-err : goal.returns-in-Err-step-clause-err
 returns-in-Err-step-clause-err g c = λ told care m stands.
-    breaks_beside c.open_work_stays.ensures.open c.open_work_stays.ensures.read care (g.D.Store.view c.args.store.now) (g.D.Store.view c.step.new.store) c.args.self c.args.self m c.deref.result.now stands
-    (c.deref.ensures.value ∙ c.in-Ok.ensures) c.args.command c.requires.of_folder (c.in-Err-step.ensures.err told care m.state stands.base)
+    breaks_beside c.job_work_stays.ensures.job c.job_work_stays.ensures.read care (g.D.Store.view c.args.store.now) (g.D.Store.view c.step.new.store) c.args.self c.args.self m c.deref-2.result.now stands
+    (c.deref-2.ensures.value ∙ c.in-Ok.ensures ∙ ap held_of c.deref.ensures.value) c.args.command c.requires.of_folder (c.in-Err-step.ensures.err told care m.state stands.base)
