@@ -1,7 +1,8 @@
 //! The table.
-ghost use Rattle.std.specs.Prelude.{◌≡◌, ℕ, ◌<◌, List, [], ◌∷◌, ◌++◌, length, None};
+ghost use Rattle.std.specs.Prelude.{◌≡◌, ℕ, ◌<◌, ◌≤◌, List, [], ◌∷◌, ◌++◌, length, None};
 ghost use Rattle.std.specs.Prelude.{IfSome, IfNone, OnOk, IfErr, OnErr};
-ghost use Rattle.job_table.specs.Jobs.{place_of, IsTakenOut, IsJobAt, IsReplaced};
+ghost use Rattle.std.specs.List.{remove};
+ghost use Rattle.job_table.specs.Jobs.{place_of, IsTakenOut, IsJobAt, IsReplaced, put_each};
 
 use rows_core::Name;
 use std::alloc::{AllocFailed, Global};
@@ -77,6 +78,30 @@ impl<J: Drop> JobTable<J> {
             (record { name = name; job = job }) self.old.jobs.items self.new.jobs.items }
     {
         mem::replace(&mut self.jobs[place].job, job)
+    }
+
+    /// Puts the next job, where there is one, in the place of each of these jobs, in the order of opening. The
+    /// names stay, and so do the jobs that have no next one. It takes no memory.
+    pub fn put_each(&mut self, nexts: Vec<Option<J>>)
+        requires { length nexts.items ≤ length self.old.jobs.items }
+        ensures { self.new.jobs.items ≡ put_each self.old.jobs.items nexts.items }
+    {
+        let mut place = 0;
+        for next in nexts {
+            if let Some(job) = next {
+                self.put_at(place, job);
+            }
+            place += 1;
+        }
+    }
+
+    /// Lets go of the job at this place, in the order of opening, from 0; the others stay in their order. It
+    /// takes no memory.
+    pub fn remove_at(&mut self, place: usize)
+        requires { place < length self.old.jobs.items }
+        ensures { self.new.jobs.items ≡ remove self.old.jobs.items place }
+    {
+        self.jobs.remove(place);
     }
 
     /// Takes the job of this name out, where it is open; the others stay in their order. It takes no memory.

@@ -1,8 +1,8 @@
 -- Work of a rewriting that is taken anew.
 use Rattle.std.proofs.Common.{◌≡◌, refl, sym, ap, ◌∙◌, subst, ℕ, ◌==◌, ◌||◌, Bool, true, false, List, [], ◌∷◌, ◌++◌, inl, inr, arith}
-use Rattle.std.specs.List.{Contains, list_all}
-use Rattle.std.proofs.lemmas.Bool.{false≢true}
-use Rattle.std.proofs.lemmas.List.Folds.{list_any-append}
+use Rattle.std.specs.List.{Contains, list_all, list_any}
+use Rattle.std.proofs.lemmas.Bool.{eqb-true, false≢true}
+use Rattle.std.proofs.lemmas.List.Folds.{list_any-append, list_any_at}
 use Rattle.plan_core.specs.PlainPlan.{PlainPlan, plan_of}
 use Rattle.plan_core.specs.PlanTyping.{Kinds}
 use Rattle.plan_canon.specs.Normal.{IsNormalFormOf}
@@ -35,7 +35,8 @@ use Rattle.work_run.proofs.Rooted.{IsRooted, TakenServe, chosen_root, chosen_ser
 use Rattle.work_run.proofs.Taken.{entry-there}
 use Rattle.work_turns.specs.Turns.{IsChosenOf}
 use Rattle.work_turns.proofs.LeftOut.{left_plan, left_taken, LeftServe}
-use Rattle.job_turns.specs.Jobs.{IsFresh, Suits}
+use Rattle.plan_laws.proofs.Members.{at_front, behind}
+use Rattle.job_turns.specs.Jobs.{HaveOneOf, IsFresh, Suits}
 use Rattle.job_turns.proofs.Later.{left-has}
 
 -- ---- what suits, and fresh work, of the same parts
@@ -133,3 +134,24 @@ spared ids dropped es used are = λ id gone is.
     let free : is_among (ids ++ dropped) id ≡ false = subst (λ (i : ℕ). is_among (ids ++ dropped) i ≡ false) e.2 (left-has (ids ++ dropped) es e.0 e.1).1 in
     let has : is_among (ids ++ dropped) id ≡ true = list_any-append (λ (x : ℕ). x == id) ids dropped ∙ ap (λ (b : Bool). is_among ids id || b) (has-id dropped id gone) ∙ or-true (is_among ids id) in
     false≢true (sym free ∙ has)
+
+-- ---- whether one of some ids is among others
+
+among-has : (ids : List ℕ) (id : ℕ) → is_among ids id ≡ true → Contains ids id
+among-has [] id is = absurd (false≢true is)
+among-has (x ∷ xs) id is = by (x == id) refl is (among-has xs id)
+  where
+    by : (b : Bool) → (x == id) ≡ b → (b || is_among xs id) ≡ true → (is_among xs id ≡ true → Contains xs id) → Contains (x ∷ xs) id
+    by true same among rest = subst (Contains (x ∷ xs)) (eqb-true x id same) (at_front x xs)
+    by false same among rest = behind x xs id (rest among)
+
+pub none-of : (ids others : List ℕ) → list_any (is_among others) ids ≡ false → AreFree ids others
+none-of ids others none = λ id is has. false≢true (sym none ∙ list_any_at (is_among others) ids has.0 id has.1 (ap (is_among others) has.2 ∙ has-id others id is))
+
+pub one-of : (ids others : List ℕ) → list_any (is_among others) ids ≡ true → HaveOneOf ids others
+one-of [] others is = absurd (false≢true is)
+one-of (x ∷ ids) others is = by (is_among others x) refl is (one-of ids others)
+  where
+    by : (b : Bool) → is_among others x ≡ b → (b || list_any (is_among others) ids) ≡ true → (list_any (is_among others) ids ≡ true → HaveOneOf ids others) → HaveOneOf (x ∷ ids) others
+    by true among any rest = (x, at_front x ids, among-has others x among)
+    by false among any rest = (let of = rest any in (of.0, behind x ids of.0 of.1, of.2))

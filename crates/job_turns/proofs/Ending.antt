@@ -1,5 +1,5 @@
 -- A job that is closed, over a state's files.
-use Rattle.std.proofs.Common.{◌≡◌, refl, sym, ap, ◌∙◌, subst, ℕ, ◌+◌, ◌-◌, ◌^◌, ◌≤◌, min, Bool, List, [], map, Some, Ok, IsTrue, arith}
+use Rattle.std.proofs.Common.{◌≡◌, refl, sym, ap, ◌∙◌, subst, ◌+◌, ◌-◌, ◌^◌, ◌≤◌, min, Bool, List, [], map, Some, Ok, IsTrue, arith}
 use Rattle.outside_traits.specs.View.{View, Counts}
 use Rattle.kept_files.specs.declared.refusal.ReadRefusal.{ReadRefusal}
 use Rattle.kept_files.specs.declared.refusal.ReadRefusal.TheVariants as reading
@@ -42,18 +42,15 @@ use Rattle.work_run.proofs.Ended.{are-sound, same-rows}
 use Rattle.work_run.proofs.MadeResults.{mades-at, new-files}
 use Rattle.work_run.proofs.Rooted.{IsRooted, open_cuts, open_plan, open_root, within-kept}
 use Rattle.work_run.proofs.Worked.{Laws}
-use Rattle.work_turns.specs.Ends.{free_of, those_among}
+use Rattle.work_turns.specs.Ends.{those_among}
 use Rattle.work_turns.proofs.Dropped.{without-those}
 use Rattle.job_turns.specs.Ends.{ComesAtLast, IsReadFor, WorksAtLast}
 use Rattle.job_turns.specs.Turns.{Halts, Reads}
 use Rattle.job_turns.specs.declared.job.JobWork.{JobWork}
 
-module _ (laws : Laws) (s : State) (valid : IsValid s) (is_table : IsTable (table s)) (held : List ℕ) (plan : PlainPlan) (job : JobWork) (is_open : IsOpen (table s) plan job.work) (form_is : is_open.normal ≡ job.normal.plan) where
+module _ (laws : Laws) (s : State) (valid : IsValid s) (is_table : IsTable (table s)) (plan : PlainPlan) (job : JobWork) (is_open : IsOpen (table s) plan job.work) (form_is : is_open.normal ≡ job.normal.plan) where
   abbrev r : PlainRewriting
   r = opened_rewriting job.work
-
-  abbrev dropped : List ℕ
-  dropped = free_of held job.noted.items
 
   root : IsRooted (table s) plan r
   root = open_root (table s) plan job.work is_open
@@ -69,17 +66,17 @@ module _ (laws : Laws) (s : State) (valid : IsValid s) (is_table : IsTable (tabl
 
   pub comes-at-last : (outcome : Outcome) → Finishes (extents_in s.streams) (results_in s) r (Ok outcome) → AreKeptFrom r outcome.made.items → (work : Work) → work.rows ≡ outcome.rows → work.used.items ≡ job.work.used.items
       → work.read ≡ capped (job.before + job.work.read)
-      → IsWorkPlan (table s) (Some job.work.program) work.used.items (those_among dropped s.entries) (map made_of outcome.made.items) work.plan → ComesAtLast held s plan job work
+      → IsWorkPlan (table s) (Some job.work.program) work.used.items (those_among job.noted.items s.entries) (map made_of outcome.made.items) work.plan → ComesAtLast s plan job work
   comes-at-last outcome finishes kept work rows used read recorded =
       let is = finishes.sound (are-sound s valid is_table entries plan r root.serves root.fit) in
       let low = within-kept (made_places (plan_at r) (cuts_at r) r) outcome.made.items kept in
       let made = mades-at laws.shaped s valid is_table (made_places (plan_at r) (cuts_at r) r) outcome.made.items (laws.places (states_of s.streams) (plan_at r) (cuts_at r) r root.fit) low is.made in
-      let admits = subst (λ (es : List PlainEntry). Admits es s.next_file [] (map made_of outcome.made.items) recorded.admitted) (without-those dropped s.entries) recorded.admits in
+      let admits = subst (λ (es : List PlainEntry). Admits es s.next_file [] (map made_of outcome.made.items) recorded.admitted) (without-those job.noted.items s.entries) recorded.admits in
       let news = entries_of recorded.admitted in
       let whole : job.work.read ≡ min (bytes_named (table s) (files_of r)) (2 ^ 64 - 1) = is_open.read in
       let sum : work.read ≡ min (job.before + job.work.read) (2 ^ 64 - 1) = read in
-      let new : State = with_work s (Some job.work.program) work.used.items (those_among dropped s.entries) news in
-      let works : WorksAtLast held job.noted.items job.before s (Some job.work.program) plan (plan_at r) (cuts_at r) r (given_of work) new =
+      let new : State = with_work s (Some job.work.program) work.used.items (those_among job.noted.items s.entries) news in
+      let works : WorksAtLast job.noted.items job.before s (Some job.work.program) plan (plan_at r) (cuts_at r) r (given_of work) new =
       record {
         rows = sym (same-rows s valid is_table entries plan r meaning same_leaves root.are_cuts) ∙ is.rows ∙ ap (λ rs. Ok rs.items) (sym rows);
         within = is.within;
@@ -91,11 +88,11 @@ module _ (laws : Laws) (s : State) (valid : IsValid s) (is_table : IsTable (tabl
       } in
       record {
         news = news;
-        works = subst (λ (q : PlainPlan). WorksAtLast held job.noted.items job.before s (Some job.work.program) plan q job.work.program.cuts r (given_of work) new) (open_plan (table s) plan job.work is_open ∙ form_is)
-            (subst (λ (c : Cuts). WorksAtLast held job.noted.items job.before s (Some job.work.program) plan (plan_at r) c r (given_of work) new) (open_cuts (table s) plan job.work is_open) works);
+        works = subst (λ (q : PlainPlan). WorksAtLast job.noted.items job.before s (Some job.work.program) plan q job.work.program.cuts r (given_of work) new) (open_plan (table s) plan job.work is_open ∙ form_is)
+            (subst (λ (c : Cuts). WorksAtLast job.noted.items job.before s (Some job.work.program) plan (plan_at r) c r (given_of work) new) (open_cuts (table s) plan job.work is_open) works);
         change_is = recorded.change;
         files = subst (AreNewFiles s.streams news) (sym recorded.files)
-            (new-files s.streams (without dropped s.entries) s.next_file (made_places (plan_at r) (cuts_at r) r) (map made_of outcome.made.items) recorded.admitted made admits);
+            (new-files s.streams (without job.noted.items s.entries) s.next_file (made_places (plan_at r) (cuts_at r) r) (map made_of outcome.made.items) recorded.admitted made admits);
       }
 
 -- ---- why it isn't closed

@@ -1,5 +1,5 @@
 -- What is read of a job's files, one after another.
-use Rattle.std.proofs.Common.{◌≡◌, ◌⊎◌, refl, sym, ap, ◌∙◌, subst, inr, ℕ, ◌+◌, ◌<◌, ◌≤◌, Bool, true, false, List, [], ◌∷◌, length, Option, None, Some, is_some, IsTrue, arith}
+use Rattle.std.proofs.Common.{◌≡◌, ◌⊎◌, refl, sym, ap, ◌∙◌, subst, inr, ℕ, ◌+◌, ◌<◌, ◌≤◌, Bool, true, List, ◌∷◌, length, Option, None, Some, is_some, IsTrue, arith}
 use Rattle.outside_traits.specs.View.{View, Counts}
 use Rattle.kept_files.specs.Reads.{HasCause}
 use Rattle.kept_files.specs.declared.refusal.ReadRefusal.{ReadRefusal}
@@ -116,7 +116,3 @@ module _ (t : Table) (old new : JobWork) where
   pub fewer-left : (end : Option ℕ) → is_some end ≡ true → IsTurnEnd t old new end → length (without new.noted.items t.entries) < length (without old.noted.items t.entries)
   fewer-left None some end = absurd (cc)
   fewer-left (Some id) some (there, noted) = subst (λ (ids : List ℕ). length (without ids t.entries) < length (without old.noted.items t.entries)) (sym noted) (fewer old.noted.items id t.entries there)
-
-  pub last-left : (end : Option ℕ) → is_some end ≡ false → IsTurnEnd t old new end → files_left new.work ≡ []
-  last-left None none end = end
-  last-left (Some id) none end = absurd (cc)

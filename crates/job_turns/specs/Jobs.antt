@@ -1,5 +1,6 @@
 -- The work of a job: the kept results that are left out of its rewriting, and the bytes that count of it.
-use Rattle.std.specs.Prelude.{◌≡◌, ℕ, ◌+◌, ◌-◌, ◌++◌, List, [], IsOk}
+use Rattle.std.specs.Prelude.{◌≡◌, ℕ, ◌+◌, ◌-◌, ◌++◌, List, [], Option, None, Some, IsOk}
+use Rattle.std.specs.List.{Contains}
 use Rattle.plan_core.specs.PlainPlan.{PlainPlan, leaves}
 use Rattle.plan_core.specs.PlanTyping.{plan_typing}
 use Rattle.plan_canon.specs.Normal.{IsNormalFormOf}
@@ -64,3 +65,14 @@ pub record IsChosenAgain (t : Table) (plan : PlainPlan) (dropped : List ℕ) (ol
   pub fresh : IsFresh t (old.noted.items ++ dropped) plan old.normal.plan old.work.program new.work
   pub spared : AreFree new.work.used.items dropped
   pub before : new.before ≡ capped (old.before + bytes_read t old.work)
+
+-- one of these ids is among the others
+abbrev pub HaveOneOf : List ℕ → List ℕ → Type 0
+HaveOneOf ids others = (id : ℕ) × Contains ids id × Contains others id
+
+-- What comes of a job where these kept results are dropped: it stays where its rewriting reads none of them, and is chosen again where
+-- it reads one.
+abbrev pub IsNextWithout : Table → List ℕ → JobWork → Option JobWork → Type 0
+IsNextWithout t dropped job None = AreFree job.work.used.items dropped
+IsNextWithout t dropped job (Some next) =
+    HaveOneOf job.work.used.items dropped × ((plan : PlainPlan) → IsJob t plan job → IsChosenAgain t plan dropped job next × IsJob t plan next)

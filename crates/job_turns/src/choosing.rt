@@ -1,14 +1,16 @@
 //! Choosing a job's rewriting.
 ghost use Rattle.std.specs.Prelude.{◌≡◌, ◌++◌, ◌∷◌, [], ℕ, List, IfOk, OnOk, OnErr};
+ghost use Rattle.std.specs.List.{list_any};
 ghost use Rattle.plan_core.specs.PlainPlan.{PlainPlan};
 ghost use Rattle.catalog_core.specs.Catalogs.{table_of};
 ghost use Rattle.catalog_core.specs.IsTable.{IsTable};
 ghost use Rattle.catalog_core.specs.Programs.{IsProgram, kinds_of_streams};
+ghost use Rattle.entry_table.specs.Ids.{is_among};
 ghost use Rattle.rewrite_core.specs.PlainRewriting.{rewriting_of};
 ghost use Rattle.rewriting_pieces.specs.Pieces.{HasTyping};
 ghost use Rattle.work_run.specs.Opened.{opened_rewriting};
 ghost use Rattle.work_turns.specs.Turns.{IsChosenOf};
-ghost use Rattle.job_turns.specs.Jobs.{Suits, IsJob, IsFresh, IsOpened, IsChosenAgain};
+ghost use Rattle.job_turns.specs.Jobs.{Suits, IsJob, IsFresh, IsOpened, IsChosenAgain, IsNextWithout};
 ghost use Rattle.job_turns.specs.Steps.{Notes};
 
 use crate::job::JobWork;
@@ -53,9 +55,26 @@ pub fn open_job(
 }
 
 impl JobWork {
-    /// The same job beside this one, where these kept results are dropped: a least rewriting is taken over the
-    /// others but the noted ones, and none of its files is read. The bytes of the files that were read are counted.
-    pub fn chosen_again(
+    /// What comes of the job where these kept results are dropped. It is `None` where its rewriting reads none of
+    /// them: then the job stays. Where it reads one it is the same job by a least rewriting over the others but
+    /// the noted ones, of which no file is read; the bytes of the files that were read are counted.
+    pub fn next_without(
+        &self,
+        alloc: Global,
+        catalog: &Catalog,
+        dropped: &[u32],
+    ) -> Result<Option<JobWork>, Memory>
+        requires { (plan : PlainPlan) × IsJob (table_of catalog.now) plan self.now }
+        ensures { IfOk result (IsNextWithout (table_of catalog.now) dropped.now self.now) }
+    {
+        if !has_one_of(&self.work.used, dropped) {
+            return Ok(None);
+        }
+        Ok(Some(self.chosen_again(alloc, catalog, dropped)?))
+    }
+
+    // The same job by another rewriting.
+    fn chosen_again(
         &self,
         alloc: Global,
         catalog: &Catalog,
@@ -173,6 +192,13 @@ fn typed_copy(alloc: Global, catalog: &Catalog, typed: &Typed) -> Result<Typed, 
         Err(PlanRefusal::Memory) => Err(Memory),
         Err(_) => unreachable!(),
     }
+}
+
+// Whether one of these ids is among the others.
+fn has_one_of(ids: &[u32], others: &[u32]) -> bool
+    ensures { result ≡ list_any (is_among others.now) ids.now }
+{
+    ids.iter().any(|id| others.contains(id))
 }
 
 // The ids of both lists.

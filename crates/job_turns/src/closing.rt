@@ -15,7 +15,7 @@ ghost use Rattle.folder.specs.State.{State, IsValid, table};
 ghost use Rattle.work_plan.specs.Planning.{IsWorkPlan};
 ghost use Rattle.work_run.specs.Ends.{HaveFewValues, IsRefusedWork};
 ghost use Rattle.work_run.specs.Opened.{HasRead, files_left};
-ghost use Rattle.work_turns.specs.Ends.{files_among, free_of, those_among};
+ghost use Rattle.work_turns.specs.Ends.{files_among, those_among};
 ghost use Rattle.job_turns.specs.Ends.{ComesAtLast, IsReadFor};
 ghost use Rattle.job_turns.specs.Jobs.{IsJob};
 ghost use Rattle.job_turns.specs.Turns.{Reads, Halts};
@@ -34,17 +34,16 @@ use work_plan::places_of_fit_plans;
 use work_turns::{LastTurn, Turn, WorkInTurns, work_of_turns};
 
 impl JobWork {
-    /// Reads the files that are left, where results may be noted, and makes the rows of the plan and what is recorded;
-    /// nothing is written. The noted results are dropped by what is recorded, but those with these ids, which are
-    /// held by others; the files of those that are dropped are told. The job stays, with the files that were read whole read and the results that were noted noted,
-    /// so that it can be closed anew after a refusal. The refusals are those of running work; `Damaged` and
-    /// `Unreadable` come for extents alone.
+    /// Reads the files that are left, where results may be noted, and makes the rows of the plan and what is
+    /// recorded; nothing is written. The noted results that are still there are dropped by what is recorded. The
+    /// job stays, with the files that were read whole read and the results that were noted noted, so that it can
+    /// be closed anew after a refusal. The refusals are those of running work; `Damaged` and `Unreadable` come for
+    /// extents alone.
     pub fn close<D: Store>(
         &mut self,
         alloc: Global,
         store: &mut D,
         catalog: &Catalog,
-        held: &[u32],
     ) -> Result<WorkInTurns, RunRefusal>
         requires job { (plan : PlainPlan) × IsJob (table_of catalog.now) plan self.old }
         requires program { FitsProgram (Some self.old.work.program) (table_of catalog.now) }
@@ -63,14 +62,16 @@ impl JobWork {
         ensures ok { IsTrue D.tells → (care : Care) (s : State) (plan : PlainPlan)
             → IsLeft care (D.view store.old) s s → table_of catalog.now ≡ table s → HasRead s self.old.work
             → IsJob (table_of catalog.now) plan self.old
-            → IfOk result (λ done. ComesAtLast held.now s plan self.new done.work) }
+            → IfOk result (λ done. ComesAtLast s plan self.new done.work) }
         // On every store what is recorded fits the table, the rows have few values, and few results are used.
         ensures recorded { IfOk result (λ done. (mades : List MadeResult) × IsWorkPlan (table_of catalog.now)
             (Some self.old.work.program) done.work.used.items
-            (those_among (free_of held.now self.new.noted.items) (table_of catalog.now).entries) mades
+            (those_among self.new.noted.items (table_of catalog.now).entries) mades
             done.work.plan) }
+        ensures dropped { IfOk result (λ done. done.dropped.items
+            ≡ those_among self.new.noted.items (table_of catalog.now).entries) }
         ensures gone { IfOk result (λ done. done.gone.items ≡ files_among
-            (those_among (free_of held.now self.new.noted.items) (table_of catalog.now).entries)
+            (those_among self.new.noted.items (table_of catalog.now).entries)
             (table_of catalog.now).entries) }
         ensures narrow { IfOk result
             (λ done. HaveFewValues done.work.rows.items × (length done.work.used.items ≤ 4096)) }
@@ -78,33 +79,30 @@ impl JobWork {
         ensures counts { MayRaiseReads (D.counts store.old) (D.counts store.new) }
     {
         self.read_rest(alloc, store, catalog)?;
-        Ok(self.ended(alloc, catalog, held)?)
+        Ok(self.ended(alloc, catalog)?)
     }
 
     // The rows and what is recorded, of a job of which no file is left. It stays.
-    fn ended(
-        &self,
-        alloc: Global,
-        catalog: &Catalog,
-        held: &[u32],
-    ) -> Result<WorkInTurns, MakeRefusal>
+    fn ended(&self, alloc: Global, catalog: &Catalog) -> Result<WorkInTurns, MakeRefusal>
         requires left { files_left self.now.work ≡ [] }
         requires job { (plan : PlainPlan) × IsJob (table_of catalog.now) plan self.now }
         requires program { FitsProgram (Some self.now.work.program) (table_of catalog.now) }
         requires counted { (table_of catalog.now).tick < most_ticks }
         ensures ok { (s : State) (plan : PlainPlan) → IsValid s → table_of catalog.now ≡ table s
             → HasRead s self.now.work → IsJob (table_of catalog.now) plan self.now
-            → IfOk result (λ done. ComesAtLast held.now s plan self.now done.work) }
+            → IfOk result (λ done. ComesAtLast s plan self.now done.work) }
         ensures err { (care : Care) (s : State) (plan : PlainPlan) → IsValid s
             → table_of catalog.now ≡ table s → HasRead s self.now.work
             → IsJob (table_of catalog.now) plan self.now
             → IfErr result (λ why. IsRefusedWork care s plan self.now.work.program.cuts (of_making why)) }
         ensures recorded { IfOk result (λ done. (mades : List MadeResult) × IsWorkPlan (table_of catalog.now)
             (Some self.now.work.program) done.work.used.items
-            (those_among (free_of held.now self.now.noted.items) (table_of catalog.now).entries) mades
+            (those_among self.now.noted.items (table_of catalog.now).entries) mades
             done.work.plan) }
+        ensures dropped { IfOk result (λ done. done.dropped.items
+            ≡ those_among self.now.noted.items (table_of catalog.now).entries) }
         ensures gone { IfOk result (λ done. done.gone.items ≡ files_among
-            (those_among (free_of held.now self.now.noted.items) (table_of catalog.now).entries)
+            (those_among self.now.noted.items (table_of catalog.now).entries)
             (table_of catalog.now).entries) }
         ensures narrow { IfOk result
             (λ done. HaveFewValues done.work.rows.items × (length done.work.used.items ≤ 4096)) }
@@ -119,7 +117,7 @@ impl JobWork {
         let outcome = finish(alloc, &self.work.job)?;
         let program = self.work.program.try_copy(alloc)?;
         let last = self.last_turn(alloc, outcome)?;
-        Ok(work_of_turns(alloc, catalog, Some(program), last, held)?)
+        Ok(work_of_turns(alloc, catalog, Some(program), last)?)
     }
 
     // The last turn, of which this is the outcome.

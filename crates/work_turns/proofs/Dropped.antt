@@ -8,7 +8,7 @@ use Rattle.std.proofs.lemmas.Map.Views.{any-filter_same}
 use Rattle.catalog_types.specs.PlainEntry.{PlainEntry}
 use Rattle.entry_table.specs.Ids.{AreIdsOf, ids_of, ascend_above, are_apart, is_among, is_there, without}
 use Rattle.entry_table.proofs.Places.{both}
-use Rattle.work_turns.specs.Ends.{entries_among, free_of, those_among}
+use Rattle.work_turns.specs.Ends.{entries_among, those_among}
 
 no-and : (b : Bool) → b && false ≡ false
 no-and true = refl
@@ -137,32 +137,17 @@ all-left-there ids es (id ∷ used) there =
 pub are-among-all : (ids : List ℕ) (es : List PlainEntry) (used : List ℕ) → AreIdsOf (without ids es) used → AreIdsOf es used
 are-among-all ids es used is = record { ascend = is.ascend; there = all-left-there ids es used is.there }
 
-apart : (ids gone : List ℕ) (es : List PlainEntry) → ((id : ℕ) → is_among ids id ≡ false → is_among gone id ≡ false) → (used : List ℕ) → list_all (is_there (without ids es)) used ≡ true → are_apart used (those_among gone es) ≡ true
-apart ids gone es fewer [] there = refl
-apart ids gone es fewer (id ∷ used) there =
+apart : (ids : List ℕ) (es : List PlainEntry) (used : List ℕ) → list_all (is_there (without ids es)) used ≡ true → are_apart used (those_among ids es) ≡ true
+apart ids es [] there = refl
+apart ids es (id ∷ used) there =
     let parts = both (is_there (without ids es) id) (list_all (is_there (without ids es)) used) there in
-    let isnt : is_among gone id ≡ false = fewer id (none (is_among ids id) (left-there ids es id parts.0).0) in
-    both-true (not (is_among (those_among gone es) id)) (are_apart used (those_among gone es))
-    (ap not (among-those gone es id ∙ ap (λ b. b && is_there es id) isnt)) (apart ids gone es fewer used parts.1)
+    let isnt : is_among ids id ≡ false = none (is_among ids id) (left-there ids es id parts.0).0 in
+    both-true (not (is_among (those_among ids es) id)) (are_apart used (those_among ids es))
+    (ap not (among-those ids es id ∙ ap (λ b. b && is_there es id) isnt)) (apart ids es used parts.1)
   where
     none : (b : Bool) → not b ≡ true → b ≡ false
     none true e = absurd (cc)
     none false e = refl
 
--- ---- of those that aren't held
-
-pub among-free : (held ids : List ℕ) (id : ℕ) → is_among (free_of held ids) id ≡ (is_among ids id && not (is_among held id))
-among-free held [] id = refl
-among-free held (x ∷ ids) id = by (not (is_among held x)) (x == id) refl refl (among-free held ids id)
-  where
-    by : (b c : Bool) → not (is_among held x) ≡ b → (x == id) ≡ c → is_among (free_of held ids) id ≡ (is_among ids id && not (is_among held id))
-        → is_among (cond b (x ∷ free_of held ids) (free_of held ids)) id ≡ ((c || is_among ids id) && not (is_among held id))
-    by true true free same rest = ap (λ b. b || is_among (free_of held ids) id) same ∙ sym free ∙ ap (λ i. not (is_among held i)) (eqb-true x id same)
-    by true false free same rest = ap (λ b. b || is_among (free_of held ids) id) same ∙ rest
-    by false true free same rest =
-        let isnt : not (is_among held id) ≡ false = ap (λ i. not (is_among held i)) (sym (eqb-true x id same)) ∙ free in
-        rest ∙ ap (λ b. is_among ids id && b) isnt ∙ no-and (is_among ids id) ∙ sym isnt
-    by false false free same rest = rest
-
-pub are-apart : (held ids : List ℕ) (es : List PlainEntry) (used : List ℕ) → AreIdsOf (without ids es) used → are_apart used (those_among (free_of held ids) es) ≡ true
-are-apart held ids es used is = apart ids (free_of held ids) es (λ id isnt. among-free held ids id ∙ ap (λ b. b && not (is_among held id)) isnt) used is.there
+pub are-apart : (ids : List ℕ) (es : List PlainEntry) (used : List ℕ) → AreIdsOf (without ids es) used → are_apart used (those_among ids es) ≡ true
+are-apart ids es used is = apart ids es used is.there

@@ -34,14 +34,14 @@ use Rattle.work_run.proofs.Ended.{are-sound, same-rows}
 use Rattle.work_run.proofs.MadeResults.{mades-at, new-files}
 use Rattle.work_run.proofs.Rooted.{IsRooted, TakenServe, rooted, same_cuts, same_plan, within-kept}
 use Rattle.work_run.proofs.Worked.{Laws}
-use Rattle.work_turns.specs.Ends.{ComesInTurns, free_of, those_among}
+use Rattle.work_turns.specs.Ends.{ComesInTurns, those_among}
 use Rattle.work_turns.specs.Turns.{HaveEnded, IsChosenOf, IsLastTurn, IsLost}
 use Rattle.work_turns.specs.declared.turns.LastTurn.{LastTurn}
 use Rattle.work_turns.proofs.Dropped.{without-those}
 use Rattle.work_turns.proofs.LeftOut.{LeftServe}
 
 module _ (laws : Laws) (care : Care) (s : State) (valid : IsValid s) (is_table : IsTable (table s)) (plan : PlainPlan) (r : PlainRewriting) (root : IsRooted (table s) plan r)
-    (held lost : List ℕ) (bytes : ℕ) (ended : HaveEnded (table s) plan (plan_at r) (cuts_at r) [] lost bytes) (shown : AllByRecursion (IsLost care s) lost)
+    (lost : List ℕ) (bytes : ℕ) (ended : HaveEnded (table s) plan (plan_at r) (cuts_at r) [] lost bytes) (shown : AllByRecursion (IsLost care s) lost)
     (taken : IsTaken (tables.leaving_out lost (table s)) plan (plan_at r) (cuts_at r) r) where
   entries : AreSoundEntries (asked [] s.entries)
   entries = laws.entries (table s) [] is_table
@@ -54,15 +54,14 @@ module _ (laws : Laws) (care : Care) (s : State) (valid : IsValid s) (is_table :
 
   pub worked-in-turns : (outcome : Outcome) → Finishes (extents_in s.streams) (results_in s) r (Ok outcome) → AllByRecursion (IsKeptFrom (made_places (plan_at r) (cuts_at r) r)) outcome.made.items
       → (program : Option Program) (work : Work) → work.rows ≡ outcome.rows → AreIdsOf (files_of r) work.used.items → work.read ≡ capped (bytes + bytes_named (table s) (files_of r))
-      → IsWorkPlan (table s) program work.used.items (those_among (free_of held lost) s.entries) (map made_of outcome.made.items) work.plan → ComesInTurns care held s program plan (plan_at r) (cuts_at r) work
+      → IsWorkPlan (table s) program work.used.items (those_among lost s.entries) (map made_of outcome.made.items) work.plan → ComesInTurns care s program plan (plan_at r) (cuts_at r) work
   worked-in-turns outcome finishes kept program work rows used read recorded =
       let is = finishes.sound (are-sound s valid is_table entries plan r root.serves root.fit) in
       let low = within-kept (made_places (plan_at r) (cuts_at r) r) outcome.made.items kept in
       let made = mades-at laws.shaped s valid is_table (made_places (plan_at r) (cuts_at r) r) outcome.made.items (laws.places (states_of s.streams) (plan_at r) (cuts_at r) r root.fit) low is.made in
-      let gone = free_of held lost in
-      let admits = subst (λ (es : List PlainEntry). Admits es s.next_file [] (map made_of outcome.made.items) recorded.admitted) (without-those gone s.entries) recorded.admits in
+      let admits = subst (λ (es : List PlainEntry). Admits es s.next_file [] (map made_of outcome.made.items) recorded.admitted) (without-those lost s.entries) recorded.admits in
       record {
-        dropped = those_among gone s.entries;
+        dropped = those_among lost s.entries;
         news = entries_of recorded.admitted;
         works = record {
           lost = lost;
@@ -81,7 +80,7 @@ module _ (laws : Laws) (care : Care) (s : State) (valid : IsValid s) (is_table :
         };
         change_is = recorded.change;
         files = subst (AreNewFiles s.streams (entries_of recorded.admitted)) (sym recorded.files)
-            (new-files s.streams (without gone s.entries) s.next_file (made_places (plan_at r) (cuts_at r) r) (map made_of outcome.made.items) recorded.admitted made admits);
+            (new-files s.streams (without lost s.entries) s.next_file (made_places (plan_at r) (cuts_at r) r) (map made_of outcome.made.items) recorded.admitted made admits);
       }
 
 -- of the choice of the first turn
@@ -102,12 +101,12 @@ module _ (laws : Laws) (serve : TakenServe) (more : LeftServe) (care : Care) (s 
   cuts_same : cuts_at of ≡ cuts
   cuts_same = same_cuts (table s) plan form cuts of serves
 
-  pub comes-in-turns : (held : List ℕ) (program : Option Program) (work : Work) → work.rows ≡ last.turn.outcome.rows → work.used ≡ last.turn.used → work.read ≡ last.read
-      → IsWorkPlan (table s) program work.used.items (those_among (free_of held last.lost.items) s.entries) (map made_of last.turn.outcome.made.items) work.plan → ComesInTurns care held s program plan form cuts work
-  comes-in-turns held program work rows used read recorded =
-      subst (λ (q : PlainPlan). ComesInTurns care held s program plan q cuts work) plan_same
-      (subst (λ (x : Cuts). ComesInTurns care held s program plan (plan_at of) x work) cuts_same
-      (worked-in-turns laws care s valid is_table plan of root_is held last.lost.items is.bytes
+  pub comes-in-turns : (program : Option Program) (work : Work) → work.rows ≡ last.turn.outcome.rows → work.used ≡ last.turn.used → work.read ≡ last.read
+      → IsWorkPlan (table s) program work.used.items (those_among last.lost.items s.entries) (map made_of last.turn.outcome.made.items) work.plan → ComesInTurns care s program plan form cuts work
+  comes-in-turns program work rows used read recorded =
+      subst (λ (q : PlainPlan). ComesInTurns care s program plan q cuts work) plan_same
+      (subst (λ (x : Cuts). ComesInTurns care s program plan (plan_at of) x work) cuts_same
+      (worked-in-turns laws care s valid is_table plan of root_is last.lost.items is.bytes
       (subst (λ (x : Cuts). HaveEnded (table s) plan (plan_at of) x [] last.lost.items is.bytes) (sym cuts_same)
       (subst (λ (q : PlainPlan). HaveEnded (table s) plan q cuts [] last.lost.items is.bytes) (sym plan_same) is.ended))
       is.lost

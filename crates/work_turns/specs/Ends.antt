@@ -1,5 +1,5 @@
 -- What work in turns comes to.
-use Rattle.std.specs.Prelude.{◌≡◌, ℕ, ◌+◌, ◌<◌, ◌≤◌, not, List, [], length, map, Option, Ok}
+use Rattle.std.specs.Prelude.{◌≡◌, ℕ, ◌+◌, ◌<◌, ◌≤◌, List, [], length, map, Option, Ok}
 use Rattle.std.specs.List.{AllByRecursion, filter}
 use Rattle.plan_core.specs.MachineTime.{machine_time}
 use Rattle.plan_core.specs.PlainPlan.{PlainPlan, plan_of}
@@ -39,10 +39,6 @@ those_among ids entries = kept.ids_of (entries_among ids entries)
 abbrev pub files_among : List ℕ → List PlainEntry → List ℕ
 files_among ids entries = map (λ e. e.file.file) (entries_among ids entries)
 
--- those of these ids that aren't held
-abbrev pub free_of : List ℕ → List ℕ → List ℕ
-free_of held ids = filter (λ id. not (kept.is_among held id)) ids
-
 -- the state without these kept results
 abbrev pub leaving_out : List ℕ → State → State
 leaving_out ids s = record {
@@ -64,8 +60,8 @@ pub record IsToldLast (t : Table) (last : LastTurn) : Type 0 where
 
 -- The rows are those of the plan as it is written, whatever is kept and whatever of it is damaged. Turns ended at the files of
 -- results that show damage; over the others a least rewriting was taken. The bytes of all turns are told. Those results are dropped,
--- but those that are held, and what the rewriting makes is kept as it would be without those that are dropped.
-pub record WorksInTurns (care : Care) (held : List ℕ) (s : State) (program : Option Program) (plan form : PlainPlan) (cuts : Cuts) (is : Given) (new : State) : Type 0 where
+-- and what the rewriting makes is kept as it would be without them.
+pub record WorksInTurns (care : Care) (s : State) (program : Option Program) (plan form : PlainPlan) (cuts : Cuts) (is : Given) (new : State) : Type 0 where
   pub lost : List ℕ
   pub bytes : ℕ
   pub ended : HaveEnded (table s) plan form cuts [] lost bytes
@@ -77,13 +73,13 @@ pub record WorksInTurns (care : Care) (held : List ℕ) (s : State) (program : O
   pub used : AreIdsOf (files_of rewriting) is.used
   pub read : is.read ≡ capped (bytes + bytes_named (table s) (files_of rewriting))
   pub news : List PlainNewEntry
-  pub keeps : Keeps (leaving_out (free_of held lost) s) form cuts rewriting news is.kept
-  pub after : new ≡ with_work s program is.used (those_among (free_of held lost) s.entries) news
+  pub keeps : Keeps (leaving_out lost s) form cuts rewriting news is.kept
+  pub after : new ≡ with_work s program is.used (those_among lost s.entries) news
 
 -- it gives what work in turns gives, and what it records is the work that drops these results and keeps these new ones
-pub record ComesInTurns (care : Care) (held : List ℕ) (s : State) (program : Option Program) (plan form : PlainPlan) (cuts : Cuts) (work : Work) : Type 0 where
+pub record ComesInTurns (care : Care) (s : State) (program : Option Program) (plan form : PlainPlan) (cuts : Cuts) (work : Work) : Type 0 where
   pub dropped : List ℕ
   pub news : List PlainNewEntry
-  pub works : WorksInTurns care held s program plan form cuts (given_of work) (with_work s program work.used.items dropped news)
+  pub works : WorksInTurns care s program plan form cuts (given_of work) (with_work s program work.used.items dropped news)
   pub change_is : work.plan.change ≡ change.Work program work.used.items dropped news
   pub files : AreNewFiles s.streams news work.plan.files.items

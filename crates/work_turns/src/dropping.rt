@@ -1,7 +1,7 @@
 //! The kept results that work drops.
 ghost use Rattle.std.specs.Prelude.{◌≡◌, IfOk};
 ghost use Rattle.entry_table.specs.Ids.{is_among};
-ghost use Rattle.work_turns.specs.Ends.{files_among, free_of, those_among};
+ghost use Rattle.work_turns.specs.Ends.{files_among, those_among};
 
 use catalog_types::Entry;
 use rows_core::Memory;
@@ -14,34 +14,26 @@ pub(crate) struct Dropped {
     pub files: Vec<u64>,
 }
 
-/// Those of the entries that were lost and aren't held, in the order of the entries.
+/// Those of the entries that were lost, in the order of the entries.
 pub(crate) fn dropped_results(
     alloc: Global,
     entries: &[Entry],
     lost: &[u32],
-    held: &[u32],
 ) -> Result<Dropped, Memory>
     ensures ids { IfOk result
-        (λ dropped. dropped.ids.items ≡ those_among (free_of held.now lost.now) entries.now) }
+        (λ dropped. dropped.ids.items ≡ those_among lost.now entries.now) }
     ensures files { IfOk result
-        (λ dropped. dropped.files.items ≡ files_among (free_of held.now lost.now) entries.now) }
+        (λ dropped. dropped.files.items ≡ files_among lost.now entries.now) }
 {
     let mut ids = Vec::new(alloc);
     let mut files = Vec::new(alloc);
     for entry in entries {
-        if is_dropped(lost, held, entry.id) {
+        if is_among(lost, entry.id) {
             ids.push(entry.id)?;
             files.push(entry.file.file)?;
         }
     }
     Ok(Dropped { ids, files })
-}
-
-// Whether it was lost and isn't held.
-fn is_dropped(lost: &[u32], held: &[u32], id: u32) -> bool
-    ensures { result ≡ is_among (free_of held.now lost.now) id }
-{
-    is_among(lost, id) && !is_among(held, id)
 }
 
 // Whether it is one of the ids.

@@ -4,7 +4,7 @@ use Rattle.catalog_types.specs.declared.program.Program.{Program}
 use Rattle.catalog_core.specs.Catalogs.{table_of}
 use Rattle.catalog_core.specs.Table.{FitsProgram}
 use Rattle.work_plan.specs.Planning.{IsWorkPlan}
-use Rattle.work_turns.specs.Ends.{free_of, those_among}
+use Rattle.work_turns.specs.Ends.{those_among}
 use Rattle.job_turns.proofs.Ending.{halts-made, made-for, read-for}
 use Rattle.job_turns.proofs.job.JobWork.close.Goals as goal
 
@@ -54,5 +54,5 @@ returns-clause-recorded g c =
     let made = c.in_ok-ended.ensures.recorded in
     let done = c.in_ok-ended.field-0 in (
       made.0,
-      subst (λ (p : Program). IsWorkPlan t (Some p) done.work.used.items (those_among (free_of c.args.held.now c.read_rest.new.self.noted.items) t.entries) made.0 done.work.plan) on.program made.1,
+      subst (λ (p : Program). IsWorkPlan t (Some p) done.work.used.items (those_among c.read_rest.new.self.noted.items t.entries) made.0 done.work.plan) on.program made.1,
     )

@@ -26,7 +26,7 @@ use Rattle.work_run.specs.Opened.{IsOpen, opened_rewriting}
 use Rattle.work_run.proofs.FewColumns.{few_in_rows}
 use Rattle.work_run.proofs.Rooted.{fit-kept, open_cuts, open_plan, open_root}
 use Rattle.work_run.proofs.Worked.{Laws, unmade}
-use Rattle.work_turns.specs.Ends.{files_among, free_of, those_among}
+use Rattle.work_turns.specs.Ends.{files_among, those_among}
 use Rattle.job_turns.proofs.Ending.{comes-at-last}
 use Rattle.job_turns.proofs.OpenJobs.{open-whole, same-form}
 use Rattle.job_turns.proofs.job.JobWork.ended.Goals as goal
@@ -132,10 +132,15 @@ returns-clause-recorded c =
     let of = c.in_ok-work_of_turns.ensures in
     let last = c.in_ok-last.ensures in (
       map made_of c.in_ok-outcome.outcome.made.items,
-      (subst (λ (p : Program). IsWorkPlan t (Some p) done.work.used.items (those_among (free_of c.args.held.now job.noted.items) t.entries) (map made_of c.in_ok-outcome.outcome.made.items) done.work.plan) c.in_ok-program.ensures
-          (subst (λ (o : Outcome). IsWorkPlan t (Some c.in_ok-program.program) done.work.used.items (those_among (free_of c.args.held.now job.noted.items) t.entries) (map made_of o.made.items) done.work.plan) last.outcome
-          (subst (λ (l : List ℕ). IsWorkPlan t (Some c.in_ok-program.program) done.work.used.items (those_among (free_of c.args.held.now l) t.entries) (map made_of c.in_ok-last.last.turn.outcome.made.items) done.work.plan) last.lost of.plan))),
+      (subst (λ (p : Program). IsWorkPlan t (Some p) done.work.used.items (those_among job.noted.items t.entries) (map made_of c.in_ok-outcome.outcome.made.items) done.work.plan) c.in_ok-program.ensures
+          (subst (λ (o : Outcome). IsWorkPlan t (Some c.in_ok-program.program) done.work.used.items (those_among job.noted.items t.entries) (map made_of o.made.items) done.work.plan) last.outcome
+          (subst (λ (l : List ℕ). IsWorkPlan t (Some c.in_ok-program.program) done.work.used.items (those_among l t.entries) (map made_of c.in_ok-last.last.turn.outcome.made.items) done.work.plan) last.lost of.plan))),
     )
+
+pub returns-clause-dropped : goal.returns-clause-dropped
+returns-clause-dropped c =
+    let t = table_of c.args.catalog.now in
+    c.in_ok-work_of_turns.ensures.dropped ∙ ap (λ (l : List ℕ). those_among l t.entries) c.in_ok-last.ensures.lost
 
 pub returns-clause-gone : goal.returns-clause-gone
 returns-clause-gone c =
@@ -144,7 +149,7 @@ returns-clause-gone c =
     let done = c.in_ok-work_of_turns.field-0 in
     let of = c.in_ok-work_of_turns.ensures in
     let last = c.in_ok-last.ensures in
-    of.gone ∙ ap (λ (l : List ℕ). files_among (those_among (free_of c.args.held.now l) t.entries) t.entries) last.lost
+    of.gone ∙ ap (λ (l : List ℕ). files_among (those_among l t.entries) t.entries) last.lost
 
 -- ---- what it comes to
 
@@ -168,14 +173,14 @@ returns-clause-ok c =
     let of = c.in_ok-work_of_turns.ensures in
     let last = c.in_ok-last.ensures in
     let here = subst (λ (x : Table). IsOpen x plan job.work) means whole in
-    comes-at-last laws s valid (subst IsTable means c.know_table.ensures) c.args.held.now plan job here (same-form (leaving_out job.noted.items t) (table s) plan job.work job.work refl is.is_open here ∙ is.form_is) c.in_ok-outcome.outcome
+    comes-at-last laws s valid (subst IsTable means c.know_table.ensures) plan job here (same-form (leaving_out job.noted.items t) (table s) plan job.work job.work refl is.is_open here ∙ is.form_is) c.in_ok-outcome.outcome
     (c.in_ok-outcome.ensures.finishes (kinds_of_streams t.streams) (extents_in s.streams) (results_in s) (record {
       are = whole.parts;
       cuts = c.serving_rewritings.ensures.length t plan (plan_at r) (cuts_at r) r root.serves root.are_cuts;
       read = subst (λ (x : Table). HaveRead (kinds_of_streams x.streams) (extents_in s.streams) (results_in s) (pieces_of r) job.work.job.parts.items) (sym means) has;
     })) c.in_ok-outcome.ensures.places done.work (of.rows ∙ ap (λ (o : Outcome). o.rows) last.outcome)
     (ap (λ u. u.items) of.used ∙ last.used) (of.read ∙ last.read)
-    (subst (λ (x : Table). IsWorkPlan x (Some job.work.program) done.work.used.items (those_among (free_of c.args.held.now job.noted.items) x.entries) (map made_of c.in_ok-outcome.outcome.made.items) done.work.plan) means
-    (subst (λ (p : Program). IsWorkPlan t (Some p) done.work.used.items (those_among (free_of c.args.held.now job.noted.items) t.entries) (map made_of c.in_ok-outcome.outcome.made.items) done.work.plan) c.in_ok-program.ensures
-    (subst (λ (o : Outcome). IsWorkPlan t (Some c.in_ok-program.program) done.work.used.items (those_among (free_of c.args.held.now job.noted.items) t.entries) (map made_of o.made.items) done.work.plan) last.outcome
-    (subst (λ (l : List ℕ). IsWorkPlan t (Some c.in_ok-program.program) done.work.used.items (those_among (free_of c.args.held.now l) t.entries) (map made_of c.in_ok-last.last.turn.outcome.made.items) done.work.plan) last.lost of.plan))))
+    (subst (λ (x : Table). IsWorkPlan x (Some job.work.program) done.work.used.items (those_among job.noted.items x.entries) (map made_of c.in_ok-outcome.outcome.made.items) done.work.plan) means
+    (subst (λ (p : Program). IsWorkPlan t (Some p) done.work.used.items (those_among job.noted.items t.entries) (map made_of c.in_ok-outcome.outcome.made.items) done.work.plan) c.in_ok-program.ensures
+    (subst (λ (o : Outcome). IsWorkPlan t (Some c.in_ok-program.program) done.work.used.items (those_among job.noted.items t.entries) (map made_of o.made.items) done.work.plan) last.outcome
+    (subst (λ (l : List ℕ). IsWorkPlan t (Some c.in_ok-program.program) done.work.used.items (those_among l t.entries) (map made_of c.in_ok-last.last.turn.outcome.made.items) done.work.plan) last.lost of.plan))))
