@@ -67,14 +67,3 @@ own_planned t target typed cuts is = subst (λ (x : Target). IsPlanned t x typed
 pub typed_there : (t u : Table) → t ≡ u → (target : Target) (typed : TypedPlan) (cuts given : Cuts) → given ≡ cuts → IsTypedAt t target typed cuts → IsTypedAt u target typed given
 typed_there t u same target typed cuts given is typed_at =
     subst (λ (x : Table). IsTypedAt x target typed given) same (subst (λ (c : Cuts). IsTypedAt t target typed c) (sym is) typed_at)
-
--- what is chosen there is chosen here
-pub chosen_at : (t u : Table) → u ≡ t → (target : Target) (typed : TypedPlan) (cuts given : Cuts) → given ≡ cuts → (choice : Choice) → IsTypedAt t target typed cuts
-    → ((other : Target) → IsTypedAt u other typed given → IsChosen u other.plan given choice) → IsChosen t target.plan cuts choice
-chosen_at t u same target typed cuts given is choice typed_at chosen =
-    subst (λ (x : Table). IsChosen x target.plan cuts choice) same
-    (subst (λ (c : Cuts). IsChosen u target.plan c choice) is (chosen target (typed_there t u (sym same) target typed cuts given is typed_at)))
-
--- the rewriting of such a choice is taken of the plan
-pub taken_of : (t : Table) (target : Target) (cuts : Cuts) (choice : Choice) → cuts ≡ target.cuts → (is : IsChosen t target.plan cuts choice) → IsTaken t target.plan is.choice_is.normal target.cuts (rewriting_of choice.rewriting)
-taken_of t target cuts choice same is = subst (λ (c : Cuts). IsTaken t target.plan is.choice_is.normal c (rewriting_of choice.rewriting)) same is.choice_is.taken

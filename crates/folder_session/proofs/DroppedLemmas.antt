@@ -1,5 +1,5 @@
 -- The kept results that work drops, and their files.
-use Rattle.std.proofs.Common.{◌≡◌, ◌≢◌, ◌⊎◌, refl, sym, ap, ◌∙◌, subst, inl, inr, ℕ, ◌+◌, ◌<◌, ◌≤◌, ◌==◌, Bool, true, false, not, cond, List, [], ◌∷◌, ◌++◌, map, Option, Result, Ok, Err, IfOk, OnOk, ◌&&◌, arith}
+use Rattle.std.proofs.Common.{◌≡◌, ◌≢◌, ◌⊎◌, refl, sym, ap, ◌∙◌, subst, inl, inr, ℕ, ◌+◌, ◌<◌, ◌≤◌, ◌==◌, Bool, true, false, not, cond, List, [], ◌∷◌, ◌++◌, map, Option, Result, Ok, Err, IfOk, OnOk, arith}
 use Rattle.std.specs.List.{All, AllByRecursion, Contains}
 use Rattle.std.proofs.lemmas.Bool.{eq-eqb, false≢true}
 use Rattle.std.proofs.lemmas.List.Elements.{All-contains, All-from_recursion, Contains-append_cases, Contains-append_left}
@@ -22,34 +22,17 @@ use Rattle.catalog_core.specs.Results.{digests_of}
 use Rattle.catalog_core.specs.Table.{Table, after}
 use Rattle.folder.specs.Removing.{IsFree}
 use Rattle.folder.specs.Removing as removing
-use Rattle.later_states.specs.Later.{AreFree, IsLater}
-use Rattle.work_turns.specs.Ends.{entries_among, files_among, free_of, those_among}
-use Rattle.work_turns.proofs.Dropped.{among-free, among-those}
+use Rattle.later_states.specs.Later.{IsLater}
+use Rattle.work_turns.specs.Ends.{entries_among, files_among}
 use Rattle.script_text.specs.declared.answer.Answer.{Answer}
 use Rattle.folder.specs.Folders.{table_in}
 use Rattle.folder_session.specs.Standing.{AreGoneSince, folder_of}
 use Rattle.folder_session.specs.declared.session.FolderSession.{FolderSession}
 
--- ---- ids
-
-has_id : (ids : List ℕ) (id : ℕ) → Contains ids id → is_among ids id ≡ true
-has_id ids id has = list_any_at (λ (other : ℕ). other == id) ids has.0 id has.1 (ap (λ (other : ℕ). other == id) has.2 ∙ eq-eqb id id refl)
-
-both-parts : (b c : Bool) → (b && c) ≡ true → (b ≡ true) × (c ≡ true)
-both-parts true c is = (refl, is)
-both-parts false c is = absurd (false≢true is)
-
--- what is dropped isn't held
-pub dropped_free : (held lost : List ℕ) (es : List PlainEntry) → AreFree held (those_among (free_of held lost) es)
-dropped_free held lost es = λ id has holds.
-    let among = both-parts (is_among (free_of held lost) id) (is_there es id) (sym (among-those (free_of held lost) es id) ∙ has_id (those_among (free_of held lost) es) id has) in
-    let free = both-parts (is_among lost id) (not (is_among held id)) (sym (among-free held lost id) ∙ among.0) in
-    false≢true (ap not (sym (has_id held id holds)) ∙ free.1)
-
 -- ---- files that the table names no more
 
 -- each kept result after work is an old one that isn't dropped, or has one of the next files
-used_file : (tick : ℕ) (reads : List ℕ) (e : PlainEntry) → ((used tick reads e).id ≡ e.id) × ((used tick reads e).file ≡ e.file)
+pub used_file : (tick : ℕ) (reads : List ℕ) (e : PlainEntry) → ((used tick reads e).id ≡ e.id) × ((used tick reads e).file ≡ e.file)
 used_file tick reads e = by (is_among reads e.id)
   where
     by : (b : Bool) → ((cond b (with_use tick e) e).id ≡ e.id) × ((cond b (with_use tick e) e).file ≡ e.file)
@@ -116,7 +99,7 @@ file_of_dropped dropped es file has =
 
 -- ---- kept results that are there no more
 
-there_of : (es : List PlainEntry) (id : ℕ) (e : PlainEntry) → Contains es e → e.id ≡ id → is_there es id ≡ true
+pub there_of : (es : List PlainEntry) (id : ℕ) (e : PlainEntry) → Contains es e → e.id ≡ id → is_there es id ≡ true
 there_of es id e has same = list_any_at (λ (x : PlainEntry). x.id == id) es has.0 e has.1 (ap (λ (x : PlainEntry). x.id == id) has.2 ∙ eq-eqb e.id id same)
 
 -- who isn't there after work was dropped

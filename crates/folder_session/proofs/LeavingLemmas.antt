@@ -1,17 +1,15 @@
 -- What a command leaves as it was.
-use Rattle.std.proofs.Common.{◌≡◌, ◌∙◌, ℕ, ◌+◌, ◌≤◌, List, [], Ok, Err, Result, IfOk, IsErrOf, OnOk, OnErr, ◌⊎◌, refl, sym, subst, inl, inr, arith}
+use Rattle.std.proofs.Common.{◌≡◌, ◌∙◌, ℕ, ◌+◌, ◌≤◌, List, Ok, Err, Result, IfOk, IsErrOf, OnOk, OnErr, ◌⊎◌, refl, sym, subst, inl, inr, arith}
 use Rattle.std.specs.List.{Contains}
 use Rattle.rows_core.specs.declared.file_ref.FileRef.{FileRef}
 use Rattle.outside_traits.specs.Counts.{Rose}
 use Rattle.outside_traits.specs.View.{View, Counts}
 use Rattle.outside_traits.specs.Runs.{Narrows, ChangesOnly}
 use Rattle.outside_traits.specs.declared.failed.Failed.{Failed}
-use Rattle.outside_traits.proofs.RunLemmas.{narrows_on, spans_none, spans_of, spans_on, spans_wider, spans_narrowed}
+use Rattle.outside_traits.proofs.RunLemmas.{spans_none, spans_of, spans_on, spans_wider, spans_narrowed}
 use Rattle.script_text.specs.declared.answer.Answer.{Answer}
-use Rattle.script_text.specs.declared.answer.Answer.TheVariants as answer
 use Rattle.script_text.specs.declared.answer.Refusal.{Refusal}
 use Rattle.script_text.specs.declared.answer.Refusal.TheVariants as refusal
-use Rattle.plan_laws.proofs.Members.{none_in_nothing}
 use Rattle.rewrite_core.specs.Files.{FileName}
 use Rattle.catalog_core.specs.Table.{Table}
 use Rattle.executor.specs.Runs.{HasRunCause}
@@ -28,23 +26,13 @@ use Rattle.folder_session.specs.declared.session.FolderSession.{FolderSession}
 use Rattle.rows_core.specs.declared.schema.Column.{Column}
 use Rattle.script_text.specs.declared.item.Command.{Command}
 use Rattle.script_text.specs.declared.item.Command.TheVariants as command
-use Rattle.folder_session.specs.Standing.{LeavesWhereRefused, IsAppended, IsChangedByWork, IsLogInUse, IsOfResult, IsWritten, AppendsAtMost, ChangesAtMost, MayChange, RecordsAndRemoves, WorkChangesAtMost, WritesAndRemoves, WritesAtMost, folder_of}
+use Rattle.folder_session.specs.Standing.{LeavesWhereRefused, IsAppended, IsChangedByWork, IsLogInUse, IsOfResult, IsWritten, AppendsAtMost, ChangesAtMost, MayChange, RecordsAndRemoves, WorkChangesAtMost, WritesAndRemoves, folder_of}
 use Rattle.folder_session.specs.WorkRefusals.{refusal_of}
 
 -- the answer is this one
 pub leaves_given : (u v : View) (given : Answer) → LeavesWhereRefused given u v → (result : Result (FolderSession × Answer) Failed) → IfOk result (λ next. next.1 ≡ given) → IfOk result (λ next. LeavesWhereRefused next.1 u v)
 leaves_given u v given leaves (Ok next) is = subst (λ (a : Answer). LeavesWhereRefused a u v) (sym is) leaves
 leaves_given u v given leaves (Err failed) is = tt
-
--- reading came before it
-module _ (u v w : View) (first : Narrows u v) where
-  leaves_behind : (given : Answer) → LeavesWhereRefused given v w → LeavesWhereRefused given u w
-  leaves_behind (answer.Refused why) then = narrows_on u v w first then
-  leaves_behind _ then = tt
-
-  pub leaves_then : (result : Result (FolderSession × Answer) Failed) → IfOk result (λ next. LeavesWhereRefused next.1 v w) → IfOk result (λ next. LeavesWhereRefused next.1 u w)
-  leaves_then (Ok next) then = leaves_behind next.1 then
-  leaves_then (Err failed) then = tt
 
 -- a count that nothing raised before
 pub count_then : {T E : Type 0} (result : Result T E) (a b c : ℕ) → b ≡ a → OnOk result (c ≡ b) → OnOk result (c ≡ a)
@@ -54,13 +42,6 @@ count_then (Err e) a b c first then = tt
 -- ---- which files are written
 
 module _ (folder : Folder) where
-  -- what was only read
-  pub reads_only : (u v : View) → Narrows u v → WritesAtMost folder u v
-  reads_only u v run = spans_narrowed (IsWritten folder) (λ image. Unit {0}) u v run (λ image is. tt)
-
-  pub writes_on : (u v w : View) → WritesAtMost folder u v → WritesAtMost folder v w → WritesAtMost folder u w
-  writes_on u v w first then = spans_on (IsWritten folder) (λ image. Unit {0}) u v w first then
-
   -- a stream is made
   pub streams_log : (name : List ℕ) (columns : List Column) (u v : View) → ChangesOnly (generation_file (generation_of (journal_of folder))) u v → ChangesAtMost folder (command.Stream name columns) u v
   streams_log name columns u v run =
@@ -115,20 +96,6 @@ module _ (folder : Folder) where
       spans_on (λ file. IsLogInUse folder file ⊎ Contains files file) (λ image. Unit {0}) u v w (records_more files u v first)
       (spans_wider (Contains files) (λ file. IsLogInUse folder file ⊎ Contains files file) (λ image. Unit {0}) (λ image. Unit {0}) v w then (λ file gone. inr gone) (λ image any others. tt))
 
-  -- where none is removed
-  pub removes_none : (u v : View) → WritesAndRemoves folder [] u v → WritesAtMost folder u v
-  removes_none u v run = spans_wider (λ file. IsWritten folder file ⊎ Contains [] file) (IsWritten folder) (λ image. Unit {0}) (λ image. Unit {0}) u v run
-      (λ file is. elim is [ inl written ↦ written | inr none ↦ absurd (none_in_nothing file none) ]) (λ image any others. tt)
-
--- a session that is the same but for the memory that it has taken
-pub writes_prepared : (u v : View) (session session' : FolderSession) → table_in (folder_of session') ≡ table_in (folder_of session) → journal_of (folder_of session') ≡ journal_of (folder_of session)
-    → WritesAtMost (folder_of session') u v → WritesAtMost (folder_of session) u v
-writes_prepared u v session session' t j writes =
-    spans_wider (IsWritten (folder_of session')) (IsWritten (folder_of session)) (λ image. Unit {0}) (λ image. Unit {0}) u v writes
-    (λ file is. subst (λ (x : Table). (file ≡ generation_file (generation_of (journal_of (folder_of session)))) ⊎ (x.next_file ≤ file)) t
-    (subst (λ (x : Journal). (file ≡ generation_file (generation_of x)) ⊎ ((table_in (folder_of session')).next_file ≤ file)) j is))
-    (λ image any others. tt)
-
 pub removes_prepared : (files : List ℕ) (u v : View) (session session' : FolderSession) → table_in (folder_of session') ≡ table_in (folder_of session) → journal_of (folder_of session') ≡ journal_of (folder_of session)
     → WritesAndRemoves (folder_of session') files u v → WritesAndRemoves (folder_of session) files u v
 removes_prepared files u v session session' t j removes =
@@ -149,11 +116,6 @@ appends_prepared u v session session' t j appends =
     either file (inr next) = inr (subst (λ (x : Table). file ≡ x.next_file) t next)
 
 -- ---- counts of failed looks
-
--- no other refusal raises it
-pub looked_before : (result : Result (FolderSession × Answer) Failed) (a b : ℕ) → b ≡ a → IfOk result (λ next. (next.1 ≡ answer.Refused refusal.Fault → ⊥) → b ≡ a)
-looked_before (Ok next) a b same = λ other. same
-looked_before (Err failed) a b same = tt
 
 pub failed_after : {T E : Type 0} (result : Result T E) (P : Type 0) → P → OnErr result P
 failed_after (Ok x) P holds = tt

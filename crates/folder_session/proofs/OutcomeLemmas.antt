@@ -44,10 +44,10 @@ use Rattle.folder_session.proofs.OneReading.{one_append}
 
 -- ---- work, by what it met
 
-data WorksAs (care : Care) (held : List ℕ) (s : State) (program : Option Program) (plan : PlainPlan) (cuts : Cuts) (told : Answer) (new : State) : Type 0 where
-  Gave : (rows : Rows) (used kept : List ℕ) (read : ℕ) (form : PlainPlan) → told ≡ answer.Result rows used kept read → WorksInTurns care held s program plan form cuts (given rows used kept read) new → WorksAs care held s program plan cuts told new
-  Overflowed : told ≡ Refused refusal.Overflow → new ≡ s → Overflows s plan cuts → WorksAs care held s program plan cuts told new
-  Passed : told ≡ Refused (refusal.Limit limit.Machine) → new ≡ s → IsDear s plan cuts → WorksAs care held s program plan cuts told new
+data WorksAs (care : Care) (s : State) (program : Option Program) (plan : PlainPlan) (cuts : Cuts) (told : Answer) (new : State) : Type 0 where
+  Gave : (rows : Rows) (used kept : List ℕ) (read : ℕ) (form : PlainPlan) → told ≡ answer.Result rows used kept read → WorksInTurns care s program plan form cuts (given rows used kept read) new → WorksAs care s program plan cuts told new
+  Overflowed : told ≡ Refused refusal.Overflow → new ≡ s → Overflows s plan cuts → WorksAs care s program plan cuts told new
+  Passed : told ≡ Refused (refusal.Limit limit.Machine) → new ≡ s → IsDear s plan cuts → WorksAs care s program plan cuts told new
 
 ok_or_not : {A : Type 0} (r : Result A Overflow) (x : A) → r ≡ Ok x → r ≡ Err overflow → ⊥
 ok_or_not r x is not = cc
@@ -76,25 +76,25 @@ agree_same x y a b told state = subst (λ (z : Answer). AgreeOn x a z b) told (s
 outcomes_agree : (x y : Outcome) → x ≡ y → Agree x y
 outcomes_agree x y same = agree_same x.answer y.answer x.state y.state (ap (λ o. o.answer) same) (ap (λ o. o.state) same)
 
-module _ (one : HaveOneNormalForm) (care : Care) (held : List ℕ) (s : State) (program : Option Program) (plan : PlainPlan) (cuts : Cuts) where
+module _ (one : HaveOneNormalForm) (care : Care) (s : State) (program : Option Program) (plan : PlainPlan) (cuts : Cuts) where
   abbrev As : Answer → State → Type 0
-  As told new = WorksAs care held s program plan cuts told new
+  As told new = WorksAs care s program plan cuts told new
 
-  works_as : (told : Answer) (new : State) → IsWorkOn care held s program plan cuts told new → As told new
+  works_as : (told : Answer) (new : State) → IsWorkOn care s program plan cuts told new → As told new
   works_as (answer.Result rows used kept read) new works = Gave rows used kept read works.0 refl works.1
   works_as (Refused refusal.Overflow) new works = Overflowed refl works.1 works.0
   works_as (Refused (refusal.Limit limit.Machine)) new works = Passed refl works.1 works.0
   works_as _ new works = absurd works
 
   -- the machine time of work that is done isn't above the limit
-  not_dear : (rows : Rows) (used kept : List ℕ) (read : ℕ) (form : PlainPlan) (new : State) → WorksInTurns care held s program plan form cuts (given rows used kept read) new → IsDear s plan cuts → ⊥
+  not_dear : (rows : Rows) (used kept : List ℕ) (read : ℕ) (form : PlainPlan) (new : State) → WorksInTurns care s program plan form cuts (given rows used kept read) new → IsDear s plan cuts → ⊥
   not_dear rows used kept read form new works dear =
       let same : form ≡ dear.normal = one (kinds_in s.streams) plan form dear.normal works.taken.normal dear.is_normal in
       let within : machine_time dear.normal (lists_in s.streams dear.normal cuts) ≤ most_machine_time = subst (λ (p : PlainPlan). machine_time p (lists_in s.streams p cuts) ≤ most_machine_time) same works.within in
       let above = dear.above in
       omega (arith, within, above)
 
-  results_agree : (rows others : Rows) (used kept used_by kept_by : List ℕ) (read read_by : ℕ) (form other : PlainPlan) (a b : State) → WorksInTurns care held s program plan form cuts (given rows used kept read) a → WorksInTurns care held s program plan other cuts (given others used_by kept_by read_by) b
+  results_agree : (rows others : Rows) (used kept used_by kept_by : List ℕ) (read read_by : ℕ) (form other : PlainPlan) (a b : State) → WorksInTurns care s program plan form cuts (given rows used kept read) a → WorksInTurns care s program plan other cuts (given others used_by kept_by read_by) b
       → AgreeOn (answer.Result rows used kept read) a (answer.Result others used_by kept_by read_by) b
   results_agree rows others used kept used_by kept_by read read_by form other a b first second = (
     same_ok _ rows others first.rows second.rows,
@@ -120,17 +120,17 @@ module _ (one : HaveOneNormalForm) (care : Care) (held : List ℕ) (s : State) (
 
 -- ---- one outcome
 
-module _ (one : HaveOneNormalForm) (care : Care) (held : List ℕ) (s : State) (a b : Outcome) where
-  one_run : (planned : Result Run Refusal) → RunHasNoChoice s planned → RunsTo care held s planned a → RunsTo care held s planned b → Agree a b
+module _ (one : HaveOneNormalForm) (care : Care) (s : State) (a b : Outcome) where
+  one_run : (planned : Result Run Refusal) → RunHasNoChoice s planned → RunsTo care s planned a → RunsTo care s planned b → Agree a b
   one_run (Ok run) single p q =
-      by_kinds one care held s (Some run.program) run.plan run.program.cuts a.answer b.answer a.state b.state single
-      (works_as one care held s (Some run.program) run.plan run.program.cuts a.answer a.state p) (works_as one care held s (Some run.program) run.plan run.program.cuts b.answer b.state q)
+      by_kinds one care s (Some run.program) run.plan run.program.cuts a.answer b.answer a.state b.state single
+      (works_as one care s (Some run.program) run.plan run.program.cuts a.answer a.state p) (works_as one care s (Some run.program) run.plan run.program.cuts b.answer b.state q)
   one_run (Err why) single p q = outcomes_agree a b (p ∙ sym q)
 
-  one_fetch : (planned : Result Target Refusal) → ((target : Target) → planned ≡ Ok target → HasTwoRefusals s target.plan target.cuts → ⊥) → FetchesTo care held s planned a → FetchesTo care held s planned b → Agree a b
+  one_fetch : (planned : Result Target Refusal) → ((target : Target) → planned ≡ Ok target → HasTwoRefusals s target.plan target.cuts → ⊥) → FetchesTo care s planned a → FetchesTo care s planned b → Agree a b
   one_fetch (Ok target) single p q =
-      by_kinds one care held s None target.plan target.cuts a.answer b.answer a.state b.state (single target refl)
-      (works_as one care held s None target.plan target.cuts a.answer a.state p) (works_as one care held s None target.plan target.cuts b.answer b.state q)
+      by_kinds one care s None target.plan target.cuts a.answer b.answer a.state b.state (single target refl)
+      (works_as one care s None target.plan target.cuts a.answer a.state p) (works_as one care s None target.plan target.cuts b.answer b.state q)
   one_fetch (Err why) single p q = outcomes_agree a b (p ∙ sym q)
 
 -- ---- a name stands for one plan
@@ -166,10 +166,10 @@ pub same_outcome : HaveOneNormalForm → HaveOnePlan → HaveOneCollection → (
 same_outcome one texts once care held s (command.Stream name columns) a b none p q = outcomes_agree a b (p ∙ sym q)
 same_outcome one texts once care held s (command.Append name lines) a b none p q =
     outcomes_agree a b (p.2 ∙ ap (appended s) (one_append (table s) (place_of (table s).streams name) name lines p.0 q.0 p.1 q.1) ∙ sym q.2)
-same_outcome one texts once care held s (command.Run name tree) a b single p q = one_run one care held s a b (running (table s) name tree) single p q
+same_outcome one texts once care held s (command.Run name tree) a b single p q = one_run one care s a b (running (table s) name tree) single p q
 same_outcome one texts once care held s (command.Fetch name as_run) a b single p q =
-    one_fetch one care held s a b p.0 (λ target is. single target (subst (IsFetching (table s) name as_run) is p.1)) p.2
-    (subst (λ (planned : Result Target Refusal). FetchesTo care held s planned b) (one_fetching texts (table s) name as_run p.0 q.0 p.1 q.1) q.2)
+    one_fetch one care s a b p.0 (λ target is. single target (subst (IsFetching (table s) name as_run) is p.1)) p.2
+    (subst (λ (planned : Result Target Refusal). FetchesTo care s planned b) (one_fetching texts (table s) name as_run p.0 q.0 p.1 q.1) q.2)
 same_outcome one texts once care held s (command.Collect reclaim) a b ranked p q = one_collected once (nat_le most_ticks s.tick) held s reclaim a b ranked p q
 same_outcome one texts once care held s command.Entries a b none p q = outcomes_agree a b (p ∙ sym q)
 same_outcome one texts once care held s command.Catalog a b none p q = outcomes_agree a b (p ∙ sym q)
@@ -185,21 +185,21 @@ module _ (one : HaveOneNormalForm) (care : Care) (held : List ℕ) (s : State) (
   is_refused : (other : Refusal) → told.answer ≡ Refused other → told.state ≡ s → told ≡ refused s other
   is_refused other answers states = λ i. outcome (answers i) (states i)
 
-  comes : (program : Option Program) (plan : PlainPlan) (cuts : Cuts) (why : Refusal) → WorksAs care held s program plan cuts told.answer told.state → IsRefusedOn s plan cuts why → GivesOrOther s why told
+  comes : (program : Option Program) (plan : PlainPlan) (cuts : Cuts) (why : Refusal) → WorksAs care s program plan cuts told.answer told.state → IsRefusedOn s plan cuts why → GivesOrOther s why told
   comes program plan cuts refusal.Overflow (Gave rows used kept read form is works) over = absurd (ok_or_not _ rows works.rows over)
   comes program plan cuts refusal.Overflow (Overflowed is state over') over = inl (is_refused refusal.Overflow is state)
   comes program plan cuts refusal.Overflow (Passed is state dear) over = inr (refusal.Limit limit.Machine, refl, is_refused (refusal.Limit limit.Machine) is state)
-  comes program plan cuts (refusal.Limit limit.Machine) (Gave rows used kept read form is works) dear = absurd (not_dear one care held s program plan cuts rows used kept read form told.state works dear)
+  comes program plan cuts (refusal.Limit limit.Machine) (Gave rows used kept read form is works) dear = absurd (not_dear one care s program plan cuts rows used kept read form told.state works dear)
   comes program plan cuts (refusal.Limit limit.Machine) (Overflowed is state over) dear = inr (refusal.Overflow, refl, is_refused refusal.Overflow is state)
   comes program plan cuts (refusal.Limit limit.Machine) (Passed is state dear') dear = inl (is_refused (refusal.Limit limit.Machine) is state)
   comes program plan cuts _ met none = absurd none
 
-  run_exactly : (why : Refusal) (planned : Result Run Refusal) → RunsTo care held s planned told → IsRunRefused s planned why → GivesOrOther s why told
-  run_exactly why (Ok run) done holds = comes (Some run.program) run.plan run.program.cuts why (works_as one care held s (Some run.program) run.plan run.program.cuts told.answer told.state done) holds
+  run_exactly : (why : Refusal) (planned : Result Run Refusal) → RunsTo care s planned told → IsRunRefused s planned why → GivesOrOther s why told
+  run_exactly why (Ok run) done holds = comes (Some run.program) run.plan run.program.cuts why (works_as one care s (Some run.program) run.plan run.program.cuts told.answer told.state done) holds
   run_exactly why (Err planned) done holds = inl (done ∙ ap (refused s) holds)
 
-  fetch_exactly : (why : Refusal) (planned : Result Target Refusal) → FetchesTo care held s planned told → IsFetchRefused s planned why → GivesOrOther s why told
-  fetch_exactly why (Ok target) done holds = comes None target.plan target.cuts why (works_as one care held s None target.plan target.cuts told.answer told.state done) holds
+  fetch_exactly : (why : Refusal) (planned : Result Target Refusal) → FetchesTo care s planned told → IsFetchRefused s planned why → GivesOrOther s why told
+  fetch_exactly why (Ok target) done holds = comes None target.plan target.cuts why (works_as one care s None target.plan target.cuts told.answer told.state done) holds
   fetch_exactly why (Err planned) done holds = inl (done ∙ ap (refused s) holds)
 
   collection_exactly : (why : Refusal) (full : Bool) (reclaim : ℕ) → full ≡ nat_le most_ticks s.tick → CollectsTo full held s reclaim told → IsCollectionRefused s why → GivesOrOther s why told
@@ -231,18 +231,18 @@ module _ (s new : State) (why : Refusal) where
   appended_cause (Ok append) e = let answers : Refused why ≡ answer.Held _ = ap (λ o. o.answer) e in absurd (cc)
   appended_cause (Err told) e = ap Err (same_refusal s new why told e)
 
-  work_cause : (care : Care) (held : List ℕ) (program : Option Program) (plan : PlainPlan) (cuts : Cuts) (w : Refusal) → IsWorkOn care held s program plan cuts (Refused w) new → IsRefusedOn s plan cuts w × (new ≡ s)
-  work_cause care held program plan cuts refusal.Overflow is = is
-  work_cause care held program plan cuts (refusal.Limit limit.Machine) is = is
-  work_cause care held program plan cuts _ is = absurd is
+  work_cause : (care : Care) (program : Option Program) (plan : PlainPlan) (cuts : Cuts) (w : Refusal) → IsWorkOn care s program plan cuts (Refused w) new → IsRefusedOn s plan cuts w × (new ≡ s)
+  work_cause care program plan cuts refusal.Overflow is = is
+  work_cause care program plan cuts (refusal.Limit limit.Machine) is = is
+  work_cause care program plan cuts _ is = absurd is
 
-  run_cause : (care : Care) (held : List ℕ) (planned : Result Run Refusal) → RunsTo care held s planned (outcome (Refused why) new) → IsRunRefused s planned why
-  run_cause care held (Ok run) done = (work_cause care held (Some run.program) run.plan run.program.cuts why done).0
-  run_cause care held (Err told) done = same_refusal s new why told done
+  run_cause : (care : Care) (planned : Result Run Refusal) → RunsTo care s planned (outcome (Refused why) new) → IsRunRefused s planned why
+  run_cause care (Ok run) done = (work_cause care (Some run.program) run.plan run.program.cuts why done).0
+  run_cause care (Err told) done = same_refusal s new why told done
 
-  fetch_cause : (care : Care) (held : List ℕ) (planned : Result Target Refusal) → FetchesTo care held s planned (outcome (Refused why) new) → IsFetchRefused s planned why
-  fetch_cause care held (Ok target) done = (work_cause care held None target.plan target.cuts why done).0
-  fetch_cause care held (Err told) done = same_refusal s new why told done
+  fetch_cause : (care : Care) (planned : Result Target Refusal) → FetchesTo care s planned (outcome (Refused why) new) → IsFetchRefused s planned why
+  fetch_cause care (Ok target) done = (work_cause care None target.plan target.cuts why done).0
+  fetch_cause care (Err told) done = same_refusal s new why told done
 
   collection_cause : (full : Bool) (held : List ℕ) (reclaim : ℕ) → full ≡ nat_le most_ticks s.tick → CollectsTo full held s reclaim (outcome (Refused why) new) → IsCollectionRefused s why
   collection_cause true held reclaim is done = subst (IsCollectionRefused s) (same_refusal s new why (refusal.Limit limit.Commands) done) (grind (arith, nat_tests))
@@ -251,8 +251,8 @@ module _ (s new : State) (why : Refusal) where
   refused_cause : (care : Care) (held : List ℕ) (given_to : Command) → Performs care held s given_to (outcome (Refused why) new) → IsRefusedFor s given_to why
   refused_cause care held (command.Stream name columns) done = made_cause name columns (making (table s) name columns) done
   refused_cause care held (command.Append name lines) done = subst (λ planned. IsAppending (table s) name lines planned) (appended_cause done.0 done.2) done.1
-  refused_cause care held (command.Run name tree) done = run_cause care held (running (table s) name tree) done
-  refused_cause care held (command.Fetch name as_run) done = (done.0, done.1, fetch_cause care held done.0 done.2)
+  refused_cause care held (command.Run name tree) done = run_cause care (running (table s) name tree) done
+  refused_cause care held (command.Fetch name as_run) done = (done.0, done.1, fetch_cause care done.0 done.2)
   refused_cause care held (command.Collect reclaim) done = collection_cause (nat_le most_ticks s.tick) held reclaim refl done
   refused_cause care held command.Entries done = let answers : Refused why ≡ answer.Entries _ = ap (λ o. o.answer) done in absurd (cc)
   refused_cause care held command.Catalog done = let answers : Refused why ≡ answer.Catalog _ = ap (λ o. o.answer) done in absurd (cc)
@@ -272,13 +272,13 @@ module _ (s new : State) (why : Refusal) where
   appended_keeps (Ok append) e = let answers : Refused why ≡ answer.Held _ = ap (λ o. o.answer) e in absurd (cc)
   appended_keeps (Err told) e = ap (λ o. o.state) e
 
-  run_keeps : (care : Care) (held : List ℕ) (planned : Result Run Refusal) → RunsTo care held s planned (outcome (Refused why) new) → new ≡ s
-  run_keeps care held (Ok run) done = (work_cause s new why care held (Some run.program) run.plan run.program.cuts why done).1
-  run_keeps care held (Err told) done = ap (λ o. o.state) done
+  run_keeps : (care : Care) (planned : Result Run Refusal) → RunsTo care s planned (outcome (Refused why) new) → new ≡ s
+  run_keeps care (Ok run) done = (work_cause s new why care (Some run.program) run.plan run.program.cuts why done).1
+  run_keeps care (Err told) done = ap (λ o. o.state) done
 
-  fetch_keeps : (care : Care) (held : List ℕ) (planned : Result Target Refusal) → FetchesTo care held s planned (outcome (Refused why) new) → new ≡ s
-  fetch_keeps care held (Ok target) done = (work_cause s new why care held None target.plan target.cuts why done).1
-  fetch_keeps care held (Err told) done = ap (λ o. o.state) done
+  fetch_keeps : (care : Care) (planned : Result Target Refusal) → FetchesTo care s planned (outcome (Refused why) new) → new ≡ s
+  fetch_keeps care (Ok target) done = (work_cause s new why care None target.plan target.cuts why done).1
+  fetch_keeps care (Err told) done = ap (λ o. o.state) done
 
   collection_keeps : (full : Bool) (held : List ℕ) (reclaim : ℕ) → CollectsTo full held s reclaim (outcome (Refused why) new) → new ≡ s
   collection_keeps true held reclaim done = ap (λ o. o.state) done
@@ -287,8 +287,8 @@ module _ (s new : State) (why : Refusal) where
   performed_keeps : (care : Care) (held : List ℕ) (given_to : Command) → Performs care held s given_to (outcome (Refused why) new) → new ≡ s
   performed_keeps care held (command.Stream name columns) done = made_keeps name columns (making (table s) name columns) done
   performed_keeps care held (command.Append name lines) done = appended_keeps done.0 done.2
-  performed_keeps care held (command.Run name tree) done = run_keeps care held (running (table s) name tree) done
-  performed_keeps care held (command.Fetch name as_run) done = fetch_keeps care held done.0 done.2
+  performed_keeps care held (command.Run name tree) done = run_keeps care (running (table s) name tree) done
+  performed_keeps care held (command.Fetch name as_run) done = fetch_keeps care done.0 done.2
   performed_keeps care held (command.Collect reclaim) done = collection_keeps (nat_le most_ticks s.tick) held reclaim done
   performed_keeps care held command.Entries done = ap (λ o. o.state) done
   performed_keeps care held command.Catalog done = ap (λ o. o.state) done

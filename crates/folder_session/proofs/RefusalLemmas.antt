@@ -1,5 +1,5 @@
 -- Which refusals are laid to the store.
-use Rattle.std.proofs.Common.{◌≡◌, ◌⊎◌, ℕ, Bool, true, false, cond, List, [], ◌∷◌, Option, None, Some, Ok, Err, Result, IfOk, IfErr, refl, sym, ap, ◌∙◌, subst, inl, inr}
+use Rattle.std.proofs.Common.{◌≡◌, ◌⊎◌, ℕ, Bool, true, false, cond, List, [], ◌∷◌, Option, None, Some, Ok, Err, Result, IfErr, refl, sym, ap, ◌∙◌, subst, inl, inr}
 use Rattle.std.specs.Prelude.{nat_le, nat_lt, is_some, length, IsTrue}
 use Rattle.std.specs.List.{AllByRecursion}
 use Rattle.rows_core.specs.declared.file_ref.Digest.{Digest}
@@ -9,9 +9,7 @@ use Rattle.rows_core.specs.declared.value.Value.{Value}
 use Rattle.rows_core.specs.Schema.{has_repeat}
 use Rattle.catalog_types.specs.declared.change.Change.{Change}
 use Rattle.catalog_types.specs.declared.change.Change.TheVariants as change
-use Rattle.outside_traits.specs.Counts.{Rose}
 use Rattle.outside_traits.specs.View.{Counts}
-use Rattle.outside_traits.specs.declared.failed.Failed.{Failed}
 use Rattle.catalog_types.specs.declared.program.Program.{Program}
 use Rattle.estimator.specs.Cuts.{Cuts}
 use Rattle.catalog_core.specs.Named.{file_at}
@@ -47,7 +45,6 @@ use Rattle.folder.specs.Sound.{Care, Shown, Whole}
 use Rattle.folder.specs.State.{State, table}
 use Rattle.work_run.specs.Ends.{sources_of}
 use Rattle.work_turns.specs.Turns.{HasCauseInTurns, IsLost}
-use Rattle.folder_session.specs.declared.session.FolderSession.{FolderSession}
 use Rattle.folder_session.specs.declared.wanting.Purpose.{Purpose}
 use Rattle.folder_session.specs.declared.wanting.Purpose.TheVariants as purpose
 use Rattle.folder_session.specs.Machine.{Outcome, outcome, refused, made, appended, RunsTo, FetchesTo, CollectsTo, IsWorkOn, Performs, IsWant, IsFileEvent, IsEvent, Step}
@@ -191,14 +188,13 @@ module _ (t : Table) (files : ℕ → List ℕ) where
   spared _ (answer.Refused why) spares = spares why refl
   spared _ _ spares = tt
 
-  pub no_file_causes : (c : Command) (result : Result (FolderSession × Answer) Failed) → IfOk result (λ next. TellsOfNoFile next.1) → IfOk result (λ next. HasByteCause t c files next.1)
-  no_file_causes c (Ok next) tells = spared c next.1 (λ why is. subst TellsOfNoFile is tells)
-  no_file_causes c (Err failed) tells = tt
+  -- that tells of no file
+  pub no_file_causes : (c : Command) (given : Answer) → TellsOfNoFile given → HasByteCause t c files given
+  no_file_causes c given tells = spared c given (λ why is. subst TellsOfNoFile is tells)
 
-  -- of what is answered when work is recorded
-  pub recorded_causes : (c : Command) (result : Result (FolderSession × Answer) Failed) → IfOk result (λ next. (why : Refusal) → next.1 ≡ answer.Refused why → why ≡ refusal.Memory) → IfOk result (λ next. HasByteCause t c files next.1)
-  recorded_causes c (Ok next) only = spared c next.1 (λ why is. subst SparesStore (sym (only why is)) tt)
-  recorded_causes c (Err failed) only = tt
+  -- want of memory
+  pub want_causes : (c : Command) → HasByteCause t c files (answer.Refused refusal.Memory)
+  want_causes c = no_file_causes c (answer.Refused refusal.Memory) tt
 
   -- of a run or a fetch that is refused before its work
   no_work_spares : (c : Command) (why : Refusal) → IsNoWorkOf t c why → SparesStore why
@@ -248,11 +244,6 @@ module _ (t : Table) (files : ℕ → List ℕ) where
   turns_found plan form cuts old new tells told run.Fault is = tt
   turns_found plan form cuts old new tells told run.Memory is = tt
 
--- a command that reads no files tells no failed read
-pub no_fault_in : (old new : ℕ) (result : Result (FolderSession × Answer) Failed) → IfOk result (λ next. TellsOfNoFile next.1) → IfOk result (λ next. next.1 ≡ answer.Refused refusal.Fault → Rose old new)
-no_fault_in old new (Ok next) tells = λ is. absurd (subst TellsOfNoFile is tells)
-no_fault_in old new (Err failed) tells = tt
-
 -- ---- so is what the machine does where there is memory and each file is read
 
 -- the refusal that is answered is the one that was planned
@@ -274,19 +265,19 @@ appended_spares s (Ok a) why new spares is =
     absurd (cc)
 appended_spares s (Err w) why new spares is = spares_same s why w new is spares
 
-on_spares : (care : Care) (held : List ℕ) (s : State) (program : Option Program) (plan : PlainPlan) (cuts : Cuts) (why : Refusal) (new : State) → IsWorkOn care held s program plan cuts (answer.Refused why) new → SparesStore why
-on_spares care held s program plan cuts refusal.Fault new is = absurd is
-on_spares care held s program plan cuts (refusal.Damaged file kept found) new is = absurd is
-on_spares care held s program plan cuts (refusal.Unreadable file at) new is = absurd is
-on_spares care held s program plan cuts _ new is = tt
+on_spares : (care : Care) (s : State) (program : Option Program) (plan : PlainPlan) (cuts : Cuts) (why : Refusal) (new : State) → IsWorkOn care s program plan cuts (answer.Refused why) new → SparesStore why
+on_spares care s program plan cuts refusal.Fault new is = absurd is
+on_spares care s program plan cuts (refusal.Damaged file kept found) new is = absurd is
+on_spares care s program plan cuts (refusal.Unreadable file at) new is = absurd is
+on_spares care s program plan cuts _ new is = tt
 
-ran_spares : (care : Care) (held : List ℕ) (s : State) (planned : Result Run Refusal) (why : Refusal) (new : State) → IfErr planned SparesStore → RunsTo care held s planned (outcome (answer.Refused why) new) → SparesStore why
-ran_spares care held s (Ok run) why new spares is = on_spares care held s (Some run.program) run.plan run.program.cuts why new is
-ran_spares care held s (Err w) why new spares is = spares_same s why w new is spares
+ran_spares : (care : Care) (s : State) (planned : Result Run Refusal) (why : Refusal) (new : State) → IfErr planned SparesStore → RunsTo care s planned (outcome (answer.Refused why) new) → SparesStore why
+ran_spares care s (Ok run) why new spares is = on_spares care s (Some run.program) run.plan run.program.cuts why new is
+ran_spares care s (Err w) why new spares is = spares_same s why w new is spares
 
-fetched_spares : (care : Care) (held : List ℕ) (s : State) (name : List ℕ) (as_run : Bool) (planned : Result Target Refusal) (why : Refusal) (new : State) → IsFetching (table s) name as_run planned → FetchesTo care held s planned (outcome (answer.Refused why) new) → SparesStore why
-fetched_spares care held s name as_run (Ok target) why new planned is = on_spares care held s None target.plan target.cuts why new is
-fetched_spares care held s name as_run (Err w) why new planned is = spares_same s why w new is (fetching_spares (table s) name as_run w planned)
+fetched_spares : (care : Care) (s : State) (name : List ℕ) (as_run : Bool) (planned : Result Target Refusal) (why : Refusal) (new : State) → IsFetching (table s) name as_run planned → FetchesTo care s planned (outcome (answer.Refused why) new) → SparesStore why
+fetched_spares care s name as_run (Ok target) why new planned is = on_spares care s None target.plan target.cuts why new is
+fetched_spares care s name as_run (Err w) why new planned is = spares_same s why w new is (fetching_spares (table s) name as_run w planned)
 
 collected_spares : (full : Bool) (held : List ℕ) (s : State) (reclaim : ℕ) (why : Refusal) (new : State) → CollectsTo full held s reclaim (outcome (answer.Refused why) new) → SparesStore why
 collected_spares true held s reclaim why new is = spares_same s why (refusal.Limit limit.Commands) new is tt
@@ -297,8 +288,8 @@ collected_spares false held s reclaim why new is =
 pub performed_spares : (care : Care) (held : List ℕ) (s : State) (c : Command) (why : Refusal) (new : State) → Performs care held s c (outcome (answer.Refused why) new) → SparesStore why
 performed_spares care held s (command.Stream name columns) why new is = made_spares s name columns (making (table s) name columns) why new (making_spares (table s) name columns) is
 performed_spares care held s (command.Append name lines) why new is = appended_spares s is.0 why new (appending_at_spares (table s) (place_of (table s).streams name) name lines is.0 is.1) is.2
-performed_spares care held s (command.Run name tree) why new is = ran_spares care held s (running (table s) name tree) why new (bound_spares (table s) name tree (bound_plan (table s).streams tree)) is
-performed_spares care held s (command.Fetch name as_run) why new is = fetched_spares care held s name as_run is.0 why new is.1 is.2
+performed_spares care held s (command.Run name tree) why new is = ran_spares care s (running (table s) name tree) why new (bound_spares (table s) name tree (bound_plan (table s).streams tree)) is
+performed_spares care held s (command.Fetch name as_run) why new is = fetched_spares care s name as_run is.0 why new is.1 is.2
 performed_spares care held s (command.Collect reclaim) why new is = collected_spares (nat_le most_ticks s.tick) held s reclaim why new is
 performed_spares care held s command.Entries why new is =
     let same : answer.Refused why ≡ answer.Entries _ = ap (λ (o : Outcome). o.answer) is in

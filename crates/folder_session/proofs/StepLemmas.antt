@@ -34,8 +34,8 @@ use Rattle.folder_session.specs.declared.session.FolderSession.{FolderSession}
 use Rattle.folder_session.specs.declared.wanting.Purpose.{Purpose}
 use Rattle.folder_session.specs.declared.wanting.Purpose.TheVariants as purpose
 use Rattle.folder_session.specs.Machine as machine
-use Rattle.folder_session.specs.Machine.{outcome, refused, made, IsEvent, IsOfExtent, RunsTo, IsWorkOn, WorkStep}
-use Rattle.folder_session.specs.Standing.{Stands, Performs, Breaks, Records, KeepsNot, WorksOff, BreaksOff, folder_of}
+use Rattle.folder_session.specs.Machine.{outcome, refused, made, IsEvent, IsFileEvent, IsOfExtent, RunsTo, IsWorkOn, WorkStep}
+use Rattle.folder_session.specs.Standing.{Stands, Performs, Breaks, Records, KeepsNot, folder_of}
 use Rattle.folder_session.specs.Wanted.{IsNoWorkOf, IsWorkOf, cuts_for, program_for}
 use Rattle.folder_session.specs.WorkRefusals.{refusal_of}
 
@@ -145,61 +145,50 @@ module _ (care : Care) (t u v : View) (s new : State) (before : StaysSound care 
 
 -- ---- work
 
-module _ (care : Care) (held : List ℕ) (u v : View) (s new : State) (program : Option Program) (plan : PlainPlan) (cuts : Cuts) (given : Answer) (works : IsWorkOn care held s program plan cuts given new) where
-  pub kept_works : (result : Result (FolderSession × Answer) Failed) → IfOk result (λ next. Records care u v next.0 s new) → IfOk result (λ next. next.1 ≡ given) → IfOk result (λ next. WorksOff care u v held next.0 s program plan cuts next.1)
-  kept_works (Ok next) recorded same = record { new = new; step = inl (subst (λ a. IsWorkOn care held s program plan cuts a new) (sym same) works); stands = recorded.stands; since = recorded.since }
-  kept_works (Err failed) recorded same = tt
-
-  pub broken_works : (result : Result (FolderSession × Answer) Failed) → OnErr result (KeepsNot care u v s new) → OnErr result (BreaksOff care u v held s program plan cuts)
-  broken_works (Ok next) broke = tt
-  broken_works (Err failed) broke = record { answer = given; new = new; step = inl works; recorded = broke.recorded; since = broke.since; left = broke.left }
-
 -- work that isn't done, as a step
-pub refused_work : (care : Care) (held : List ℕ) (s : State) (program : Option Program) (plan : PlainPlan) (cuts : Cuts) (why : RunRefusal) → IsRefusedWork care s plan cuts why → IsOfExtent (table s) (refusal_of why)
-    → WorkStep care held s program plan cuts (answer.Refused (refusal_of why)) s
-refused_work care held s program plan cuts run.Overflow is extent = inl (is, refl)
-refused_work care held s program plan cuts run.Machine is extent = inl (is, refl)
-refused_work care held s program plan cuts run.Fault is extent = inr (refusal.Fault, tt, tt, refl)
-refused_work care held s program plan cuts (run.Damaged file kept found taken) is extent = inr (refusal.Damaged file kept found, is, extent, refl)
-refused_work care held s program plan cuts (run.Unreadable file at taken) is extent = absurd is
-refused_work care held s program plan cuts run.Memory is extent = inr (refusal.Memory, tt, tt, refl)
+pub refused_work : (care : Care) (s : State) (program : Option Program) (plan : PlainPlan) (cuts : Cuts) (why : RunRefusal) → IsRefusedWork care s plan cuts why → IsOfExtent (table s) (refusal_of why)
+    → WorkStep care s program plan cuts (answer.Refused (refusal_of why)) s
+refused_work care s program plan cuts run.Overflow is extent = inl (is, refl)
+refused_work care s program plan cuts run.Machine is extent = inl (is, refl)
+refused_work care s program plan cuts run.Fault is extent = inr (refusal.Fault, tt, tt, refl)
+refused_work care s program plan cuts (run.Damaged file kept found taken) is extent = inr (refusal.Damaged file kept found, is, extent, refl)
+refused_work care s program plan cuts (run.Unreadable file at taken) is extent = absurd is
+refused_work care s program plan cuts run.Memory is extent = inr (refusal.Memory, tt, tt, refl)
 
 -- ---- a run or a fetch
 
 module _ (care : Care) (held : List ℕ) (t : Table) (s : State) (same : t ≡ table s) where
   -- it is refused before its work
-  pub no_work : (c : Command) (why : Refusal) → IsNoWorkOf t c why → machine.Performs care held s c (refused s why) ⊎ IsEvent care s c why
+  pub no_work : (c : Command) (why : Refusal) → IsNoWorkOf t c why → machine.Step care held s c (answer.Refused why) s
   no_work (command.Run name tree) why either = elim either [
-    | inl is ↦ inl (subst (λ x. RunsTo care held s x (refused s why)) (sym (subst (λ x. running x name tree ≡ Err why) same is)) refl)
-    | inr none ↦ inr (subst (λ w. IsEvent care s (command.Run name tree) w) (sym none) (tt, tt))
+    | inl is ↦ inl (subst (λ x. RunsTo care s x (refused s why)) (sym (subst (λ x. running x name tree ≡ Err why) same is)) refl)
+    | inr none ↦ inr (why, subst (λ w. IsEvent care s (command.Run name tree) w) (sym none) (tt, tt), refl)
   ]
   no_work (command.Fetch name as_run) why either = elim either [
     | inl is ↦ inl (Err why, subst (λ x. IsFetching x name as_run (Err why)) same is, refl)
-    | inr none ↦ inr (subst (λ w. IsEvent care s (command.Fetch name as_run) w) (sym none) (tt, tt))
+    | inr none ↦ inr (why, subst (λ w. IsEvent care s (command.Fetch name as_run) w) (sym none) (tt, tt), refl)
   ]
   no_work _ why none = absurd none
 
-  -- a step of its work is its step
-  step_of : (c : Command) (plan : PlainPlan) (aim : Purpose) → IsWorkOf t c plan aim → (given : Answer) (new : State) → WorkStep care held s (program_for aim) plan (cuts_for aim) given new → machine.Step care held s c given new
-  step_of (command.Run name tree) plan (purpose.Run program) is given new (inl works) =
-      inl (subst (λ x. RunsTo care held s x (outcome given new)) (sym (subst (λ x. running x name tree ≡ Ok (record { plan = plan; program = program })) same is)) works)
-  step_of (command.Run name tree) plan (purpose.Run program) is given new (inr event) = inr (event.0, (event.1, event.2), event.3)
-  step_of (command.Fetch name as_run) plan (purpose.Fetch cuts) is given new (inl works) =
-      inl (Ok (record { plan = plan; cuts = cuts }), subst (λ x. IsFetching x name as_run (Ok (record { plan = plan; cuts = cuts }))) same is, works)
-  step_of (command.Fetch name as_run) plan (purpose.Fetch cuts) is given new (inr event) = inr (event.0, (event.1, event.2), event.3)
-  step_of _ plan _ is given new step = absurd is
+  -- what its work does, it does
+  done_of : (c : Command) (plan : PlainPlan) (aim : Purpose) → IsWorkOf t c plan aim → (given : Answer) (new : State) → IsWorkOn care s (program_for aim) plan (cuts_for aim) given new → machine.Performs care held s c (outcome given new)
+  done_of (command.Run name tree) plan (purpose.Run program) is given new works =
+      subst (λ x. RunsTo care s x (outcome given new)) (sym (subst (λ x. running x name tree ≡ Ok (record { plan = plan; program = program })) same is)) works
+  done_of (command.Fetch name as_run) plan (purpose.Fetch cuts) is given new works =
+      (Ok (record { plan = plan; cuts = cuts }), subst (λ x. IsFetching x name as_run (Ok (record { plan = plan; cuts = cuts }))) same is, works)
+  done_of _ plan _ is given new works = absurd is
+
+  event_of : (c : Command) (plan : PlainPlan) (aim : Purpose) → IsWorkOf t c plan aim → (why : Refusal) → IsFileEvent care s why → IsOfExtent (table s) why → IsEvent care s c why
+  event_of (command.Run name tree) plan (purpose.Run program) is why event extent = (event, extent)
+  event_of (command.Fetch name as_run) plan (purpose.Fetch cuts) is why event extent = (event, extent)
+  event_of _ plan _ is why event extent = absurd is
 
   module _ (c : Command) (plan : PlainPlan) (aim : Purpose) (is : IsWorkOf t c plan aim) (program : Option Program) (program_is : program ≡ program_for aim) (cuts : Cuts) (cuts_are : cuts ≡ cuts_for aim) where
-    pub work_step : (given : Answer) (new : State) → WorkStep care held s program plan cuts given new → machine.Step care held s c given new
-    work_step given new step =
-        step_of c plan aim is given new (subst (λ (p : Option Program). WorkStep care held s p plan (cuts_for aim) given new) program_is (subst (λ (x : Cuts). WorkStep care held s program plan x given new) cuts_are step))
+    pub work_done : (given : Answer) (new : State) → IsWorkOn care s program plan cuts given new → machine.Performs care held s c (outcome given new)
+    work_done given new works =
+        done_of c plan aim is given new (subst (λ (p : Option Program). IsWorkOn care s p plan (cuts_for aim) given new) program_is (subst (λ (x : Cuts). IsWorkOn care s program plan x given new) cuts_are works))
 
-    -- files were read before it
-    module _ (u v w : View) (before : StaysSound care s u v) where
-      pub work_performs : (result : Result (FolderSession × Answer) Failed) → IfOk result (λ next. WorksOff care v w held next.0 s program plan cuts next.1) → IfOk result (λ next. Performs care u w held next.0 s c next.1)
-      work_performs (Ok next) done = record { new = done.new; step = work_step next.1 done.new done.step; stands = done.stands; since = spans_on Everything (IsSoundForOneOf care s done.new) u v w (since_stays care u v w s done.new before done.new) done.since }
-      work_performs (Err failed) done = tt
-
-      pub work_breaks : (result : Result (FolderSession × Answer) Failed) → OnErr result (BreaksOff care v w held s program plan cuts) → OnErr result (Breaks care u w held s c)
-      work_breaks (Ok next) broke = tt
-      work_breaks (Err failed) broke = record { answer = broke.answer; new = broke.new; step = work_step broke.answer broke.new broke.step; recorded = broke.recorded; since = spans_on Everything (IsSoundForOneOf care s broke.new) u v w (since_stays care u v w s broke.new before broke.new) broke.since; left = broke.left }
+    -- a step of its work is its step
+    pub work_step : (given : Answer) (new : State) → WorkStep care s program plan cuts given new → machine.Step care held s c given new
+    work_step given new (inl works) = inl (work_done given new works)
+    work_step given new (inr event) = inr (event.0, event_of c plan aim is event.0 event.1 event.2, event.3)

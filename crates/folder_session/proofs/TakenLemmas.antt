@@ -1,5 +1,5 @@
 -- The bytes that a command takes.
-use Rattle.std.proofs.Common.{◌≡◌, ◌⊎◌, ◌+◌, ℕ, Ok, Err, Result, IfOk, sym, ◌∙◌, subst, inl, inr, arith}
+use Rattle.std.proofs.Common.{◌≡◌, ◌⊎◌, ◌+◌, ℕ, Bool, List, Ok, Err, Result, IfOk, sym, ◌∙◌, subst, inl, inr, arith}
 use Rattle.outside_traits.specs.View.{Counts}
 use Rattle.outside_traits.specs.declared.failed.Failed.{Failed}
 use Rattle.plan_core.specs.PlainPlan.{PlainPlan}
@@ -19,13 +19,12 @@ use Rattle.folder_session.specs.declared.session.FolderSession.{FolderSession}
 use Rattle.folder_session.specs.declared.wanting.Purpose.{Purpose}
 use Rattle.folder_session.specs.declared.wanting.Purpose.TheVariants as purpose
 use Rattle.folder_session.specs.Causes.{TellsOfNoFile}
-use Rattle.folder_session.specs.Taken.{TakesNone, TakesInTurns, TakesForRun, TakesFor, TakesAsTold}
+use Rattle.folder_session.specs.Taken.{TakesNone, TakesInTurns, TakesForFetch, TakesForRun, TakesFor, TakesAsTold}
 use Rattle.folder_session.specs.Wanted.{IsWorkOf, cuts_for}
-use Rattle.folder_session.specs.Working.{TellsRead}
 
 -- ---- counts
 
-pub most_then : (n : ℕ) (old mid new : Counts) → TookAtMost n old mid → new.taken ≡ mid.taken → TookAtMost n old new
+most_then : (n : ℕ) (old mid new : Counts) → TookAtMost n old mid → new.taken ≡ mid.taken → TookAtMost n old new
 most_then n old mid new most same = omega (arith, most, same)
 
 pub read_then : (n : ℕ) (old mid new : Counts) → CountsRead n old mid → new.taken ≡ mid.taken → CountsRead n old new
@@ -51,10 +50,25 @@ none_for t _ old new none = none
 abbrev pub TookForWork : Table → PlainPlan → Cuts → Counts → Counts → Type 0
 TookForWork t plan cuts old new = TakesNone old new ⊎ TakesInTurns t plan cuts old new
 
-pub turns_then : (t : Table) (plan : PlainPlan) (cuts : Cuts) (old mid new : Counts) → TookForWork t plan cuts old mid → new.taken ≡ mid.taken → TookForWork t plan cuts old new
+turns_then : (t : Table) (plan : PlainPlan) (cuts : Cuts) (old mid new : Counts) → TookForWork t plan cuts old mid → new.taken ≡ mid.taken → TookForWork t plan cuts old new
 turns_then t plan cuts old mid new (inl none) same = inl (same ∙ none)
 turns_then t plan cuts old mid new (inr (form, took)) same =
     inr (form, record { rewriting = took.rewriting; after = took.after; most = most_then (took.after.bytes + bytes_named t (files_of took.rewriting)) old mid new took.most same })
+
+run_then : (t : Table) (planned : Result Run Refusal) (old mid new : Counts) → TakesForRun t planned old mid → new.taken ≡ mid.taken → TakesForRun t planned old new
+run_then t (Ok run) old mid new took same = turns_then t run.plan run.program.cuts old mid new took same
+run_then t (Err why) old mid new none same = same ∙ none
+
+fetch_then : (t : Table) (name : List ℕ) (as_run : Bool) (old mid new : Counts) → TakesForFetch t name as_run old mid → new.taken ≡ mid.taken → TakesForFetch t name as_run old new
+fetch_then t name as_run old mid new (inl none) same = inl (same ∙ none)
+fetch_then t name as_run old mid new (inr (target, planned, (form, took))) same =
+    inr (target, planned, (form, record { rewriting = took.rewriting; after = took.after; most = most_then (took.after.bytes + bytes_named t (files_of took.rewriting)) old mid new took.most same }))
+
+-- no command takes more behind what it took
+pub takes_then : (t : Table) (c : Command) (old mid new : Counts) → TakesFor t c old mid → new.taken ≡ mid.taken → TakesFor t c old new
+takes_then t (command.Run name tree) old mid new took same = run_then t (running t name tree) old mid new took same
+takes_then t (command.Fetch name as_run) old mid new took same = fetch_then t name as_run old mid new took same
+takes_then t _ old mid new none same = same ∙ none
 
 pub took_for : (t : Table) (c : Command) (plan : PlainPlan) (aim : Purpose) (old new : Counts) → IsWorkOf t c plan aim → TookForWork t plan (cuts_for aim) old new → TakesFor t c old new
 took_for t (command.Run name tree) plan (purpose.Run program) old new is took = subst (λ (planned : Result Run Refusal). TakesForRun t planned old new) (sym is) took
@@ -63,26 +77,9 @@ took_for t _ plan _ old new is took = absurd is
 
 -- ---- answers
 
-told_of_none : (given : Answer) (old new : Counts) → TellsOfNoFile given → TakesAsTold given old new
+pub told_of_none : (given : Answer) (old new : Counts) → TellsOfNoFile given → TakesAsTold given old new
 told_of_none (answer.Result rows used kept read) old new none = absurd none
 told_of_none _ old new none = tt
-
--- a result that tells what was read
-told_of : (given : Answer) (bytes : ℕ) (old new : Counts) → CountsRead bytes old new → TellsRead bytes given → TakesAsTold given old new
-told_of (answer.Result rows used kept read) bytes old new counts tells = subst (λ (n : ℕ). CountsRead n old new) (sym tells) counts
-told_of _ bytes old new counts tells = tt
-
-pub told_of_read : (bytes : ℕ) (old new : Counts) → CountsRead bytes old new → (result : Result (FolderSession × Answer) Failed) → IfOk result (λ next. TellsRead bytes next.1) → IfOk result (λ next. TakesAsTold next.1 old new)
-told_of_read bytes old new counts (Ok next) tells = told_of next.1 bytes old new counts tells
-told_of_read bytes old new counts (Err failed) tells = tt
-
-pub tells_given : (bytes : ℕ) (given : Answer) → TellsRead bytes given → (result : Result (FolderSession × Answer) Failed) → IfOk result (λ next. next.1 ≡ given) → IfOk result (λ next. TellsRead bytes next.1)
-tells_given bytes given tells (Ok next) is = subst (TellsRead bytes) (sym is) tells
-tells_given bytes given tells (Err failed) is = tt
-
-pub told_of_any : (old new : Counts) (result : Result (FolderSession × Answer) Failed) → IfOk result (λ next. TellsOfNoFile next.1) → IfOk result (λ next. TakesAsTold next.1 old new)
-told_of_any old new (Ok next) none = told_of_none next.1 old new none
-told_of_any old new (Err failed) none = tt
 
 pub of_no_file : (given : Answer) → TellsOfNoFile given → (result : Result (FolderSession × Answer) Failed) → IfOk result (λ next. next.1 ≡ given) → IfOk result (λ next. TellsOfNoFile next.1)
 of_no_file given none (Ok next) is = subst TellsOfNoFile (sym is) none

@@ -1,9 +1,8 @@
 -- Work that is recorded: its files, and what is known of its change.
-use Rattle.std.proofs.Common.{◌≡◌, ℕ, ◌+◌, ◌^◌, ◌≤◌, false, List, [], ◌∷◌, length, Option, Result, Ok, Err, IfOk, sym, ap, ◌∙◌, subst, arith}
+use Rattle.std.proofs.Common.{◌≡◌, ℕ, ◌+◌, ◌^◌, ◌≤◌, false, List, [], ◌∷◌, length, Option, sym, ap, ◌∙◌, subst, arith}
 use Rattle.std.specs.List.{AllByRecursion}
 use Rattle.std.proofs.lemmas.List.{length-map}
 use Rattle.outside_traits.specs.View.{View, Now, Only}
-use Rattle.outside_traits.specs.declared.failed.Failed.{Failed}
 use Rattle.row_blob.specs.Spelling.{kept_spelling}
 use Rattle.catalog_types.specs.PlainEntry.{PlainNewEntry}
 use Rattle.catalog_types.specs.declared.change.Change.{Change}
@@ -18,12 +17,6 @@ use Rattle.folder.specs.Replay.{is_checkpoint}
 use Rattle.folder.specs.State.{Stream}
 use Rattle.folder.specs.Written.{AreWritten}
 use Rattle.planning.specs.Recorded.{IsRecordOf}
-use Rattle.script_text.specs.Answer.{IsNarrow}
-use Rattle.script_text.specs.declared.answer.Answer.{Answer}
-use Rattle.script_text.specs.declared.answer.Answer.TheVariants as answer
-use Rattle.script_text.specs.declared.answer.Refusal.{Refusal}
-use Rattle.script_text.specs.declared.answer.Refusal.TheVariants as refusal
-use Rattle.folder_session.specs.declared.session.FolderSession.{FolderSession}
 use Rattle.work_plan.specs.Planning.{IsWorkPlan}
 use Rattle.work_plan.specs.declared.work.WorkPlan.{WorkPlan}
 use Rattle.work_run.specs.Ends.{AreNewFiles}
@@ -77,19 +70,3 @@ module _ (t : Table) (program : Option Program) (used dropped : List ℕ) (mades
 
   pub no_checkpoint : is_checkpoint plan.change ≡ false
   no_checkpoint = ap is_checkpoint is.change
-
--- ---- an answer that is a result
-
-pub narrow_given : (given : Answer) → IsNarrow given → (result : Result (FolderSession × Answer) Failed) → IfOk result (λ next. next.1 ≡ given) → IfOk result (λ next. IsNarrow next.1)
-narrow_given given narrow (Ok next) is = subst IsNarrow (sym is) narrow
-narrow_given given narrow (Err failed) is = tt
-
--- it is no refusal
-pub no_want : (given : Answer) → ((why : Refusal) → given ≡ answer.Refused why → ⊥) → (result : Result (FolderSession × Answer) Failed) → IfOk result (λ next. next.1 ≡ given) → IfOk result (λ next. (why : Refusal) → next.1 ≡ answer.Refused why → why ≡ refusal.Memory)
-no_want given none (Ok next) is = λ why refused. absurd (none why (sym is ∙ refused))
-no_want given none (Err failed) is = tt
-
--- want of memory is no failed read
-pub no_fault_behind : (X : Type 0) (result : Result (FolderSession × Answer) Failed) → IfOk result (λ next. (why : Refusal) → next.1 ≡ answer.Refused why → why ≡ refusal.Memory) → IfOk result (λ next. next.1 ≡ answer.Refused refusal.Fault → X)
-no_fault_behind X (Ok next) only = λ is. (let none = only refusal.Fault is in absurd (cc))
-no_fault_behind X (Err failed) only = tt

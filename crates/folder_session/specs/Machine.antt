@@ -55,25 +55,24 @@ appended s (Err why) = refused s why
 
 -- ---- working a plan off, at a cut
 
--- The rows are the meaning of the plan as it is written, on the extents of the cut, whatever is kept and whatever of it is damaged,
--- while these kept results are held; or it is refused for an overflow, or for a machine time above its limit. A refusal leaves the
--- state.
-abbrev pub IsWorkOn : Care → List ℕ → State → Option Program → PlainPlan → Cuts → Answer → State → Type 0
-IsWorkOn care held s program plan cuts (answer.Result rows used kept read) new =
-    (form : PlainPlan) × WorksInTurns care held s program plan form cuts (working.given rows used kept read) new
-IsWorkOn care held s program plan cuts (answer.Refused refusal.Overflow) new = Overflows s plan cuts × (new ≡ s)
-IsWorkOn care held s program plan cuts (answer.Refused (refusal.Limit limit.Machine)) new = IsDear s plan cuts × (new ≡ s)
-IsWorkOn care held s program plan cuts _ new = ⊥
+-- The rows are the meaning of the plan as it is written, on the extents of the cut, whatever is kept and whatever of it is damaged;
+-- or it is refused for an overflow, or for a machine time above its limit. A refusal leaves the state.
+abbrev pub IsWorkOn : Care → State → Option Program → PlainPlan → Cuts → Answer → State → Type 0
+IsWorkOn care s program plan cuts (answer.Result rows used kept read) new =
+    (form : PlainPlan) × WorksInTurns care s program plan form cuts (working.given rows used kept read) new
+IsWorkOn care s program plan cuts (answer.Refused refusal.Overflow) new = Overflows s plan cuts × (new ≡ s)
+IsWorkOn care s program plan cuts (answer.Refused (refusal.Limit limit.Machine)) new = IsDear s plan cuts × (new ≡ s)
+IsWorkOn care s program plan cuts _ new = ⊥
 
 -- a run works its plan off on all extents, and the name then stands for the plan and these extents
-abbrev pub RunsTo : Care → List ℕ → State → Result Run Refusal → Outcome → Type 0
-RunsTo care held s (Ok run) given = IsWorkOn care held s (Some run.program) run.plan run.program.cuts given.answer given.state
-RunsTo care held s (Err why) given = given ≡ refused s why
+abbrev pub RunsTo : Care → State → Result Run Refusal → Outcome → Type 0
+RunsTo care s (Ok run) given = IsWorkOn care s (Some run.program) run.plan run.program.cuts given.answer given.state
+RunsTo care s (Err why) given = given ≡ refused s why
 
 -- a fetch works off the plan that goes by a name, on all extents or on those of its last run; the name goes on standing for it
-abbrev pub FetchesTo : Care → List ℕ → State → Result Target Refusal → Outcome → Type 0
-FetchesTo care held s (Ok target) given = IsWorkOn care held s None target.plan target.cuts given.answer given.state
-FetchesTo care held s (Err why) given = given ≡ refused s why
+abbrev pub FetchesTo : Care → State → Result Target Refusal → Outcome → Type 0
+FetchesTo care s (Ok target) given = IsWorkOn care s None target.plan target.cuts given.answer given.state
+FetchesTo care s (Err why) given = given ≡ refused s why
 
 -- ---- kept results
 
@@ -107,13 +106,19 @@ IsOfJobs (command.Close job) = ⊤
 IsOfJobs (command.DropJob job) = ⊤
 IsOfJobs _ = ⊥
 
--- What the machine does where there is memory and the file of each extent is read, while these kept results are held. So much is known
--- of the files: only a kept result whose file may show damage may be dropped.
+-- it works a plan off
+abbrev pub IsWork : Command → Type 0
+IsWork (command.Run name tree) = ⊤
+IsWork (command.Fetch name as_run) = ⊤
+IsWork _ = ⊥
+
+-- What the machine does where there is memory and the file of each extent is read, while these kept results are held, which no
+-- collection evicts. So much is known of the files: only a kept result whose file may show damage may be dropped.
 abbrev pub Performs : Care → List ℕ → State → Command → Outcome → Type 0
 Performs care held s (command.Stream name columns) given = given ≡ made s name columns (making (table s) name columns)
 Performs care held s (command.Append name lines) given = (plan : Result Append Refusal) × IsAppending (table s) name lines plan × (given ≡ appended s plan)
-Performs care held s (command.Run name tree) given = RunsTo care held s (running (table s) name tree) given
-Performs care held s (command.Fetch name as_run) given = (planned : Result Target Refusal) × IsFetching (table s) name as_run planned × FetchesTo care held s planned given
+Performs care held s (command.Run name tree) given = RunsTo care s (running (table s) name tree) given
+Performs care held s (command.Fetch name as_run) given = (planned : Result Target Refusal) × IsFetching (table s) name as_run planned × FetchesTo care s planned given
 Performs care held s (command.Collect reclaim) given = CollectsTo (nat_le most_ticks s.tick) held s reclaim given
 Performs care held s command.Entries given = given ≡ outcome (told_entries (table s)) s
 Performs care held s command.Catalog given = given ≡ outcome (told_catalog (table s)) s
@@ -151,6 +156,6 @@ abbrev pub Step : Care → List ℕ → State → Command → Answer → State �
 Step care held old given_to given new = Performs care held old given_to (outcome given new) ⊎ ((why : Refusal) × IsEvent care old given_to why × (outcome given new ≡ refused old why))
 
 -- the same of work
-abbrev pub WorkStep : Care → List ℕ → State → Option Program → PlainPlan → Cuts → Answer → State → Type 0
-WorkStep care held old program plan cuts given new =
-    IsWorkOn care held old program plan cuts given new ⊎ ((why : Refusal) × IsFileEvent care old why × IsOfExtent (table old) why × (outcome given new ≡ refused old why))
+abbrev pub WorkStep : Care → State → Option Program → PlainPlan → Cuts → Answer → State → Type 0
+WorkStep care old program plan cuts given new =
+    IsWorkOn care old program plan cuts given new ⊎ ((why : Refusal) × IsFileEvent care old why × IsOfExtent (table old) why × (outcome given new ≡ refused old why))

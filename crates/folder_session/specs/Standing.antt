@@ -1,14 +1,11 @@
 -- How a session stands to its store, and what a step does to both.
-use Rattle.std.specs.Prelude.{◌≡◌, ◌⊎◌, ℕ, ◌≤◌, false, List, Option, ⊤}
+use Rattle.std.specs.Prelude.{◌≡◌, ◌⊎◌, ℕ, ◌≤◌, false, List, ⊤}
 use Rattle.std.specs.List.{Contains}
 use Rattle.outside_traits.specs.Counts.{Rose}
 use Rattle.outside_traits.specs.Runs.{Narrows, Spans}
 use Rattle.outside_traits.specs.View.{View, Counts}
-use Rattle.plan_core.specs.PlainPlan.{PlainPlan}
-use Rattle.estimator.specs.Cuts.{Cuts}
 use Rattle.catalog_core.specs.Table.{Table}
 use Rattle.catalog_types.specs.PlainEntry.{PlainEntry}
-use Rattle.catalog_types.specs.declared.program.Program.{Program}
 use Rattle.entry_table.specs.Ids.{is_there}
 use Rattle.script_text.specs.declared.answer.Answer.{Answer}
 use Rattle.script_text.specs.declared.answer.Answer.TheVariants.{Refused}
@@ -22,7 +19,7 @@ use Rattle.folder.specs.declared.folder.Folder.{Folder}
 use Rattle.journal_store.specs.Journals.{generation_of}
 use Rattle.journal_store.specs.Readings.{generation_file}
 use Rattle.folder_session.specs.declared.session.FolderSession.{FolderSession}
-use Rattle.folder_session.specs.Machine.{Step, WorkStep}
+use Rattle.folder_session.specs.Machine.{Step}
 
 abbrev pub folder_of : FolderSession → Folder
 folder_of session = session.folder
@@ -54,22 +51,6 @@ pub record Records (care : Care) (u v : View) (session : FolderSession) (s new :
   pub stands : Stands care v session new
   pub since : Since care s new u v
 
--- work was worked off, or was refused: the session means the state after it, and each crash since leaves the one before or that
-pub record WorksOff (care : Care) (u v : View) (held : List ℕ) (session : FolderSession) (s : State) (program : Option Program) (plan : PlainPlan) (cuts : Cuts) (given : Answer) : Type 0 where
-  pub new : State
-  pub step : WorkStep care held s program plan cuts given new
-  pub stands : Stands care v session new
-  pub since : Since care s new u v
-
--- the store failed in the work
-pub record BreaksOff (care : Care) (u v : View) (held : List ℕ) (s : State) (program : Option Program) (plan : PlainPlan) (cuts : Cuts) : Type 0 where
-  pub answer : Answer
-  pub new : State
-  pub step : WorkStep care held s program plan cuts answer new
-  pub recorded : Follows s new
-  pub since : Since care s new u v
-  pub left : IsLeftWith care v s new
-
 -- the store failed while it was recorded, or before
 pub record KeepsNot (care : Care) (u v : View) (s new : State) : Type 0 where
   pub recorded : Follows s new
@@ -87,10 +68,6 @@ IsLogInUse folder file = file ≡ generation_file (generation_of (journal_of fol
 -- the log in use, and files that no state names yet
 abbrev pub IsWritten : Folder → ℕ → Type 0
 IsWritten folder file = IsLogInUse folder file ⊎ ((table_in folder).next_file ≤ file)
-
--- no other file is changed, nor what a crash since leaves of one
-abbrev pub WritesAtMost : Folder → View → View → Type 0
-WritesAtMost folder u v = Spans (IsWritten folder) (λ image. Unit {0}) u v
 
 -- the log in use, and the next file
 abbrev pub IsAppended : Folder → ℕ → Type 0

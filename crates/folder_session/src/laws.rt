@@ -26,8 +26,8 @@ pub fn files_are_read()
         → Step Whole held s given_to (Answer.Refused (Refusal.Damaged file kept found)) new → ⊥ }
     ensures unreadable { (care : Care) (held : List ℕ) (s new : State) (given_to : Command) (file at : ℕ)
         → Step care held s given_to (Answer.Refused (Refusal.Unreadable file at)) new → ⊥ }
-    ensures none_lost { (held : List ℕ) (s new : State) (program : Option Program) (plan form : PlainPlan)
-        (cuts : Cuts) (given : Given) → (works : WorksInTurns Whole held s program plan form cuts given new)
+    ensures none_lost { (s new : State) (program : Option Program) (plan form : PlainPlan)
+        (cuts : Cuts) (given : Given) → (works : WorksInTurns Whole s program plan form cuts given new)
         → works.lost ≡ [] }
 {}
 

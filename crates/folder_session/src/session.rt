@@ -28,9 +28,8 @@ ghost use Rattle.script_text.specs.Answer.{IsNarrow};
 ghost use Rattle.script_text.specs.Script.{IsWhole};
 ghost use Rattle.script_text.specs.declared.answer.Refusal.{Refusal};
 ghost use Rattle.script_text.specs.declared.item.Command.TheVariants as command;
-ghost use Rattle.folder_session.specs.Machine.{Step, IsOfJobs};
-ghost use Rattle.folder_session.specs.Causes.{TellsOfNoFile, HasByteCause};
-ghost use Rattle.folder_session.specs.Taken.{TakesAsTold, TakesFor};
+ghost use Rattle.folder_session.specs.Machine.{IsOfJobs, IsWork};
+ghost use Rattle.folder_session.specs.Causes.{TellsOfNoFile};
 
 use catalog_core::{Catalog, CatalogRefusal};
 use catalog_types::Change;
@@ -124,11 +123,10 @@ impl FolderSession {
         self.folder.catalog()
     }
 
-    /// Performs a command that concerns no job, while jobs hold the kept results with these ids, and answers
-    /// it. A run or a fetch drops the results whose files it found damaged, but those that are held. A refused
-    /// command changes nothing. All memory is taken before the first write; from then on only a failed write or
-    /// sync ends the command, which is `Failed`: then the store is left with the state before the command and the
-    /// one after it.
+    /// Performs a command that concerns no job and works nothing off, while jobs hold the kept results with these
+    /// ids, and answers it. A refused command changes nothing. All memory is taken before the first write; from
+    /// then on only a failed write or sync ends the command, which is `Failed`: then the store is left with the
+    /// state before the command and the one after it. It takes no byte of a file, and no look fails.
     pub fn step<D: Store>(
         self,
         store: &mut D,
@@ -137,14 +135,15 @@ impl FolderSession {
     ) -> Result<(FolderSession, Answer), Failed>
         requires whole { IsWhole command }
         requires of_folder { IsOfJobs command → ⊥ }
+        requires no_work { IsWork command → ⊥ }
         ensures ok { IsTrue D.tells → (care : Care) (s : State) → Stands care (D.view store.old) self s
             → IfOk result
             (λ next. Performs care (D.view store.old) (D.view store.new) held.now next.0 s command next.1) }
         ensures err { IsTrue D.tells → (care : Care) (s : State) → Stands care (D.view store.old) self s
             → OnErr result (Breaks care (D.view store.old) (D.view store.new) held.now s command) }
         ensures narrow { IfOk result (λ next. IsNarrow next.1) }
-        // Whatever the answer, only the log in use and files that no state names yet are written, by an
-        // append the next one alone, and only files of kept results are removed.
+        // Whatever the answer, only the log in use is written and, by an append, the next file, and only files
+        // of kept results are removed.
         ensures alone { ChangesAtMost (folder_of self) command (D.view store.old) (D.view store.new) }
         // No file of a kept result that went is there, unless a removal failed.
         ensures gone { IsTrue D.tells → IfOk result (λ next. AreGoneSince (table_in (folder_of self))
@@ -157,42 +156,23 @@ impl FolderSession {
         // A refused command changes no file: at most it has read.
         ensures refused { IfOk result
             (λ next. LeavesWhereRefused next.1 (D.view store.old) (D.view store.new)) }
-        ensures fault { IfOk result (λ next. next.1 ≡ Answer.Refused Refusal.Fault
-            → Rose (D.counts store.old).reads (D.counts store.new).reads) }
-        // A failed look is told: after any other answer, and after `Failed`, none has failed.
-        ensures only_fault { IfOk result (λ next. (next.1 ≡ Answer.Refused Refusal.Fault → ⊥)
-            → (D.counts store.new).reads ≡ (D.counts store.old).reads) }
-        ensures looks { OnErr result ((D.counts store.new).reads ≡ (D.counts store.old).reads) }
-        // Where the store tells its files, damage and unreadable bytes are those of an extent's file that a run
-        // or a fetch reads.
-        ensures found { IsTrue D.tells → IfOk result (λ next. HasByteCause (table_in (folder_of self)) command
-            (D.view store.old).files next.1) }
-        // A result has taken the bytes that it tells, and no command more than the files that it reads in its
-        // turns have.
-        ensures taken { IsTrue D.tells → (care : Care) (s : State) → Stands care (D.view store.old) self s
-            → IfOk result (λ next. TakesAsTold next.1 (D.counts store.old) (D.counts store.new)) }
-        ensures most { IsTrue D.tells
-            → TakesFor (table_in (folder_of self)) command (D.counts store.old) (D.counts store.new) }
+        ensures of_no_file { IfOk result (λ next. TellsOfNoFile next.1) }
         // Also on a store that isn't left each crash leaves logs that read as the session's table.
         ensures crash { IsTrue D.tells → FolderStands (D.view store.old) (folder_of self)
             → IfOk result (λ next. FolderStands (D.view store.new) (folder_of next.0)) }
+        ensures reads { (D.counts store.new).reads ≡ (D.counts store.old).reads }
+        ensures taken { (D.counts store.new).taken ≡ (D.counts store.old).taken }
         ensures counts { Rises (D.counts store.old) (D.counts store.new) }
     {
         match command {
             Command::Stream { name, columns } => self.make(store, name, columns),
             Command::Append { name, lines } => self.append(store, name, lines),
-            Command::Run { name, plan } => {
-                let wanted = self.want_run(name, &plan);
-                self.work(store, wanted, held)
-            }
-            Command::Fetch { name, as_run } => {
-                let wanted = self.want_fetch(name, as_run);
-                self.work(store, wanted, held)
-            }
             Command::Collect { bytes } => self.collect(store, bytes, held),
             Command::Entries => Ok(self.tell_entries()),
             Command::Catalog => Ok(self.tell_catalog()),
-            Command::OpenJob { .. }
+            Command::Run { .. }
+            | Command::Fetch { .. }
+            | Command::OpenJob { .. }
             | Command::Step { .. }
             | Command::Close { .. }
             | Command::DropJob { .. } => unreachable!(),

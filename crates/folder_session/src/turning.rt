@@ -1,5 +1,5 @@
 //! Plans that are read in turns.
-ghost use Rattle.std.specs.Prelude.{◌≡◌, ◌⊎◌, ℕ, List, Option, IsTrue, IfOk, IfErr, IsErrOf, OnOk};
+ghost use Rattle.std.specs.Prelude.{◌≡◌, ◌⊎◌, Option, IsTrue, IfOk, IfErr, IsErrOf, OnOk};
 ghost use Rattle.outside_traits.specs.Counts.{Rose};
 ghost use Rattle.outside_traits.specs.View.{View, Counts};
 ghost use Rattle.outside_traits.specs.Calls.{MayRaiseReads};
@@ -43,8 +43,8 @@ pub(crate) fn read_in_turns<D: Store>(
     ensures ok { IsTrue D.tells → (care : Care) (s : State) → IsLeft care (D.view store.old) s s
         → table_of catalog.now ≡ table s → IfOk result (EndsInTurns care s typed.plan cuts.now) }
     ensures err { IsTrue D.tells → (care : Care) (s : State) → IsLeft care (D.view store.old) s s
-        → table_of catalog.now ≡ table s → IfErr result (λ why. (held : List ℕ) (program : Option Program)
-        → WorkStep care held s program typed.plan cuts.now (Answer.Refused why) s) }
+        → table_of catalog.now ≡ table s → IfErr result (λ why. (program : Option Program)
+        → WorkStep care s program typed.plan cuts.now (Answer.Refused why) s) }
     ensures told { IfOk result (IsToldLast (table_of catalog.now)) }
     ensures taken { IsTrue D.tells → (care : Care) (s : State) → IsLeft care (D.view store.old) s s
         → table_of catalog.now ≡ table s

@@ -2,7 +2,9 @@
 ghost use Rattle.std.specs.Prelude.{◌≡◌, IfOk, IsErrOf};
 ghost use Rattle.plan_grammar.specs.Counts.{IsWithinLimits};
 ghost use Rattle.folder.specs.Folders.{table_in};
+ghost use Rattle.script_text.specs.Script.{IsWhole};
 ghost use Rattle.script_text.specs.declared.item.Command.TheVariants as command;
+ghost use Rattle.folder_session.specs.Machine.{IsWork};
 ghost use Rattle.folder_session.specs.Wanted.{CanWork, IsWanted, cuts_for, program_for};
 
 use crate::session::FolderSession;
@@ -11,7 +13,7 @@ use plan_core::Typed;
 use plan_text::NamedPlan;
 use planning::{FetchPlan, RunPlan, plan_fetch, plan_run};
 use rows_core::{Cut, Name, Seq};
-use script_text::Refusal;
+use script_text::{Command, Refusal};
 
 /// A plan, and what it is worked off for.
 #[derive(Drop)]
@@ -54,8 +56,31 @@ impl Purpose {
 impl FolderSession {
     ghost use Rattle.folder_session.specs.Standing.{folder_of};
 
-    /// What a run of a plan works off, on all extents, or why it is refused before.
-    pub(crate) fn want_run(&self, name: Name, plan: &NamedPlan) -> Result<Wanted, Refusal>
+    /// What a run or a fetch works off, or why it is refused before.
+    pub(crate) fn wanted(&self, command: Command) -> Result<Wanted, Refusal>
+        requires whole { IsWhole command }
+        requires work { IsWork command }
+        ensures ready { IfOk result (CanWork (table_in (folder_of self.now))) }
+        ensures wanted { IsWanted (table_in (folder_of self.now)) command result }
+        ensures no_fault { IsErrOf result Refusal.Fault → ⊥ }
+    {
+        match command {
+            Command::Run { name, plan } => self.want_run(name, &plan),
+            Command::Fetch { name, as_run } => self.want_fetch(name, as_run),
+            Command::Stream { .. }
+            | Command::Append { .. }
+            | Command::Collect { .. }
+            | Command::Entries
+            | Command::Catalog
+            | Command::OpenJob { .. }
+            | Command::Step { .. }
+            | Command::Close { .. }
+            | Command::DropJob { .. } => unreachable!(),
+        }
+    }
+
+    // What a run of a plan works off, on all extents, or why it is refused before.
+    fn want_run(&self, name: Name, plan: &NamedPlan) -> Result<Wanted, Refusal>
         requires { IsWithinLimits plan.now }
         ensures ready { IfOk result (CanWork (table_in (folder_of self.now))) }
         ensures wanted { IsWanted (table_in (folder_of self.now)) (command.Run name plan.now) result }
@@ -70,9 +95,9 @@ impl FolderSession {
         }
     }
 
-    /// What a fetch of the plan that goes by a name works off, on all extents or, `as_run`, on those of its last
-    /// run, or why it is refused before. The name goes on standing for it as it did.
-    pub(crate) fn want_fetch(&self, name: Name, as_run: bool) -> Result<Wanted, Refusal>
+    // What a fetch of the plan that goes by a name works off, on all extents or, `as_run`, on those of its last
+    // run, or why it is refused before. The name goes on standing for it as it did.
+    fn want_fetch(&self, name: Name, as_run: bool) -> Result<Wanted, Refusal>
         ensures ready { IfOk result (CanWork (table_in (folder_of self.now))) }
         ensures wanted { IsWanted (table_in (folder_of self.now)) (command.Fetch name as_run) result }
         ensures no_fault { IsErrOf result Refusal.Fault → ⊥ }

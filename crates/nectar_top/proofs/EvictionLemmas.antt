@@ -17,7 +17,7 @@ use Rattle.planning.specs.Making.{making}
 use Rattle.planning.specs.Opening.{opening}
 use Rattle.planning.specs.Running.{Run, Target, running, storing}
 use Rattle.work_run.specs.Working.{Given, Keeps}
-use Rattle.work_turns.specs.Ends.{WorksInTurns, free_of, leaving_out, those_among}
+use Rattle.work_turns.specs.Ends.{WorksInTurns, leaving_out, those_among}
 use Rattle.rewrite_core.specs.PlainRewriting.{PlainRewriting}
 use Rattle.script_text.specs.declared.answer.Answer.{Answer}
 use Rattle.script_text.specs.declared.answer.Answer.TheVariants as answer
@@ -37,7 +37,7 @@ use Rattle.folder.specs.declared.folder.Folder.{Folder}
 use Rattle.folder.proofs.Tables.{stands-table}
 use Rattle.folder_session.specs.Machine as folder
 use Rattle.folder_session.specs.Standing as of_folder
-use Rattle.session.specs.Machine.{Machine, Outcome, outcome, job_named, is_open, held_by, put_for, OpensTo, StepsTo, IsClosing, ClosesBy, ClosesTo, DropsTo, Performs, PerformsBeside, Remains}
+use Rattle.session.specs.Machine.{Machine, Outcome, outcome, job_named, is_open, OpensTo, StepsTo, IsClosing, ClosesBy, ClosesTo, DropsTo, Performs, PerformsBeside, WorksBeside, Remains}
 use Rattle.session.specs.MachineJob.{Job}
 use Rattle.session.specs.Machine as session
 use Rattle.session.specs.Standing.{folder_of}
@@ -63,22 +63,22 @@ kept_free : (s new : State) (program : Option Program) (used gone : List ℕ) (f
 kept_free s new program used gone form cuts r news kept keeps after =
     subst (LetsGo s) (sym after) (free_work s program used (those_among gone s.entries) news (news_from (without gone s.entries) s.next_file keeps.mades keeps.admitted news keeps.admits keeps.news_are))
 
-worked_in_turns : (care : Care) (held : List ℕ) (s new : State) (program : Option Program) (plan form : PlainPlan) (cuts : Cuts) (is : Given) → WorksInTurns care held s program plan form cuts is new → LetsGo s new
-worked_in_turns care held s new program plan form cuts is works = kept_free s new program is.used (free_of held works.lost) form cuts works.rewriting works.news is.kept works.keeps works.after
+worked_in_turns : (care : Care) (s new : State) (program : Option Program) (plan form : PlainPlan) (cuts : Cuts) (is : Given) → WorksInTurns care s program plan form cuts is new → LetsGo s new
+worked_in_turns care s new program plan form cuts is works = kept_free s new program is.used works.lost form cuts works.rewriting works.news is.kept works.keeps works.after
 
-worked_free : (care : Care) (held : List ℕ) (s new : State) (program : Option Program) (plan : PlainPlan) (cuts : Cuts) (a : Answer) → folder.IsWorkOn care held s program plan cuts a new → LetsGo s new
-worked_free care held s new program plan cuts (answer.Result rows used kept read) works = worked_in_turns care held s new program plan works.0 cuts _ works.1
-worked_free care held s new program plan cuts (answer.Refused refusal.Overflow) over = free_same s new over.1
-worked_free care held s new program plan cuts (answer.Refused (refusal.Limit limit.Machine)) dear = free_same s new dear.1
-worked_free care held s new program plan cuts _ works = absurd works
+worked_free : (care : Care) (s new : State) (program : Option Program) (plan : PlainPlan) (cuts : Cuts) (a : Answer) → folder.IsWorkOn care s program plan cuts a new → LetsGo s new
+worked_free care s new program plan cuts (answer.Result rows used kept read) works = worked_in_turns care s new program plan works.0 cuts _ works.1
+worked_free care s new program plan cuts (answer.Refused refusal.Overflow) over = free_same s new over.1
+worked_free care s new program plan cuts (answer.Refused (refusal.Limit limit.Machine)) dear = free_same s new dear.1
+worked_free care s new program plan cuts _ works = absurd works
 
-ran_free : (care : Care) (held : List ℕ) (s new : State) (a : Answer) (planned : Result Run Refusal) → folder.RunsTo care held s planned (folder.outcome a new) → LetsGo s new
-ran_free care held s new a (Ok run) works = worked_free care held s new (Some run.program) run.plan run.program.cuts a works
-ran_free care held s new a (Err why) is = free_same s new (ap (λ (o : folder.Outcome). o.state) is)
+ran_free : (care : Care) (s new : State) (a : Answer) (planned : Result Run Refusal) → folder.RunsTo care s planned (folder.outcome a new) → LetsGo s new
+ran_free care s new a (Ok run) works = worked_free care s new (Some run.program) run.plan run.program.cuts a works
+ran_free care s new a (Err why) is = free_same s new (ap (λ (o : folder.Outcome). o.state) is)
 
-fetched_free : (care : Care) (held : List ℕ) (s new : State) (a : Answer) (planned : Result Target Refusal) → folder.FetchesTo care held s planned (folder.outcome a new) → LetsGo s new
-fetched_free care held s new a (Ok target) works = worked_free care held s new None target.plan target.cuts a works
-fetched_free care held s new a (Err why) is = free_same s new (ap (λ (o : folder.Outcome). o.state) is)
+fetched_free : (care : Care) (s new : State) (a : Answer) (planned : Result Target Refusal) → folder.FetchesTo care s planned (folder.outcome a new) → LetsGo s new
+fetched_free care s new a (Ok target) works = worked_free care s new None target.plan target.cuts a works
+fetched_free care s new a (Err why) is = free_same s new (ap (λ (o : folder.Outcome). o.state) is)
 
 collected_free : (full : Bool) (held_ids : List ℕ) (s new : State) (a : Answer) (reclaim : ℕ) → folder.CollectsTo full held_ids s reclaim (folder.outcome a new) → LetsGo s new
 collected_free true held_ids s new a reclaim is = free_same s new (ap (λ (o : folder.Outcome). o.state) is)
@@ -87,8 +87,8 @@ collected_free false held_ids s new a reclaim is = subst (LetsGo s) (sym (ap (λ
 folder_free : (care : Care) (held_ids : List ℕ) (s new : State) (c : Command) (a : Answer) → folder.Performs care held_ids s c (folder.outcome a new) → LetsGo s new
 folder_free care held_ids s new (command.Stream name columns) a is = made_free s new a name columns (making (table s) name columns) is
 folder_free care held_ids s new (command.Append name lines) a is = appended_free s new a is.0 is.2
-folder_free care held_ids s new (command.Run name tree) a is = ran_free care held_ids s new a (running (table s) name tree) is
-folder_free care held_ids s new (command.Fetch name as_run) a is = fetched_free care held_ids s new a is.0 is.2
+folder_free care held_ids s new (command.Run name tree) a is = ran_free care s new a (running (table s) name tree) is
+folder_free care held_ids s new (command.Fetch name as_run) a is = fetched_free care s new a is.0 is.2
 folder_free care held_ids s new (command.Collect reclaim) a is = collected_free (nat_le most_ticks s.tick) held_ids s new a reclaim is
 folder_free care held_ids s new command.Entries a is = free_same s new (ap (λ (o : folder.Outcome). o.state) is)
 folder_free care held_ids s new command.Catalog a is = free_same s new (ap (λ (o : folder.Outcome). o.state) is)
@@ -106,7 +106,7 @@ stepped_free care m new a name None is = free_same m.state new.state (ap (λ (o 
 closing_free : (care : Care) (m new : Machine) (a : Answer) (name : List ℕ) (job : Job) → IsClosing care m name job a new → LetsGo m.state new.state
 closing_free care m new (answer.Result rows used kept read) name job closes =
     let works = closes.works in
-    kept_free m.state new.state (Some job.run.program) used (free_of (held_by (put_for name [] m.jobs)) closes.last.noted) job.normal job.run.program.cuts closes.last.rewriting works.news kept works.keeps works.after
+    kept_free m.state new.state (Some job.run.program) used closes.last.noted job.normal job.run.program.cuts closes.last.rewriting works.news kept works.keeps works.after
 closing_free care m new (answer.Refused refusal.Overflow) name job over = free_same m.state new.state (ap (λ (x : Machine). x.state) over.1.2)
 closing_free care m new (answer.Refused (refusal.Limit limit.Machine)) name job dear = free_same m.state new.state (ap (λ (x : Machine). x.state) dear.1.2)
 closing_free care m new _ name job closes = absurd closes
@@ -126,11 +126,16 @@ dropped_free m new a name None is = free_same m.state new.state (ap (λ (o : Out
 beside_free : (care : Care) (m new : Machine) (c : Command) (a : Answer) → PerformsBeside care m c (outcome a new) → LetsGo m.state new.state
 beside_free care m new c a beside = folder_free care (session.held_by m.jobs) m.state new.state c a beside.of_folder
 
+working_free : (care : Care) (m new : Machine) (c : Command) (a : Answer) → WorksBeside care m c (outcome a new) → LetsGo m.state new.state
+working_free care m new c a beside = folder_free care (session.held_by m.jobs) m.state new.state c a beside.of_folder
+
 performed_free : (care : Care) (m new : Machine) (c : Command) (a : Answer) → Performs care m c (outcome a new) → LetsGo m.state new.state
 performed_free care m new (command.OpenJob job name tree) a is = opened_free m new a job (opening (table m.state) (is_open m.jobs job) (length m.jobs) job name tree) is
 performed_free care m new (command.Step job) a is = stepped_free care m new a job (job_named m.jobs job) is
 performed_free care m new (command.Close job) a is = closed_free care m new a job (job_named m.jobs job) is
 performed_free care m new (command.DropJob job) a is = dropped_free m new a job (job_named m.jobs job) is
+performed_free care m new (command.Run name tree) a is = working_free care m new (command.Run name tree) a is
+performed_free care m new (command.Fetch name as_run) a is = working_free care m new (command.Fetch name as_run) a is
 performed_free care m new c a is = beside_free care m new c a is
 
 -- an event leaves the state

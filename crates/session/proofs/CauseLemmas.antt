@@ -18,9 +18,11 @@ use Rattle.folder_session.specs.Machine.{IsFileEvent}
 use Rattle.folder_session.specs.Refusals.{IsRefusedOn}
 use Rattle.folder_session.specs.Refusals as of_folder_refused
 use Rattle.folder_session.proofs.OutcomeLemmas as of_folder
-use Rattle.session.specs.Machine.{Machine, Outcome, outcome, refused, is_open, job_named, OpensTo, StepsTo, ClosesTo, ClosesBy, IsClosing, LeavesRead, DropsTo, Performs, PerformsBeside, HasGoneOn, IsEvent, Remains, Step, held_by}
+use Rattle.session.specs.Machine.{Machine, Outcome, gone_between, outcome, refused, is_open, job_named, OpensTo, StepsTo, ClosesTo, ClosesBy, IsClosing, LeavesRead, DropsTo, Performs, PerformsBeside, WorksBeside, HasGoneOn, IsEvent, Remains, Step, held_by}
 use Rattle.session.specs.MachineJob.{Job, stepped}
 use Rattle.session.specs.Refusals.{IsUnknown, IsClosingRefused, IsCloseRefused, IsRefusedFor}
+use Rattle.session.proofs.GoneLemmas.{gone_by_none}
+use Rattle.session.proofs.LeavingJobs.{none_chosen}
 use Rattle.session.proofs.SparingLemmas.{never_refused, performed_spares, step_spares}
 
 -- what is refused for one reason isn't refused for another
@@ -57,6 +59,9 @@ module _ (m new : Machine) (why : Refusal) where
   beside_cause : (care : Care) (c : Command) → PerformsBeside care m c (outcome (answer.Refused why) new) → of_folder_refused.IsRefusedFor m.state c why
   beside_cause care c beside = of_folder.cause_of care (held_by m.jobs) m.state new.state c why beside.of_folder
 
+  working_cause : (care : Care) (c : Command) → WorksBeside care m c (outcome (answer.Refused why) new) → of_folder_refused.IsRefusedFor m.state c why
+  working_cause care c beside = of_folder.cause_of care (held_by m.jobs) m.state new.state c why beside.of_folder
+
   pub cause_of : (care : Care) (c : Command) → Performs care m c (outcome (answer.Refused why) new) → IsRefusedFor m c why
   cause_of care (command.OpenJob job name tree) is = opened_cause job (opening (table m.state) (is_open m.jobs job) (length m.jobs) job name tree) is
   cause_of care (command.Step job) is = stepped_cause care job (job_named m.jobs job) is
@@ -64,8 +69,8 @@ module _ (m new : Machine) (why : Refusal) where
   cause_of care (command.DropJob job) is = dropped_cause job (job_named m.jobs job) is
   cause_of care (command.Stream name columns) is = beside_cause care (command.Stream name columns) is
   cause_of care (command.Append name lines) is = beside_cause care (command.Append name lines) is
-  cause_of care (command.Run name tree) is = beside_cause care (command.Run name tree) is
-  cause_of care (command.Fetch name as_run) is = beside_cause care (command.Fetch name as_run) is
+  cause_of care (command.Run name tree) is = working_cause care (command.Run name tree) is
+  cause_of care (command.Fetch name as_run) is = working_cause care (command.Fetch name as_run) is
   cause_of care (command.Collect reclaim) is = beside_cause care (command.Collect reclaim) is
   cause_of care command.Entries is = beside_cause care command.Entries is
   cause_of care command.Catalog is = beside_cause care command.Catalog is
@@ -93,6 +98,12 @@ module _ (m new : Machine) (why : Refusal) where
       let state = of_folder.state_kept care (held_by m.jobs) m.state new.state c why (inl beside.of_folder) in
       λ i. record { state = state i; jobs = beside.jobs i }
 
+  working_left : (care : Care) (c : Command) → WorksBeside care m c (outcome (answer.Refused why) new) → new ≡ m
+  working_left care c beside =
+      let state = of_folder.state_kept care (held_by m.jobs) m.state new.state c why (inl beside.of_folder) in
+      let jobs = none_chosen m.state (gone_between m.state new.state) (gone_by_none m.state new.state state) m.jobs new.jobs beside.jobs in
+      λ i. record { state = state i; jobs = jobs i }
+
 closing_left : (care : Care) (m new : Machine) (why : Refusal) (name : List ℕ) (job : Job) (planned : Result Run Refusal) → ClosesBy care m name job planned (outcome (answer.Refused why) new)
     → (new ≡ m) ⊎ ((new.state ≡ m.state) × HasGoneOn care m.state name m.jobs (Some job) new.jobs)
 closing_left care m new why name job (Ok run) is =
@@ -112,8 +123,8 @@ unchanged care m new (command.Close job) why (inl is) = closed_left care m new w
 unchanged care m new (command.DropJob job) why (inl is) = dropped_left m new why job (job_named m.jobs job) is
 unchanged care m new (command.Stream name columns) why (inl is) = beside_left m new why care (command.Stream name columns) is
 unchanged care m new (command.Append name lines) why (inl is) = beside_left m new why care (command.Append name lines) is
-unchanged care m new (command.Run name tree) why (inl is) = beside_left m new why care (command.Run name tree) is
-unchanged care m new (command.Fetch name as_run) why (inl is) = beside_left m new why care (command.Fetch name as_run) is
+unchanged care m new (command.Run name tree) why (inl is) = working_left m new why care (command.Run name tree) is
+unchanged care m new (command.Fetch name as_run) why (inl is) = working_left m new why care (command.Fetch name as_run) is
 unchanged care m new (command.Collect reclaim) why (inl is) = beside_left m new why care (command.Collect reclaim) is
 unchanged care m new command.Entries why (inl is) = beside_left m new why care command.Entries is
 unchanged care m new command.Catalog why (inl is) = beside_left m new why care command.Catalog is

@@ -21,11 +21,11 @@ use Rattle.job_table.specs.declared.table.OpenJob.{OpenJob}
 use Rattle.work_run.specs.Ends.{given_of}
 use Rattle.work_run.specs.Working.{Overflows, IsDear}
 use Rattle.work_run.specs.declared.work.Work.{Work}
-use Rattle.work_turns.specs.Ends.{free_of, those_among}
+use Rattle.work_turns.specs.Ends.{those_among}
 use Rattle.job_turns.specs.Ends.{ComesAtLast, WorksAtLast}
 use Rattle.job_turns.specs.declared.job.JobWork.{JobWork}
 use Rattle.session.specs.Jobs.{IsJob}
-use Rattle.session.specs.Machine.{Machine, Step, Performs, HasGoneOn, ReadsWhole, ClosesTo, ClosesBy, IsClosing, job_named, put_for, held_by, outcome, refused, with_jobs}
+use Rattle.session.specs.Machine.{AreLeft, Machine, Step, Performs, HasGoneOn, ReadsWhole, ClosesTo, ClosesBy, IsClosing, job_named, put_for, outcome, refused, with_jobs}
 use Rattle.session.specs.MachineJob.{Job, GoesOn}
 use Rattle.session.specs.Work.{run_of}
 
@@ -70,7 +70,7 @@ module _ (care : Care) (m : Machine) (name : List ℕ) (job : Job) (named : job_
       dear_step dear = inl (closes_as _ leaving (within_as (answer.Refused (refusal.Limit limit.Machine)) leaving within (dear, (last, reads, refl))))
 
       -- its work is answered and recorded
-      module _ (after : OpenJob JobWork) (is_last : IsJob m.state last after) (closed : Work) (held : List ℕ) (held_is : held ≡ held_by (put_for name [] m.jobs)) (comes : ComesAtLast held m.state job.run.plan after.job closed) where
+      module _ (after : OpenJob JobWork) (is_last : IsJob m.state last after) (closed : Work) (comes : ComesAtLast m.state job.run.plan after.job closed) where
         run_same : last.run ≡ job.run
         run_same = ap (λ (j : Job). j.run) reads.goes.is
 
@@ -81,27 +81,23 @@ module _ (care : Care) (m : Machine) (name : List ℕ) (job : Job) (named : job_
         form_same = is_last.normal ∙ ap (λ (j : Job). j.normal) reads.goes.is
 
         abbrev pub state_after : State
-        state_after = with_work m.state (Some after.job.work.program) closed.used.items (those_among (free_of held after.job.noted.items) m.state.entries) comes.news
-
-        abbrev pub machine_after : Machine
-        machine_after = record { state = state_after; jobs = put_for name [] m.jobs }
+        state_after = with_work m.state (Some after.job.work.program) closed.used.items (those_among after.job.noted.items m.state.entries) comes.news
 
         normal_same : IsNormalFormOf (kinds_in m.state.streams) job.run.plan job.normal
         normal_same = transport (λ i. IsNormalFormOf (kinds_in m.state.streams) (run_same i).plan ((is_last.is_job.form_is ∙ form_same) i)) is_last.is_job.is_open.serves.normal
 
-        pub closed_step : Step care m (command.Close name) (answer_of closed) machine_after
-        closed_step = inl (closes_as (answer_of closed) machine_after (within_as (answer_of closed) machine_after within (record {
-          last = last;
-          reads = reads;
-          is_normal = normal_same;
-          works = transport (λ i. WorksAtLast (held_is i) (is_last.noted i) (is_last.before i) m.state (Some (program_same i)) job.run.plan (form_same i) ((program_same i).cuts) (is_last.rewriting i) (given_of closed) state_after) comes.works;
-          gone = refl;
-        })))
+        -- and the others are left so
+        pub closed_step : (others : List Job) → AreLeft m.state state_after (put_for name [] m.jobs) others → Step care m (command.Close name) (answer_of closed) (record { state = state_after; jobs = others })
+        closed_step others left =
+            let new : Machine = record { state = state_after; jobs = others } in
+            inl (closes_as (answer_of closed) new (within_as (answer_of closed) new within (record {
+              last = last;
+              reads = reads;
+              is_normal = normal_same;
+              works = transport (λ i. WorksAtLast (is_last.noted i) (is_last.before i) m.state (Some (program_same i)) job.run.plan (form_same i) ((program_same i).cuts) (is_last.rewriting i) (given_of closed) state_after) comes.works;
+              others = left;
+            })))
 
 -- no job of the name is open
 pub unknown_close : (care : Care) (m : Machine) (name : List ℕ) → job_named m.jobs name ≡ None → Step care m (command.Close name) (answer.Refused (refusal.Unknown name)) m
 unknown_close care m name none = inl (subst (λ (found : Option Job). ClosesTo care m name found (refused m (refusal.Unknown name))) (sym none) refl)
-
--- memory was refused before a file was read
-pub want_close : (care : Care) (m : Machine) (name : List ℕ) → Step care m (command.Close name) (answer.Refused refusal.Memory) m
-want_close care m name = inr (refusal.Memory, (tt, tt), refl, inl refl)

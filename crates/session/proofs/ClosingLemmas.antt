@@ -8,7 +8,6 @@ use Rattle.outside_traits.specs.declared.failed.Failed.{Failed}
 use Rattle.plan_core.specs.PlainPlan.{PlainPlan}
 use Rattle.catalog_types.specs.declared.program.Program.{Program}
 use Rattle.catalog_core.specs.IsTable.{IsTable}
-use Rattle.catalog_core.specs.Table.{Table}
 use Rattle.executor.specs.declared.refusal.RunRefusal.{RunRefusal}
 use Rattle.executor.specs.declared.refusal.RunRefusal.TheVariants as run
 use Rattle.planning.specs.Running.{Run, storing}
@@ -26,32 +25,36 @@ use Rattle.folder_session.specs.Standing as folder
 use Rattle.folder_session.specs.WorkRefusals.{refusal_of}
 use Rattle.folder_session.specs.Working.{answer_of}
 use Rattle.folder_session.proofs.StepLemmas.{breaks_behind, records_behind}
+use Rattle.row_blob.specs.Kept.{AreEach}
 use Rattle.job_table.specs.Jobs.{place_of}
 use Rattle.job_table.specs.declared.table.OpenJob.{OpenJob}
-use Rattle.later_states.specs.Later.{IsLater}
+use Rattle.later_states.specs.Later.{AreFree, IsLater}
 use Rattle.work_run.specs.Ends.{CountsRead, IsRefusedWork}
 use Rattle.work_run.specs.Opened.{HasRead, files_left}
 use Rattle.work_run.specs.Working.{Overflows, IsDear}
-use Rattle.work_run.specs.declared.work.Work.{Work}
+use Rattle.work_turns.specs.Ends.{those_among}
+use Rattle.work_turns.specs.declared.work.WorkInTurns.{WorkInTurns}
 use Rattle.work_turns.specs.Turns.{IsLost}
 use Rattle.job_turns.specs.Ends.{ComesAtLast, IsReadFor}
 use Rattle.job_turns.specs.Jobs as work
 use Rattle.job_turns.specs.Turns.{GoesOn, Reads}
 use Rattle.job_turns.specs.declared.job.JobWork.{JobWork}
-use Rattle.session.specs.Jobs.{OpenJobs, IsJob, AreJobs, held_of}
-use Rattle.session.specs.Machine.{Machine, Step, ReadsWhole, held_by, job_named, put_for, with_jobs}
+use Rattle.session.specs.Jobs.{OpenJobs, AreLeft, AreLeftBehind, IsJob, IsLeft, AreJobs, held_of}
+use Rattle.session.specs.Machine.{Machine, Step, ReadsWhole, gone_between, job_named, put_for, with_jobs}
 use Rattle.session.specs.MachineJob.{Job}
 use Rattle.session.specs.MachineJob as machine
 use Rattle.session.specs.Standing.{Stands, Performs, Breaks, folder_of, jobs_of}
 use Rattle.session.specs.Work.{IsNotClosed, IsStopped, IsWithin, IsEnded, IsRecorded}
 use Rattle.session.specs.declared.session.Session.{Session}
-use Rattle.session.proofs.CloseLemmas.{closed_step, dear_step, event_step, limit_step, machine_after, overflow_step, removed_same, same_run, state_after}
+use Rattle.session.proofs.CloseLemmas.{closed_step, dear_step, event_step, limit_step, overflow_step, removed_same, same_run, state_after}
 use Rattle.session.proofs.FolderSteps.{same_rows}
+use Rattle.session.proofs.GoneLemmas.{gone_by_work}
 use Rattle.session.proofs.GoingLemmas.{now, now_goes, now_is, now_whole}
 use Rattle.session.proofs.JobSteps.{same_at, same_name, same_whole}
 use Rattle.session.proofs.Places.{first_at, gone_at, job_at, put_at}
 use Rattle.session.proofs.ReadLemmas.{read_none}
-use Rattle.session.proofs.StayLemmas.{StaysOpen, StaysRead, all_held, same_held, still_jobs}
+use Rattle.session.proofs.LeavingJobs.{LeftJobs, behind_free, both_but, jobs_over, left_jobs, still_left}
+use Rattle.session.proofs.StayLemmas.{StaysOpen, StaysRead}
 
 module _ (care : Care) (u : View) (session : Session) (m : Machine) (stands : Stands care u session m) (name : List ℕ) (at : ℕ) (d o new : OpenJob JobWork) (place : place_of (jobs_of session) name ≡ Some at) (stood : get_or (jobs_of session) at d ≡ o)
     (names : new.name ≡ o.name) (still : (plan : PlainPlan) → work.IsJob (table m.state) plan o.job → work.IsJob (table m.state) plan new.job) where
@@ -157,51 +160,68 @@ module _ (care : Care) (u : View) (session : Session) (m : Machine) (stands : St
 
     -- ---- its work is recorded, or isn't
 
-    module _ (reads : Reads tells (table m.state) u plan_found o.job new.job first then) (none : files_left new.job.work ≡ []) (within : IsWithin (table m.state) o.job) (closed : Work) (held : List ℕ) (held_is : held ≡ held_of (remove (jobs_of session) at))
-        (comes : ComesAtLast held m.state plan_found new.job closed) (w v : View) (before : StaysSound care m.state u w) where
+    module _ (reads : Reads tells (table m.state) u plan_found o.job new.job first then) (none : files_left new.job.work ≡ []) (within : IsWithin (table m.state) o.job) (done : WorkInTurns) (dropped_are : done.dropped.items ≡ those_among new.job.noted.items m.state.entries)
+        (comes : ComesAtLast m.state plan_found new.job done.work) (w v : View) (before : StaysSound care m.state u w) (is_table : IsTable (table m.state)) where
       pub reads_told : Reads true (table m.state) u plan_found o.job new.job first then
       reads_told = subst (λ (b : Bool). Reads b (table m.state) u plan_found o.job new.job first then) told reads
 
       pub over : HasRead m.state new.job.work × AllByRecursion (IsLost care m.state) reads_told.on.ids × CountsRead reads_told.on.passed first then
       over = reads_told.over refl care m.state stands.base.left refl found.is.read
 
-      gone : AreJobs m.state (put_for name [] m.jobs) (remove (jobs_of session) at)
-      gone = gone_at name (IsJob m.state) (same_name m.state) m.jobs (jobs_of session) at stands.jobs (first_at name (jobs_of session) at place)
+      abbrev dropped : List ℕ
+      dropped = done.dropped.items
 
-      pub held_here : held ≡ held_by (put_for name [] m.jobs)
-      held_here = held_is ∙ sym (same_held m.state (put_for name [] m.jobs) (remove (jobs_of session) at) gone)
+      abbrev others : List Job
+      others = put_for name [] m.jobs
 
       abbrev pub after : State
-      after = state_after care m name found.job found.named (last over.0 reads_told.on over.1) (whole over.0 reads_told.on over.1 none) (within_found within) new (is_last over.0 reads_told.on over.1) closed held held_here comes
+      after = state_after care m name found.job found.named (last over.0 reads_told.on over.1) (whole over.0 reads_told.on over.1 none) (within_found within) new (is_last over.0 reads_told.on over.1) done.work comes
 
-      abbrev closed_machine : Machine
-      closed_machine = machine_after care m name found.job found.named (last over.0 reads_told.on over.1) (whole over.0 reads_told.on over.1 none) (within_found within) new (is_last over.0 reads_told.on over.1) closed held held_here comes
+      gone_are : gone_between m.state after ≡ dropped
+      gone_are = gone_by_work m.state is_table (Some new.job.work.program) done.work.used.items (those_among new.job.noted.items m.state.entries) new.job.noted.items comes.news refl ∙ sym dropped_are
 
-      answers : Step care m (command.Close name) (answer_of closed) closed_machine
-      answers = closed_step care m name found.job found.named (last over.0 reads_told.on over.1) (whole over.0 reads_told.on over.1 none) (within_found within) new (is_last over.0 reads_told.on over.1) closed held held_here comes
+      module _ (news : OpenJobs) (behind : AreLeftBehind (table m.state) dropped (Some at) now_open news) where
+        -- the other jobs, as they are left
+        left : LeftJobs m.state dropped others news
+        left =
+            subst (LeftJobs m.state dropped others) (sym behind.stand)
+            (left_jobs m.state dropped others (remove (jobs_of session) at) (remove behind.left at) (gone_at name (IsJob m.state) (same_name m.state) m.jobs (jobs_of session) at stands.jobs (first_at name (jobs_of session) at place))
+            (subst (λ (olds : OpenJobs). AreLeft (table m.state) dropped olds (remove behind.left at)) (removed_same (jobs_of session) at new) (both_but (IsLeft (table m.state) dropped) now_open behind.left at behind.are)))
 
-      pub closed_performs : StaysOpen → StaysRead → (session' : Session) → IsTable (table_in (folder_of session)) → IsTable (table_in (folder_of session')) → IsLater held (table_in (folder_of session)) (table_in (folder_of session'))
-          → (given : Answer) → IsEnded closed at now_open (jobs_of session') given → IsRecorded care w v session'.base m.state after given → Performs care u v session' m (command.Close name) given
-      closed_performs open_stays read_stays session' is_table is_next later given (inl is) recorded =
+        abbrev closed_machine : Machine
+        closed_machine = record { state = after; jobs = left.nexts }
+
+        answers : Step care m (command.Close name) (answer_of done.work) closed_machine
+        answers =
+            closed_step care m name found.job found.named (last over.0 reads_told.on over.1) (whole over.0 reads_told.on over.1 none) (within_found within) new (is_last over.0 reads_told.on over.1) done.work comes left.nexts
+            (subst (λ (ids : List ℕ). AreEach (machine.IsLeft m.state ids) others left.nexts) (sym gone_are) left.left)
+
+        -- what they hold isn't dropped
+        free : AreFree (held_of news) dropped
+        free = behind_free (table m.state) dropped now_open (jobs_over m.state (put_for name (last over.0 reads_told.on over.1 ∷ []) m.jobs) now_open (put (last over.0 reads_told.on over.1) (is_last over.0 reads_told.on over.1))) (Some at) news behind
+
+        breaks : folder.KeepsNot care u v m.state after → Breaks care u v m (command.Close name)
+        breaks broke = record { answer = answer_of done.work; new = closed_machine; step = answers; recorded = broke.recorded; since = broke.since; left = broke.left }
+
+        stand : StaysOpen → StaysRead → IsTable (table after) → ((held : List ℕ) → AreFree held dropped → IsLater held (table m.state) (table after)) → AreJobs after left.nexts news
+        stand open_stays read_stays is_next later = still_left m.state dropped open_stays read_stays is_table after is_next (same_rows m.state.streams) later others news left free
+
+      pub closed_performs : StaysOpen → StaysRead → (session' : Session) → IsTable (table_in (folder_of session')) → ((held : List ℕ) → AreFree held dropped → IsLater held (table m.state) (table_in (folder_of session')))
+          → (given : Answer) → IsEnded (table m.state) done (Some at) now_open (jobs_of session') given → IsRecorded care w v session'.base m.state after given → Performs care u v session' m (command.Close name) given
+      closed_performs open_stays read_stays session' is_next later given (inl is) recorded =
           let is_recorded : folder.Records care w v session'.base m.state after = subst (λ (a : Answer). IsRecorded care w v session'.base m.state after a) is.0 recorded in
           let kept = records_behind care u w v m.state after before (Ok (session'.base, given)) is_recorded in
-          let rest = remove (jobs_of session) at in
-          let start = stands.base.means.table_is in
           let end = is_recorded.stands.means.table_is in
-          let here : jobs_of session' ≡ rest = is.1 ∙ removed_same (jobs_of session) at new in
           record {
-            new = closed_machine;
-            step = subst (λ (a : Answer). Step care m (command.Close name) a closed_machine) (sym is.0) answers;
+            new = closed_machine (jobs_of session') is.1;
+            step = subst (λ (a : Answer). Step care m (command.Close name) a (closed_machine (jobs_of session') is.1)) (sym is.0) (answers (jobs_of session') is.1);
             stands = record {
               base = is_recorded.stands;
-              jobs = subst (AreJobs after (put_for name [] m.jobs)) (sym here)
-                  (still_jobs open_stays read_stays (held_of rest) m.state after (subst IsTable start is_table) (subst IsTable end is_next)
-                  (record { tables = subst (λ (ids : List ℕ). IsLater ids (table m.state) (table after)) held_is (subst (λ (y : Table). IsLater held y (table after)) start (subst (IsLater held (table_in (folder_of session))) end later)); rows = same_rows m.state.streams })
-                  (put_for name [] m.jobs) rest (all_held rest) gone);
+              jobs = stand (jobs_of session') is.1 open_stays read_stays (subst IsTable end is_next) (λ held free. subst (IsLater held (table m.state)) end (later held free));
             };
             since = kept.since;
           }
-      closed_performs open_stays read_stays session' is_table is_next later given (inr is) recorded =
+      closed_performs open_stays read_stays session' is_next later given (inr is) recorded =
           let r = by_event over.0 reads_told.on over.1 refusal.Memory tt tt in
           let is_recorded : folder.Records care w v session'.base m.state m.state = subst (λ (a : Answer). IsRecorded care w v session'.base m.state after a) is.0 recorded in
           let kept = records_behind care u w v m.state m.state before (Ok (session'.base, given)) is_recorded in
@@ -212,15 +232,12 @@ module _ (care : Care) (u : View) (session : Session) (m : Machine) (stands : St
             since = kept.since;
           }
 
-      breaks : folder.KeepsNot care u v m.state after → Breaks care u v m (command.Close name)
-      breaks broke = record { answer = answer_of closed; new = closed_machine; step = answers; recorded = broke.recorded; since = broke.since; left = broke.left }
+      pub closed_breaks : (result : Result (Session × Answer) Failed) → OnErr result ((news : OpenJobs) × AreLeftBehind (table m.state) dropped (Some at) now_open news) → OnErr result (folder.KeepsNot care w v m.state after) → OnErr result (Breaks care u v m (command.Close name))
+      closed_breaks (Ok next) behind broke = tt
+      closed_breaks (Err failed) behind broke = breaks behind.0 behind.1 (breaks_behind care u w v m.state after before (Err failed) broke)
 
-      pub closed_breaks : (result : Result (Session × Answer) Failed) → OnErr result (folder.KeepsNot care w v m.state after) → OnErr result (Breaks care u v m (command.Close name))
-      closed_breaks (Ok next) broke = tt
-      closed_breaks (Err failed) broke = breaks (breaks_behind care u w v m.state after before (Err failed) broke)
-
-      pub closed_result : StaysOpen → StaysRead → IsTable (table_in (folder_of session)) → (result : Result (Session × Answer) Failed) → IfOk result (λ next. IsTable (table_in (folder_of next.0)))
-          → IfOk result (λ next. IsLater held (table_in (folder_of session)) (table_in (folder_of next.0))) → IfOk result (λ next. IsEnded closed at now_open (jobs_of next.0) next.1)
+      pub closed_result : StaysOpen → StaysRead → (result : Result (Session × Answer) Failed) → IfOk result (λ next. IsTable (table_in (folder_of next.0)))
+          → ((held : List ℕ) → AreFree held dropped → IfOk result (λ next. IsLater held (table m.state) (table_in (folder_of next.0)))) → IfOk result (λ next. IsEnded (table m.state) done (Some at) now_open (jobs_of next.0) next.1)
           → IfOk result (λ next. IsRecorded care w v next.0.base m.state after next.1) → IfOk result (λ next. Performs care u v next.0 m (command.Close name) next.1)
-      closed_result open_stays read_stays is_table (Ok next) is_next later is recorded = closed_performs open_stays read_stays next.0 is_table is_next later next.1 is recorded
-      closed_result open_stays read_stays is_table (Err failed) is_next later is recorded = tt
+      closed_result open_stays read_stays (Ok next) is_next later is recorded = closed_performs open_stays read_stays next.0 is_next later next.1 is recorded
+      closed_result open_stays read_stays (Err failed) is_next later is recorded = tt

@@ -1,10 +1,8 @@
 -- What else is said of a close.
-use Rattle.std.proofs.Common.{◌≡◌, ◌∙◌, inl, inr, sym, ap, subst, ℕ, ◌+◌, ◌-◌, ◌^◌, min, true, List, [], Option, Some, None, Result, Ok, Err, IfOk, get_or, arith}
-use Rattle.std.specs.List.{remove}
+use Rattle.std.proofs.Common.{◌≡◌, ◌⊎◌, ◌∙◌, inl, inr, sym, ap, subst, ℕ, ◌+◌, ◌-◌, ◌^◌, min, true, List, [], Option, Some, None, Result, Ok, Err, IfOk, get_or, arith}
 use Rattle.outside_traits.specs.View.{View, Counts}
 use Rattle.outside_traits.specs.Runs.{Narrows}
 use Rattle.outside_traits.specs.declared.failed.Failed.{Failed}
-use Rattle.catalog_core.specs.IsTable.{IsTable}
 use Rattle.catalog_core.specs.Table.{Table}
 use Rattle.script_text.specs.Answer.{IsNarrow}
 use Rattle.script_text.specs.declared.answer.Answer.{Answer}
@@ -30,31 +28,21 @@ use Rattle.job_turns.specs.Turns.{Reads}
 use Rattle.job_turns.specs.declared.job.JobWork.{JobWork}
 use Rattle.session.specs.Causes.{HasByteCause, IsOfJob}
 use Rattle.session.specs.Taken.{CloseTakes, TakesAsTold}
-use Rattle.later_states.specs.Later.{IsLater}
 use Rattle.work_run.specs.declared.work.Work.{Work}
-use Rattle.session.specs.Jobs.{OpenJobs, IsHeldOver, AreHeldOver, held_of, open_named}
-use Rattle.session.specs.Standing.{HoldsJobs, folder_of, jobs_of}
-use Rattle.session.specs.Work.{IsEnded, IsSameWhereRefused}
+use Rattle.work_turns.specs.declared.work.WorkInTurns.{WorkInTurns}
+use Rattle.session.specs.Jobs.{OpenJobs, open_named}
+use Rattle.session.specs.Standing.{folder_of, jobs_of}
+use Rattle.session.specs.Work.{IsEnded}
 use Rattle.session.specs.declared.session.Session.{Session}
 use Rattle.session.proofs.FoundLemmas.{close_taken}
-use Rattle.session.proofs.Places.{each_but}
-use Rattle.session.proofs.StayLemmas.{StaysOpen, all_held, still_held_over}
 
--- the jobs that are left are open over the table after it
-ended_over : StaysOpen → (t u : Table) → IsTable t → IsTable u → (opens new : OpenJobs) (closed : Work) (at : ℕ) (given : Answer) (held : List ℕ) → held ≡ held_of (remove opens at) → IsLater held t u → IsSameWhereRefused t u given
-    → IsEnded closed at opens new given → AreHeldOver t opens → AreHeldOver u new
-ended_over stays t u is_table is_next opens new closed at given held held_is later same (inl ended) over =
-    let rest = remove opens at in
-    subst (AreHeldOver u) (sym ended.1) (still_held_over stays (held_of rest) t u is_table is_next (subst (λ (ids : List ℕ). IsLater ids t u) held_is later) rest (all_held rest) (each_but (IsHeldOver t) opens at over))
-ended_over stays t u is_table is_next opens new closed at given held held_is later same (inr none) over =
-    subst (AreHeldOver u) (sym none.1) (subst (λ (x : Table). AreHeldOver x opens) (sym (subst (IsSameWhereRefused t u) none.0 same)) over)
+-- its answer is that of the work, or memory was refused
+abbrev pub IsAnsweredBy : Work → Answer → Type 0
+IsAnsweredBy closed given = (given ≡ answer_of closed) ⊎ (given ≡ answer.Refused refusal.Memory)
 
-pub ended_holds : StaysOpen → (t : Table) → IsTable t → (opens : OpenJobs) (closed : Work) (at : ℕ) (held : List ℕ) → held ≡ held_of (remove opens at) → AreHeldOver t opens → (result : Result (Session × Answer) Failed)
-    → IfOk result (λ next. IsTable (table_in (folder_of next.0))) → IfOk result (λ next. IsLater held t (table_in (folder_of next.0))) → IfOk result (λ next. IsSameWhereRefused t (table_in (folder_of next.0)) next.1)
-    → IfOk result (λ next. IsEnded closed at opens (jobs_of next.0) next.1) → IfOk result (λ next. HoldsJobs next.0)
-ended_holds stays t is_table opens closed at held held_is over (Ok next) is_next later same ended =
-    ended_over stays t (table_in (folder_of next.0)) is_table is_next opens (jobs_of next.0) closed at next.1 held held_is later same ended over
-ended_holds stays t is_table opens closed at held held_is over (Err failed) is_next later same ended = tt
+pub ended_answers : (t : Table) (done : WorkInTurns) (closed : Option ℕ) (olds : OpenJobs) (result : Result (Session × Answer) Failed) → IfOk result (λ next. IsEnded t done closed olds (jobs_of next.0) next.1) → IfOk result (λ next. IsAnsweredBy done.work next.1)
+ended_answers t done closed olds (Ok next) ended = elim ended [ inl is ↦ inl is.0 | inr is ↦ inr is.0 ]
+ended_answers t done closed olds (Err failed) ended = tt
 
 -- ---- behind what was read
 
@@ -85,11 +73,10 @@ closed_takes t view plan o new closed first last reads none counts told =
 takes_then : (t : Table) (o : OpenJob JobWork) (told : ℕ) (old half new : Counts) → CloseTakes t (Some o) told old half → new.taken ≡ half.taken → CloseTakes t (Some o) told old new
 takes_then t o told old half new (passed, is, counts) same = (passed, is, read_then passed old half new counts same)
 
-pub ended_taken : (t : Table) (jobs mid : OpenJobs) (name : List ℕ) (at : ℕ) (o : OpenJob JobWork) → place_of jobs name ≡ Some at → o ≡ get_or jobs at o → (closed : Work) (old half new : Counts) → CloseTakes t (Some o) closed.read old half → new.taken ≡ half.taken
-    → (result : Result (Session × Answer) Failed) → IfOk result (λ next. IsEnded closed at mid (jobs_of next.0) next.1) → IfOk result (λ next. TakesAsTold t jobs (command.Close name) next.1 old new)
-ended_taken t jobs mid name at o place stood closed old half new takes same (Ok next) ended =
-    close_taken jobs name at o place stood t closed old new (takes_then t o closed.read old half new takes same) next.1 (elim ended [ inl is ↦ inl is.0 | inr is ↦ inr is.0 ])
-ended_taken t jobs mid name at o place stood closed old half new takes same (Err failed) ended = tt
+pub ended_taken : (t : Table) (jobs : OpenJobs) (name : List ℕ) (at : ℕ) (o : OpenJob JobWork) → place_of jobs name ≡ Some at → o ≡ get_or jobs at o → (closed : Work) (old half new : Counts) → CloseTakes t (Some o) closed.read old half → new.taken ≡ half.taken
+    → (result : Result (Session × Answer) Failed) → IfOk result (λ next. IsAnsweredBy closed next.1) → IfOk result (λ next. TakesAsTold t jobs (command.Close name) next.1 old new)
+ended_taken t jobs name at o place stood closed old half new takes same (Ok next) ended = close_taken jobs name at o place stood t closed old new (takes_then t o closed.read old half new takes same) next.1 ended
+ended_taken t jobs name at o place stood closed old half new takes same (Err failed) ended = tt
 
 -- ---- it is laid to no file, once its files were read
 
@@ -97,23 +84,23 @@ want_of_job : (t : Table) (opened : Option (OpenJob JobWork)) (files : ℕ → L
 want_of_job t (Some opened) files = tt
 want_of_job t None files = tt
 
-pub ended_found : (t : Table) (jobs mid : OpenJobs) (name : List ℕ) (at : ℕ) (closed : Work) (files : ℕ → List ℕ) (result : Result (Session × Answer) Failed) → IfOk result (λ next. IsEnded closed at mid (jobs_of next.0) next.1)
+pub ended_found : (t : Table) (jobs : OpenJobs) (name : List ℕ) (closed : Work) (files : ℕ → List ℕ) (result : Result (Session × Answer) Failed) → IfOk result (λ next. IsAnsweredBy closed next.1)
     → IfOk result (λ next. HasByteCause t jobs (command.Close name) files next.1)
-ended_found t jobs mid name at closed files (Ok next) ended =
+ended_found t jobs name closed files (Ok next) ended =
     elim ended [
-      | inl is ↦ subst (HasByteCause t jobs (command.Close name) files) (sym is.0) tt
-      | inr is ↦ subst (HasByteCause t jobs (command.Close name) files) (sym is.0) (want_of_job t (open_named jobs name) files)
+      | inl is ↦ subst (HasByteCause t jobs (command.Close name) files) (sym is) tt
+      | inr is ↦ subst (HasByteCause t jobs (command.Close name) files) (sym is) (want_of_job t (open_named jobs name) files)
     ]
-ended_found t jobs mid name at closed files (Err failed) ended = tt
+ended_found t jobs name closed files (Err failed) ended = tt
 
 -- nor does it tell a failed read
-pub ended_no_fault : (mid : OpenJobs) (at : ℕ) (closed : Work) (P : Type 0) (result : Result (Session × Answer) Failed) → IfOk result (λ next. IsEnded closed at mid (jobs_of next.0) next.1) → IfOk result (λ next. next.1 ≡ answer.Refused refusal.Fault → P)
-ended_no_fault mid at closed P (Ok next) ended = λ fault.
+pub ended_no_fault : (closed : Work) (P : Type 0) (result : Result (Session × Answer) Failed) → IfOk result (λ next. IsAnsweredBy closed next.1) → IfOk result (λ next. next.1 ≡ answer.Refused refusal.Fault → P)
+ended_no_fault closed P (Ok next) ended = λ fault.
     elim ended [
-      | inl is ↦ (let never : answer_of closed ≡ answer.Refused refusal.Fault = sym is.0 ∙ fault in absurd (cc))
-      | inr is ↦ (let never : answer.Refused refusal.Memory ≡ answer.Refused refusal.Fault = sym is.0 ∙ fault in absurd (cc))
+      | inl is ↦ (let never : answer_of closed ≡ answer.Refused refusal.Fault = sym is ∙ fault in absurd (cc))
+      | inr is ↦ (let never : answer.Refused refusal.Memory ≡ answer.Refused refusal.Fault = sym is ∙ fault in absurd (cc))
     ]
-ended_no_fault mid at closed P (Err failed) ended = tt
+ended_no_fault closed P (Err failed) ended = tt
 
 -- whatever is answered, so it is
 pub same_whatever : (result : Result (Session × Answer) Failed) (a b : ℕ) → b ≡ a → IfOk result (λ next. (next.1 ≡ answer.Refused refusal.Fault → ⊥) → b ≡ a)
@@ -121,9 +108,9 @@ same_whatever (Ok next) a b same = λ other. same
 same_whatever (Err failed) a b same = tt
 
 -- it is short where the answer of its work is
-pub ended_narrow : (mid : OpenJobs) (at : ℕ) (closed : Work) → IsNarrow (answer_of closed) → (result : Result (Session × Answer) Failed) → IfOk result (λ next. IsEnded closed at mid (jobs_of next.0) next.1) → IfOk result (λ next. IsNarrow next.1)
-ended_narrow mid at closed narrow (Ok next) ended = elim ended [
-  | inl is ↦ subst IsNarrow (sym is.0) narrow
-  | inr is ↦ subst IsNarrow (sym is.0) tt
+pub ended_narrow : (closed : Work) → IsNarrow (answer_of closed) → (result : Result (Session × Answer) Failed) → IfOk result (λ next. IsAnsweredBy closed next.1) → IfOk result (λ next. IsNarrow next.1)
+ended_narrow closed narrow (Ok next) ended = elim ended [
+  | inl is ↦ subst IsNarrow (sym is) narrow
+  | inr is ↦ subst IsNarrow (sym is) tt
 ]
-ended_narrow mid at closed narrow (Err failed) ended = tt
+ended_narrow closed narrow (Err failed) ended = tt

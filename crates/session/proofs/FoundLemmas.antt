@@ -1,5 +1,5 @@
 -- What a command on a job finds and takes, by the job of its name.
-use Rattle.std.proofs.Common.{length, ◌<◌, suc, zero, ◌≡◌, ◌⊎◌, inl, inr, refl, sym, ap, ◌∙◌, subst, ℕ, ◌+◌, ◌-◌, ◌≤◌, Bool, true, List, [], ◌∷◌, Option, Some, None, get_or, append-nil, arith}
+use Rattle.std.proofs.Common.{◌≡◌, ◌⊎◌, inl, inr, refl, sym, ap, ◌∙◌, subst, ℕ, ◌+◌, ◌≤◌, Bool, true, List, [], ◌∷◌, Option, Some, None, get_or, append-nil, arith}
 use Rattle.std.proofs.Math.ListN.{set}
 use Rattle.std.specs.Bool.{IsTrue}
 use Rattle.outside_traits.specs.Counts.{Rose}
@@ -46,7 +46,7 @@ use Rattle.session.specs.Jobs.{OpenJobs, IsHeldOver, AreHeldOver, open_named}
 use Rattle.session.specs.Taken.{TakesFirst, TakesGoingOn, TakesForJob, TakesFor, StepTakes, CloseTakes, TakesAsTold}
 use Rattle.session.specs.Work.{IsNotClosed, ReadsOn, StepsOn}
 use Rattle.session.proofs.GoingLemmas.{same_behind}
-use Rattle.session.proofs.Places.{IsFirstNamed, first_at, none_at, within_first, opened_at, none_opened, each_at, each_set}
+use Rattle.session.proofs.Places.{first_at, none_at, within_first, opened_at, none_opened, each_at, each_set}
 
 -- ---- the job of the name
 
@@ -238,21 +238,3 @@ pub stopped_most : (tells : Bool) → IsTrue tells → (t : Table) (view : View)
 stopped_most tells told t view plan old new first last why is (inl over) =
     subst (λ (c : Counts). TakesGoingOn t old first c) (sym over.unread) (reads_most t view plan old old first first (reads-nothing true t view plan old first is))
 stopped_most tells told t view plan old new first last why is (inr stopped) = halts_most t view plan old new first last stopped.met (subst (λ (b : Bool). Halts b t view plan old new first last stopped.met) told stopped.halts)
-
--- a close that reads nothing takes none
-pub none_most : (jobs : OpenJobs) (name : List ℕ) (at : ℕ) → place_of jobs name ≡ Some at → (t : Table) → AreHeldOver t jobs → (view : View) (counts : Counts) → TakesFor t jobs (command.Close name) counts counts
-none_most jobs name at place t held view counts =
-    let found = there name jobs at (first_at name jobs at place) in
-    let o = get_or jobs at found in
-    let stood : o ≡ get_or jobs at o = own jobs at found (within_first name jobs at (first_at name jobs at place)) in
-    let is = held_at jobs name at o place stood t held in
-    close_most jobs name at o place stood t counts counts (reads_most t view is.plan o.job o.job counts counts (reads-nothing true t view is.plan o.job counts is.is_job))
-  where
-    there : (name : List ℕ) (opens : OpenJobs) (at : ℕ) → IsFirstNamed name opens at → OpenJob JobWork
-    there name [] at is = absurd is
-    there name (o ∷ opens) at is = o
-
-    own : {A : Type 0} (xs : List A) (at : ℕ) (d : A) → at < length xs → get_or xs at d ≡ get_or xs at (get_or xs at d)
-    own [] at d low = absurd (omega (arith, low))
-    own (x ∷ xs) zero d low = refl
-    own (x ∷ xs) (suc at) d low = own xs at d (omega (arith, low))

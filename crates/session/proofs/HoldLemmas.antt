@@ -4,11 +4,15 @@ use Rattle.std.specs.Option.{is_some}
 use Rattle.catalog_core.specs.Table.{Table}
 use Rattle.planning.specs.Running.{Run}
 use Rattle.script_text.specs.Answer.{IsNarrow}
+use Rattle.outside_traits.specs.View.{View}
+use Rattle.outside_traits.proofs.RunLemmas.{narrows_none}
 use Rattle.script_text.specs.declared.answer.Answer.{Answer}
+use Rattle.script_text.specs.declared.answer.Answer.TheVariants as answer
 use Rattle.folder.specs.Folders.{table_in}
 use Rattle.folder.specs.State.{State}
 use Rattle.folder_session.specs.Causes.{TellsOfNoFile}
 use Rattle.folder_session.specs.Standing as folder
+use Rattle.folder_session.specs.Standing.{LeavesWhereRefused}
 use Rattle.folder_session.specs.declared.session.FolderSession.{FolderSession}
 use Rattle.job_table.specs.Jobs.{place_of}
 use Rattle.job_table.specs.declared.table.OpenJob.{OpenJob}
@@ -53,3 +57,9 @@ open_there s name jobs opens are = by (place_of opens name) refl
     by : (place : Option ℕ) → place_of opens name ≡ place → is_some place ≡ is_open jobs name
     by (Some at) e = let first = first_at name opens at e in sym (job_at name (IsJob s) (λ job o is. is.name) jobs opens at (first_of name opens at first) are first).2
     by None e = sym (none_named name (IsJob s) (λ job o is. is.name) jobs opens are (none_at name opens e)).1
+
+-- ---- a command that changes no file
+
+pub leaves_none : (given : Answer) (v : View) → LeavesWhereRefused given v v
+leaves_none (answer.Refused why) v = narrows_none v
+leaves_none _ v = tt

@@ -5,13 +5,16 @@ pub mod EndedLemmas
 pub mod FolderSteps
 pub mod FoundLemmas
 pub mod GoingLemmas
+pub mod GoneLemmas
 pub mod HoldLemmas
 pub mod JobSteps
+pub mod LeavingJobs
 pub mod LeftLemmas
 pub mod LoadLemmas
 pub mod OpenLemmas
 pub mod PerformLemmas
 pub mod Places
 pub mod ReadLemmas
+pub mod RunLemmas
 pub mod SparingLemmas
 pub mod StayLemmas

@@ -1,12 +1,10 @@
 -- A command that concerns no job, performed beside the jobs.
-use Rattle.std.proofs.Common.{◌≡◌, inr, refl, sym, ◌∙◌, subst, ℕ, List, Result, Ok, Err}
+use Rattle.std.proofs.Common.{◌≡◌, inr, refl, sym, ◌∙◌, subst, ℕ, List}
 use Rattle.outside_traits.specs.View.{View, Counts}
 use Rattle.catalog_core.specs.IsTable.{IsTable}
 use Rattle.catalog_core.specs.Table.{Table}
-use Rattle.planning.specs.Running.{Run, running}
 use Rattle.script_text.specs.declared.answer.Answer.{Answer}
 use Rattle.script_text.specs.declared.answer.Answer.TheVariants as answer
-use Rattle.script_text.specs.declared.answer.Refusal.{Refusal}
 use Rattle.script_text.specs.declared.answer.Refusal.TheVariants as refusal
 use Rattle.script_text.specs.declared.item.Command.{Command}
 use Rattle.script_text.specs.declared.item.Command.TheVariants as command
@@ -15,11 +13,10 @@ use Rattle.folder.specs.Sound.{Care}
 use Rattle.folder.specs.State.{State, table}
 use Rattle.folder_session.specs.Causes as of_folder
 use Rattle.folder_session.specs.Machine as machine
-use Rattle.folder_session.specs.Machine.{IsOfJobs}
+use Rattle.folder_session.specs.Machine.{IsOfJobs, IsWork}
 use Rattle.folder_session.specs.Standing as folder
 use Rattle.folder_session.specs.Taken as taken
 use Rattle.folder_session.proofs.StepLemmas.{want_event}
-use Rattle.folder_session.proofs.TakenLemmas.{none_for}
 use Rattle.later_states.specs.Later.{IsLater, IsLaterState}
 use Rattle.session.specs.Causes.{HasByteCause}
 use Rattle.session.specs.Jobs.{OpenJobs, AreJobs, held_of}
@@ -37,7 +34,7 @@ later_state held s u t x before after later care c given step = record {
   rows = more_by_step care held s u c given step;
 }
 
-module _ (stays : StaysOpen) (reads : StaysRead) (care : Care) (u v : View) (session session' : Session) (m : Machine) (held : List ℕ) (stands : Stands care u session m) (held_is : held ≡ held_of (jobs_of session)) (c : Command) (other : IsOfJobs c → ⊥) where
+module _ (stays : StaysOpen) (reads : StaysRead) (care : Care) (u v : View) (session session' : Session) (m : Machine) (held : List ℕ) (stands : Stands care u session m) (held_is : held ≡ held_of (jobs_of session)) (c : Command) (other : IsOfJobs c → ⊥) (no_work : IsWork c → ⊥) where
   by_machine : held ≡ held_by m.jobs
   by_machine = held_is ∙ sym (same_held m.state m.jobs (jobs_of session) stands.jobs)
 
@@ -49,7 +46,7 @@ module _ (stays : StaysOpen) (reads : StaysRead) (care : Care) (u v : View) (ses
       let all : AreAllHeld held (jobs_of session) = subst (λ (ids : List ℕ). AreAllHeld ids (jobs_of session)) (sym held_is) (all_held (jobs_of session)) in
       record {
         new = record { state = p.new; jobs = m.jobs };
-        step = step_beside care m p.new c given other (subst (λ (ids : List ℕ). machine.Step care ids m.state c given p.new) by_machine p.step);
+        step = step_beside care m p.new c given other no_work (subst (λ (ids : List ℕ). machine.Step care ids m.state c given p.new) by_machine p.step);
         stands = record {
           base = p.stands;
           jobs = subst (AreJobs p.new m.jobs) (sym same)
@@ -63,15 +60,15 @@ module _ (stays : StaysOpen) (reads : StaysRead) (care : Care) (u v : View) (ses
   breaks_beside broke = record {
     answer = broke.answer;
     new = record { state = broke.new; jobs = m.jobs };
-    step = step_beside care m broke.new c broke.answer other (subst (λ (ids : List ℕ). machine.Step care ids m.state c broke.answer broke.new) by_machine broke.step);
+    step = step_beside care m broke.new c broke.answer other no_work (subst (λ (ids : List ℕ). machine.Step care ids m.state c broke.answer broke.new) by_machine broke.step);
     recorded = broke.recorded;
     since = broke.since;
     left = broke.left;
   }
 
 -- want of memory
-pub want_beside : (care : Care) (m : Machine) (c : Command) → (IsOfJobs c → ⊥) → Step care m c (answer.Refused refusal.Memory) m
-want_beside care m c other = step_beside care m m.state c (answer.Refused refusal.Memory) other (inr (refusal.Memory, want_event care m.state c, refl))
+pub want_beside : (care : Care) (m : Machine) (c : Command) → (IsOfJobs c → ⊥) → (IsWork c → ⊥) → Step care m c (answer.Refused refusal.Memory) m
+want_beside care m c other no_work = step_beside care m m.state c (answer.Refused refusal.Memory) other no_work (inr (refusal.Memory, want_event care m.state c, refl))
 
 -- ---- what else is said of it
 
@@ -85,24 +82,7 @@ taken_beside t jobs (command.Step job) given old new other told = absurd (other 
 taken_beside t jobs (command.Close job) given old new other told = absurd (other tt)
 taken_beside t jobs _ given old new other told = told
 
--- ---- want of memory is laid to no file, and reads none
-
-want_of_run : (t : Table) (planned : Result Run Refusal) (files : ℕ → List ℕ) → of_folder.IsOfRun t planned files refusal.Memory
-want_of_run t (Ok run) files = tt
-want_of_run t (Err why) files = tt
-
-want_of_command : (t : Table) (c : Command) (files : ℕ → List ℕ) → of_folder.HasByteCause t c files (answer.Refused refusal.Memory)
-want_of_command t (command.Run name tree) files = want_of_run t (running t name tree) files
-want_of_command t (command.Fetch name as_run) files = tt
-want_of_command t _ files = tt
-
-pub want_found : (t : Table) (jobs : OpenJobs) (c : Command) (files : ℕ → List ℕ) → (IsOfJobs c → ⊥) → HasByteCause t jobs c files (answer.Refused refusal.Memory)
-want_found t jobs c files other = found_beside t jobs c files (answer.Refused refusal.Memory) other (want_of_command t c files)
-
-most_beside : (t : Table) (jobs : OpenJobs) (c : Command) (old new : Counts) → (IsOfJobs c → ⊥) → taken.TakesFor t c old new → TakesFor t jobs c old new
+pub most_beside : (t : Table) (jobs : OpenJobs) (c : Command) (old new : Counts) → (IsOfJobs c → ⊥) → taken.TakesFor t c old new → TakesFor t jobs c old new
 most_beside t jobs (command.Step job) old new other most = absurd (other tt)
 most_beside t jobs (command.Close job) old new other most = absurd (other tt)
 most_beside t jobs _ old new other most = most
-
-pub want_most : (t : Table) (jobs : OpenJobs) (c : Command) (counts : Counts) → (IsOfJobs c → ⊥) → TakesFor t jobs c counts counts
-want_most t jobs c counts other = most_beside t jobs c counts counts other (none_for t c counts counts refl)

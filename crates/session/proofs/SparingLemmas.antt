@@ -24,7 +24,7 @@ use Rattle.folder_session.specs.Causes.{SparesStore}
 use Rattle.folder_session.specs.Machine as folder
 use Rattle.folder_session.proofs.RefusalLemmas.{spares_if, storing_spares, untyped_spares, unbound_spares}
 use Rattle.folder_session.proofs.RefusalLemmas as of_folder
-use Rattle.session.specs.Machine.{Machine, Outcome, outcome, refused, is_open, job_named, OpensTo, StandsSo, StepsTo, IsClosing, ClosesBy, ClosesTo, DropsTo, PerformsBeside, Performs, IsEvent, Step, held_by}
+use Rattle.session.specs.Machine.{Machine, Outcome, outcome, refused, is_open, job_named, OpensTo, StandsSo, StepsTo, IsClosing, ClosesBy, ClosesTo, DropsTo, PerformsBeside, WorksBeside, Performs, IsEvent, Step, held_by}
 use Rattle.session.specs.MachineJob.{Job, left_of, stepped}
 
 -- ---- what the opening of a job refuses is laid to the command
@@ -105,12 +105,17 @@ dropped_spares m name None why new is = refused_spares m why (refusal.Unknown na
 beside_spares : (care : Care) (m : Machine) (c : Command) (why : Refusal) (new : Machine) → PerformsBeside care m c (outcome (answer.Refused why) new) → SparesStore why
 beside_spares care m c why new beside = of_folder.performed_spares care (held_by m.jobs) m.state c why new.state beside.of_folder
 
+working_spares : (care : Care) (m : Machine) (c : Command) (why : Refusal) (new : Machine) → WorksBeside care m c (outcome (answer.Refused why) new) → SparesStore why
+working_spares care m c why new beside = of_folder.performed_spares care (held_by m.jobs) m.state c why new.state beside.of_folder
+
 pub performed_spares : (care : Care) (m : Machine) (c : Command) (why : Refusal) (new : Machine) → Performs care m c (outcome (answer.Refused why) new) → SparesStore why
 performed_spares care m (command.OpenJob job name tree) why new is =
     opened_spares m job (opening (table m.state) (is_open m.jobs job) (length m.jobs) job name tree) why new (opening_spares (table m.state) (is_open m.jobs job) (length m.jobs) job name tree) is
 performed_spares care m (command.Step job) why new is = stepped_spares care m job (job_named m.jobs job) why new is
 performed_spares care m (command.Close job) why new is = closed_spares care m job (job_named m.jobs job) why new is
 performed_spares care m (command.DropJob job) why new is = dropped_spares m job (job_named m.jobs job) why new is
+performed_spares care m (command.Run name tree) why new is = working_spares care m (command.Run name tree) why new is
+performed_spares care m (command.Fetch name as_run) why new is = working_spares care m (command.Fetch name as_run) why new is
 performed_spares care m c why new is = beside_spares care m c why new is
 
 -- ---- what comes in the course of a command

@@ -1,6 +1,6 @@
 -- Open jobs stay as other commands follow.
-use Rattle.std.proofs.Common.{◌≡◌, sym, subst, ap, ◌∙◌, ℕ, zero, suc, ◌+◌, ◌<◌, List, [], ◌∷◌, ◌++◌, length, take, drop, append_assoc, arith}
-use Rattle.std.specs.List.{AllByRecursion, remove}
+use Rattle.std.proofs.Common.{◌≡◌, sym, ℕ, List, [], ◌∷◌, ◌++◌}
+use Rattle.std.specs.List.{AllByRecursion}
 use Rattle.std.proofs.lemmas.List.Elements.{Contains-append_left, Contains-append_right}
 use Rattle.plan_core.specs.PlainPlan.{PlainPlan}
 use Rattle.catalog_core.specs.IsTable.{IsTable}
@@ -29,16 +29,6 @@ all_held (o ∷ opens) = (
   λ id has. Contains-append_left o.job.work.used.items (held_of opens) id has,
   more_held (held_of opens) (held_of (o ∷ opens)) (λ id has. Contains-append_right o.job.work.used.items (held_of opens) id has) opens (all_held opens),
 )
-
--- what those hold that are left is what those before it and behind it hold
-pub held_around : (opens : OpenJobs) (at : ℕ) → at < length opens → held_of (remove opens at) ≡ held_of (take at opens) ++ held_of (drop (at + 1) opens)
-held_around [] at low = absurd (omega (arith, low))
-held_around (o ∷ opens) zero low = λ i. held_of opens
-held_around (o ∷ opens) (suc at) low =
-    let own = o.job.work.used.items in
-    let more : suc (at + 1) ≡ suc at + 1 = omega arith in
-    subst (λ (n : ℕ). own ++ held_of (remove opens at) ≡ (own ++ held_of (take at opens)) ++ held_of (drop n (o ∷ opens))) more
-    (ap (λ (ids : List ℕ). own ++ ids) (held_around opens at (omega (arith, low))) ∙ sym (append_assoc own (held_of (take at opens)) (held_of (drop (at + 1) opens))))
 
 -- the machine's jobs hold the same
 pub same_held : (s : State) (jobs : List Job) (opens : OpenJobs) → AreJobs s jobs opens → held_by jobs ≡ held_of opens

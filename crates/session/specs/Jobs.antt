@@ -1,6 +1,6 @@
 -- The open jobs of a session.
-use Rattle.std.specs.Prelude.{◌≡◌, ◌⊎◌, ℕ, ◌≤◌, bytes_eq, List, [], ◌∷◌, ◌++◌, length, Option}
-use Rattle.std.specs.List.{find, AllByRecursion, flat_map}
+use Rattle.std.specs.Prelude.{◌≡◌, ◌⊎◌, ℕ, ◌≤◌, bytes_eq, List, [], ◌∷◌, ◌++◌, length, Option, None, Some}
+use Rattle.std.specs.List.{find, AllByRecursion, flat_map, remove}
 use Rattle.plan_core.specs.PlainPlan.{PlainPlan}
 use Rattle.row_blob.specs.Kept.{AreEach}
 use Rattle.catalog_core.specs.Table.{Table}
@@ -9,6 +9,7 @@ use Rattle.script_text.specs.declared.answer.Answer.{Answer}
 use Rattle.script_text.specs.declared.answer.Answer.TheVariants as answer
 use Rattle.script_text.specs.declared.answer.Refusal.TheVariants as refusal
 use Rattle.folder.specs.State.{State, table}
+use Rattle.job_table.specs.Jobs.{put_next}
 use Rattle.job_table.specs.declared.table.OpenJob.{OpenJob}
 use Rattle.work_run.specs.Opened.{HasRead, files_left, opened_rewriting}
 use Rattle.job_turns.specs.Jobs as work
@@ -55,6 +56,26 @@ pub record IsJob (s : State) (job : Job) (opened : OpenJob JobWork) : Type 0 whe
 
 abbrev pub AreJobs : State → List Job → OpenJobs → Type 0
 AreJobs s = AreEach (IsJob s)
+
+-- ---- kept results that are dropped
+
+-- the job stays, or another rewriting is chosen for it
+abbrev pub IsLeft : Table → List ℕ → OpenJob JobWork → OpenJob JobWork → Type 0
+IsLeft t dropped old new = (next : Option JobWork) × work.IsNextWithout t dropped old.job next × (new ≡ put_next old next)
+
+abbrev pub AreLeft : Table → List ℕ → OpenJobs → OpenJobs → Type 0
+AreLeft t dropped = AreEach (IsLeft t dropped)
+
+-- all but the one at this place, where one is given
+abbrev pub all_but : Option ℕ → OpenJobs → OpenJobs
+all_but None jobs = jobs
+all_but (Some at) jobs = remove jobs at
+
+-- the jobs behind work that drops these, and that closes the one at this place
+pub record AreLeftBehind (t : Table) (dropped : List ℕ) (closed : Option ℕ) (old new : OpenJobs) : Type 0 where
+  pub left : OpenJobs
+  pub are : AreLeft t dropped old left
+  pub stand : new ≡ all_but closed left
 
 -- ---- a job more
 

@@ -1,14 +1,16 @@
 -- The abstract machine: a folder's state and the open jobs, what is answered to each command, and what is held then.
-use Rattle.std.specs.Prelude.{◌≡◌, ◌⊎◌, ℕ, ◌<◌, bytes_eq, if◌then◌else◌, Bool, List, [], ◌∷◌, ◌++◌, length, flat_map, Option, None, Some, Result, Ok, Err}
-use Rattle.std.specs.List.{find, list_any}
+use Rattle.std.specs.Prelude.{◌≡◌, ◌⊎◌, ℕ, ◌<◌, bytes_eq, if◌then◌else◌, Bool, not, List, [], ◌∷◌, ◌++◌, length, flat_map, Option, None, Some, Result, Ok, Err}
+use Rattle.std.specs.List.{filter, find, list_any}
 use Rattle.plan_core.specs.PlainPlan.{PlainPlan}
 use Rattle.estimator.specs.Bytes.{capped}
 use Rattle.rewrite_core.specs.Files.{AreIdsOf, files_of}
 use Rattle.rewrite_core.specs.PlainRewriting.{PlainRewriting}
+use Rattle.entry_table.specs.Ids.{ids_of, is_there}
 use Rattle.plan_canon.specs.Normal.{IsNormalFormOf}
 use Rattle.plan_choice.specs.Taken.{IsTaken}
 use Rattle.planning.specs.Opening.{opening}
 use Rattle.planning.specs.Running.{Run, storing}
+use Rattle.row_blob.specs.Kept.{AreEach}
 use Rattle.script_text.specs.declared.answer.Answer.{Answer}
 use Rattle.script_text.specs.declared.answer.Answer.TheVariants as answer
 use Rattle.script_text.specs.declared.answer.LimitKind.TheVariants as limit
@@ -23,7 +25,7 @@ use Rattle.folder_session.specs.Machine.{IsFileEvent, IsOfExtent, IsWant}
 use Rattle.work_run.specs.Working.{Overflows, IsDear}
 use Rattle.work_run.specs.Working as work
 use Rattle.job_turns.specs.Ends.{WorksAtLast}
-use Rattle.session.specs.MachineJob.{Job, GoesOn, NotesNext, left_of, steps_of, stepped}
+use Rattle.session.specs.MachineJob.{Job, GoesOn, IsLeft, NotesNext, left_of, steps_of, stepped}
 
 -- ---- jobs by name, in the order of their opening
 
@@ -69,6 +71,16 @@ outcome given m = record { answer = given; machine = m }
 abbrev pub refused : Machine → Refusal → Outcome
 refused m why = outcome (answer.Refused why) m
 
+-- ---- kept results that are dropped
+
+-- those of the first state that the second one hasn't
+abbrev pub gone_between : State → State → List ℕ
+gone_between s u = ids_of (filter (λ e. not (is_there u.entries e.id)) s.entries)
+
+-- each job stays between the two, or is chosen again without them
+abbrev pub AreLeft : State → State → List Job → List Job → Type 0
+AreLeft s u = AreEach (IsLeft s (gone_between s u))
+
 -- ---- commands on jobs
 
 -- the job as it is opened: none of its files is read, and none is noted
@@ -103,14 +115,14 @@ pub record ReadsWhole (care : Care) (s : State) (job last : Job) : Type 0 where
   pub whole : last.done ≡ steps_of last
 
 -- The rows are the meaning of the plan as it is written, on the extents at the job's opening, whatever came between and whatever was
--- damaged. They are made by the rewriting of the plan's normal form that it came to; the results that it noted are dropped, but those
--- that other jobs hold; and the job is gone.
+-- damaged. They are made by the rewriting of the plan's normal form that it came to; the results that it noted are dropped; the job is
+-- gone, and each other one stays, or is chosen again without them.
 pub record Closes (care : Care) (m : Machine) (name : List ℕ) (job : Job) (is : work.Given) (new : Machine) : Type 0 where
   pub last : Job
   pub reads : ReadsWhole care m.state job last
   pub is_normal : IsNormalFormOf (kinds_in m.state.streams) job.run.plan job.normal
-  pub works : WorksAtLast (held_by (put_for name [] m.jobs)) last.noted last.before m.state (Some job.run.program) job.run.plan job.normal job.run.program.cuts last.rewriting is new.state
-  pub gone : new.jobs ≡ put_for name [] m.jobs
+  pub works : WorksAtLast last.noted last.before m.state (Some job.run.program) job.run.plan job.normal job.run.program.cuts last.rewriting is new.state
+  pub others : AreLeft m.state new.state (put_for name [] m.jobs) new.jobs
 
 -- the job stays, with all its files read
 abbrev pub LeavesRead : Care → Machine → List ℕ → Job → Machine → Type 0
@@ -143,12 +155,19 @@ pub record PerformsBeside (care : Care) (m : Machine) (c : Command) (given : Out
   pub of_folder : folder.Performs care (held_by m.jobs) m.state c (folder.outcome given.answer given.machine.state)
   pub jobs : given.machine.jobs ≡ m.jobs
 
+-- So is a run or a fetch, and each job stays, or is chosen again without what it drops.
+pub record WorksBeside (care : Care) (m : Machine) (c : Command) (given : Outcome) : Type 0 where
+  pub of_folder : folder.Performs care (held_by m.jobs) m.state c (folder.outcome given.answer given.machine.state)
+  pub jobs : AreLeft m.state given.machine.state m.jobs given.machine.jobs
+
 -- What the machine does where there is memory and the file of each extent is read. So much is known of the files.
 abbrev pub Performs : Care → Machine → Command → Outcome → Type 0
 Performs care m (command.OpenJob job name tree) given = OpensTo m job (opening (table m.state) (is_open m.jobs job) (length m.jobs) job name tree) given
 Performs care m (command.Step job) given = StepsTo care m job (job_named m.jobs job) given
 Performs care m (command.Close job) given = ClosesTo care m job (job_named m.jobs job) given
 Performs care m (command.DropJob job) given = DropsTo m job (job_named m.jobs job) given
+Performs care m (command.Run name tree) given = WorksBeside care m (command.Run name tree) given
+Performs care m (command.Fetch name as_run) given = WorksBeside care m (command.Fetch name as_run) given
 Performs care m c given = PerformsBeside care m c given
 
 -- a file of the job is left

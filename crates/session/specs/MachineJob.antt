@@ -1,5 +1,5 @@
 -- A job of the abstract machine, and how it goes on.
-use Rattle.std.specs.Prelude.{◌≡◌, ℕ, ◌+◌, ◌-◌, ◌≤◌, min, true, List, [], ◌∷◌, ◌++◌, length, drop}
+use Rattle.std.specs.Prelude.{◌≡◌, ◌⊎◌, ℕ, ◌+◌, ◌-◌, ◌≤◌, min, true, List, [], ◌∷◌, ◌++◌, length, drop}
 use Rattle.std.specs.List.{AllByRecursion}
 use Rattle.plan_core.specs.PlainPlan.{PlainPlan}
 use Rattle.estimator.specs.Bytes.{capped}
@@ -9,9 +9,11 @@ use Rattle.catalog_core.specs.Named.{file_at, bytes_named}
 use Rattle.plan_choice.specs.Leaving.{leaving_out}
 use Rattle.plan_choice.specs.Taken.{IsTaken}
 use Rattle.planning.specs.Running.{Run}
+use Rattle.later_states.specs.Later.{AreFree}
 use Rattle.folder.specs.Sound.{Care}
 use Rattle.folder.specs.State.{State, table}
 use Rattle.work_turns.specs.Turns.{IsLost}
+use Rattle.job_turns.specs.Jobs.{HaveOneOf}
 use Rattle.job_turns.specs.Turns.{Turns}
 
 -- A job: its name; the plan that it was opened with, and what that is stored as when it is closed, with the extents of its opening;
@@ -73,3 +75,14 @@ pub record GoesOn (care : Care) (s : State) (old new : Job) : Type 0 where
   pub used : AreIdsOf (files_of new.rewriting) new.used
   pub within : new.done ≤ steps_of new
   pub is : new ≡ record old { rewriting = new.rewriting; used = new.used; done = new.done; noted = old.noted ++ ids; before = capped (old.before + bytes) }
+
+-- The same job where these kept results are dropped: it has a least rewriting without them and without those that it noted, of which
+-- no file is read. The bytes of the files that it read count before.
+pub record IsChosenAgain (s : State) (dropped : List ℕ) (old new : Job) : Type 0 where
+  pub taken : IsTaken (leaving_out (old.noted ++ dropped) (table s)) old.run.plan old.normal old.run.program.cuts new.rewriting
+  pub used : AreIdsOf (files_of new.rewriting) new.used
+  pub is : new ≡ record old { rewriting = new.rewriting; used = new.used; done = 0; before = capped (old.before + bytes_read s old) }
+
+-- So it is where its rewriting reads one of them; where it reads none the job stays.
+abbrev pub IsLeft : State → List ℕ → Job → Job → Type 0
+IsLeft s dropped old new = (AreFree old.used dropped × (new ≡ old)) ⊎ (HaveOneOf old.used dropped × IsChosenAgain s dropped old new)

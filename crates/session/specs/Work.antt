@@ -1,6 +1,5 @@
 -- Open work of a command: as it is opened, read on and closed.
-use Rattle.std.specs.Prelude.{◌≡◌, ◌≢◌, ◌⊎◌, ℕ, Bool, [], length, Ok, Err, ⊤}
-use Rattle.std.specs.List.{remove}
+use Rattle.std.specs.Prelude.{◌≡◌, ◌≢◌, ◌⊎◌, ℕ, Bool, [], length, Option, Ok, Err, ⊤}
 use Rattle.outside_traits.specs.View.{View, Counts}
 use Rattle.plan_core.specs.PlainPlan.{PlainPlan}
 use Rattle.estimator.specs.Bytes.{capped}
@@ -24,14 +23,14 @@ use Rattle.folder_session.specs.WorkRefusals.{refusal_of}
 use Rattle.folder_session.specs.Working.{answer_of}
 use Rattle.folder_session.specs.declared.session.FolderSession.{FolderSession}
 use Rattle.work_run.specs.Opened.{HasRead, files_left, opened_rewriting}
-use Rattle.work_run.specs.declared.work.Work.{Work}
+use Rattle.work_turns.specs.declared.work.WorkInTurns.{WorkInTurns}
 use Rattle.job_turns.specs.Ends.{IsReadFor}
 use Rattle.job_turns.specs.Jobs as work
 use Rattle.job_turns.specs.Steps.{IsAsBefore, IsStep}
 use Rattle.job_turns.specs.Turns.{Halts, Reads}
 use Rattle.job_turns.specs.declared.job.JobStep.{JobStep}
 use Rattle.job_turns.specs.declared.job.JobWork.{JobWork}
-use Rattle.session.specs.Jobs.{OpenJobs}
+use Rattle.session.specs.Jobs.{OpenJobs, AreLeftBehind}
 
 -- a least rewriting was taken of the plan's normal form; none of its files is read, and no result is noted
 pub record IsOpened (t : Table) (run : Run) (job : JobWork) : Type 0 where
@@ -92,9 +91,11 @@ IsNotClosed tells t view plan old new first last why = IsOver t old new first la
 
 -- ---- recorded
 
--- it is answered, and its job, which stood at this place, is gone; or memory was refused, and the jobs are as they were
-abbrev pub IsEnded : Work → ℕ → OpenJobs → OpenJobs → Answer → Type 0
-IsEnded closed at old new given = ((given ≡ answer_of closed) × (new ≡ remove old at)) ⊎ ((given ≡ answer.Refused refusal.Memory) × (new ≡ old))
+-- It is answered, and the jobs are left behind it, of which it may close the one at this place; or memory was refused, and they are as
+-- they were.
+abbrev pub IsEnded : Table → WorkInTurns → Option ℕ → OpenJobs → OpenJobs → Answer → Type 0
+IsEnded t done closed old new given =
+    ((given ≡ answer_of done.work) × AreLeftBehind t done.dropped.items closed old new) ⊎ ((given ≡ answer.Refused refusal.Memory) × (new ≡ old))
 
 -- the folder's session means the state after it, or, where it is refused, the one before
 abbrev pub IsRecorded : Care → View → View → FolderSession → State → State → Answer → Type 0

@@ -1,44 +1,30 @@
 //! Commands on jobs.
-ghost use Rattle.std.specs.Prelude.{◌≡◌, ◌<◌, ℕ, List, Some, length};
+ghost use Rattle.std.specs.Prelude.{◌≡◌, ◌<◌, Some};
 ghost use Rattle.std.specs.Prelude.{IsTrue, IfOk, OnOk, OnErr};
-ghost use Rattle.std.specs.List.{remove};
 ghost use Rattle.outside_traits.specs.Counts.{Rose};
 ghost use Rattle.outside_traits.specs.View.{View, Counts};
 ghost use Rattle.outside_traits.specs.Calls.{Rises, MayRaiseReads};
 ghost use Rattle.outside_traits.specs.Runs.{Narrows};
-ghost use Rattle.plan_core.specs.PlainPlan.{PlainPlan};
 ghost use Rattle.plan_grammar.specs.Counts.{IsWithinLimits};
 ghost use Rattle.catalog_core.specs.Catalogs.{table_of};
-ghost use Rattle.catalog_types.specs.PlainEntry.{PlainNewEntry};
-ghost use Rattle.catalog_types.specs.declared.change.Change.TheVariants as change;
-ghost use Rattle.catalog_types.specs.declared.program.Program.{Program};
 ghost use Rattle.catalog_core.specs.IsTable.{IsTable};
-ghost use Rattle.admission.specs.Admitting.{MadeResult};
 ghost use Rattle.folder.specs.Folders.{table_in, FolderStands};
-ghost use Rattle.folder.specs.Next.{with_work};
 ghost use Rattle.folder.specs.Sound.{Care};
-ghost use Rattle.folder.specs.State.{State};
-ghost use Rattle.later_states.specs.Later.{IsLater, SparesHeld};
-ghost use Rattle.work_plan.specs.Planning.{IsWorkPlan};
-ghost use Rattle.work_run.specs.Ends.{AreNewFiles};
-ghost use Rattle.work_turns.specs.Ends.{files_among};
 ghost use Rattle.script_text.specs.Answer.{IsNarrow};
 ghost use Rattle.script_text.specs.declared.answer.Refusal.{Refusal};
 ghost use Rattle.script_text.specs.declared.item.Command.TheVariants as command;
 ghost use Rattle.folder_session.specs.Causes.{TellsOfNoFile};
 ghost use Rattle.folder_session.specs.Standing.{AreGoneSince, LeavesWhereRefused, WorkChangesAtMost};
-ghost use Rattle.folder_session.specs.Standing as folder;
 ghost use Rattle.session.specs.Causes.{HasByteCause};
 ghost use Rattle.session.specs.Jobs.{IsAdmitted, held_of};
 ghost use Rattle.session.specs.Machine.{Machine};
 ghost use Rattle.session.specs.Taken.{TakesAsTold, TakesFor};
-ghost use Rattle.session.specs.Work.{IsEnded, IsRecorded, IsSameWhereRefused};
 
 use crate::session::Session;
 use crate::work::{close_work, opened, read_file};
 use catalog_core::Catalog;
 use folder::left_stores;
-use job_table::{JobTable, OpenJob};
+use job_table::OpenJob;
 use job_turns::{JobWork, job_work_stays};
 use outside_traits::{Failed, Store};
 use plan_text::NamedPlan;
@@ -46,7 +32,6 @@ use planning::OpenJobs;
 use rows_core::{Memory, Name};
 use script_text::{Answer, Refusal};
 use std::alloc::Global;
-use work_turns::WorkInTurns;
 
 impl Session {
     ghost use Rattle.session.specs.Standing.{Stands, Performs, Breaks, HoldsJobs, folder_of, jobs_of};
@@ -132,7 +117,7 @@ impl Session {
     }
 
     /// Closes a job: its work is done on the extents of its opening, and recorded. The kept results that it noted
-    /// are dropped, but those that other jobs hold.
+    /// are dropped, and each other job that reads one of them is chosen again.
     pub(crate) fn close<D: Store>(
         self,
         store: &mut D,
@@ -181,81 +166,12 @@ impl Session {
             let session = Session { base, jobs, alloc };
             return Ok((session, Answer::Refused(Refusal::Unknown(name))));
         };
-        let Ok(held) = held_beside(alloc, &jobs, at) else {
-            let session = Session { base, jobs, alloc };
-            return Ok((session, Answer::Refused(Refusal::Memory)));
-        };
         let job = &mut jobs.jobs[at].job;
-        let closed = close_work(alloc, job, store, base.catalog(), &held);
+        let closed = close_work(alloc, job, store, base.catalog());
         let session = Session { base, jobs, alloc };
         match closed {
-            Ok(done) => session.record_closed(store, at, done),
+            Ok(done) => session.record(store, done, Some(at)),
             Err(refusal) => Ok((session, Answer::Refused(refusal))),
-        }
-    }
-
-    // Records the work of the job at this place, which is closed by it.
-    fn record_closed<D: Store>(
-        self,
-        store: &mut D,
-        at: usize,
-        done: WorkInTurns,
-    ) -> Result<(Session, Answer), Failed>
-        requires at { at < length (jobs_of self) }
-        requires planned { (program : Program) × (dropped : List ℕ) × (mades : List MadeResult)
-            × IsWorkPlan (table_in (folder_of self)) (Some program) done.work.used.items dropped mades
-            done.work.plan
-            × (done.gone.items ≡ files_among dropped (table_in (folder_of self)).entries) }
-        ensures ended { IfOk result
-            (λ next. IsEnded done.work at (jobs_of self) (jobs_of next.0) next.1) }
-        ensures ok { IsTrue D.tells → (care : Care) (s : State) (program : Program) (dropped : List ℕ)
-            (news : List PlainNewEntry) → folder.Stands care (D.view store.old) self.base s
-            → done.work.plan.change ≡ change.Work (Some program) done.work.used.items dropped news
-            → AreNewFiles s.streams news done.work.plan.files.items
-            → IfOk result (λ next. IsRecorded care (D.view store.old) (D.view store.new) next.0.base s
-            (with_work s (Some program) done.work.used.items dropped news) next.1) }
-        ensures err { IsTrue D.tells → (care : Care) (s : State) (program : Program) (dropped : List ℕ)
-            (news : List PlainNewEntry) → folder.Stands care (D.view store.old) self.base s
-            → done.work.plan.change ≡ change.Work (Some program) done.work.used.items dropped news
-            → AreNewFiles s.streams news done.work.plan.files.items
-            → OnErr result (folder.KeepsNot care (D.view store.old) (D.view store.new) s
-            (with_work s (Some program) done.work.used.items dropped news)) }
-        ensures later { (held : List ℕ) → SparesHeld held done.work.plan.change → IfOk result (λ next.
-            IsLater held (table_in (folder_of self)) (table_in (folder_of next.0))) }
-        ensures same { IfOk result (λ next. IsSameWhereRefused (table_in (folder_of self))
-            (table_in (folder_of next.0)) next.1) }
-        ensures table { IfOk result (λ next. IsTable (table_in (folder_of next.0))) }
-        ensures alone { WorkChangesAtMost (folder_of self) (D.view store.old) (D.view store.new) }
-        ensures gone { IsTrue D.tells → IfOk result (λ next. AreGoneSince (table_in (folder_of self))
-            (table_in (folder_of next.0)) (D.view store.new) (D.counts store.old) (D.counts store.new)) }
-        ensures cause { OnErr result (Rose (D.counts store.old).writes (D.counts store.new).writes) }
-        ensures no_fault { OnOk result ((D.counts store.new).writes ≡ (D.counts store.old).writes) }
-        ensures refused { IfOk result
-            (λ next. LeavesWhereRefused next.1 (D.view store.old) (D.view store.new)) }
-        ensures crash { IsTrue D.tells → FolderStands (D.view store.old) (folder_of self)
-            → IfOk result (λ next. FolderStands (D.view store.new) (folder_of next.0)) }
-        ensures reads { (D.counts store.new).reads ≡ (D.counts store.old).reads }
-        ensures taken { (D.counts store.new).taken ≡ (D.counts store.old).taken }
-        ensures counts { Rises (D.counts store.old) (D.counts store.new) }
-    {
-        let WorkInTurns { work, gone } = done;
-        let mut session = self;
-        match session.base.prepare(&work.plan.change) {
-            Ok(()) => {
-                session.jobs.jobs.remove(at);
-                let Session { base, jobs, alloc } = session;
-                match base.record_work(store, work, &gone) {
-                    Ok((base, answer)) => {
-                        know_table(base.catalog());
-                        Ok((Session { base, jobs, alloc }, answer))
-                    }
-                    Err(Failed) => Err(Failed),
-                }
-            }
-            Err(Memory) => {
-                know_table(session.base.catalog());
-                Ok((session, Answer::Refused(Refusal::Memory)))
-            }
         }
     }
 
@@ -286,16 +202,6 @@ pub(crate) fn held_ids(alloc: Global, jobs: &[OpenJob<JobWork>]) -> Result<Vec<u
     for opened in jobs {
         held.extend_from_slice(&opened.job.work.used)?;
     }
-    Ok(held)
-}
-
-// The ids of those that the jobs hold but the one at this place.
-fn held_beside(alloc: Global, jobs: &JobTable<JobWork>, at: usize) -> Result<Vec<u32>, Memory>
-    requires { at < length jobs.now.jobs.items }
-    ensures { IfOk result (λ held. held.items ≡ held_of (remove jobs.now.jobs.items at)) }
-{
-    let mut held = held_ids(alloc, &jobs.jobs[..at])?;
-    held.extend_from_slice(&held_ids(alloc, &jobs.jobs[at + 1..])?)?;
     Ok(held)
 }
 

@@ -3,6 +3,7 @@
 
 mod jobs;
 pub mod laws;
+mod recording;
 pub mod session;
 mod work;
 

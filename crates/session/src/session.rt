@@ -16,7 +16,7 @@ ghost use Rattle.journal_store.specs.Readings.{generation_file, HaveBodies, IsUn
 ghost use Rattle.script_text.specs.Answer.{IsNarrow};
 ghost use Rattle.script_text.specs.Script.{IsWhole};
 ghost use Rattle.script_text.specs.declared.answer.Refusal.{Refusal};
-ghost use Rattle.folder_session.specs.Machine.{IsOfJobs};
+ghost use Rattle.folder_session.specs.Machine.{IsOfJobs, IsWork};
 ghost use Rattle.folder_session.specs.Standing.{LeavesWhereRefused, ChangesAtMost, AreGoneSince};
 ghost use Rattle.session.specs.Causes.{HasByteCause};
 ghost use Rattle.session.specs.Machine.{Machine, without_jobs};
@@ -170,14 +170,60 @@ impl Session {
             Command::Step { job } => Ok(self.read_next(store, job)),
             Command::Close { job } => self.close(store, job),
             Command::DropJob { job } => Ok(self.drop_job::<D>(job)),
+            command @ (Command::Run { .. } | Command::Fetch { .. }) => self.work(store, command),
             command => self.perform(store, command),
         }
     }
 
-    // Performs a command that concerns no job.
+    // Performs a run or a fetch.
+    fn work<D: Store>(self, store: &mut D, command: Command) -> Result<(Session, Answer), Failed>
+        requires whole { IsWhole command }
+        requires work { IsWork command }
+        requires holds { HoldsJobs self }
+        ensures holds { IfOk result (λ next. HoldsJobs next.0) }
+        ensures ok { IsTrue D.tells → (care : Care) (m : Machine) → Stands care (D.view store.old) self m
+            → IfOk result
+            (λ next. Performs care (D.view store.old) (D.view store.new) next.0 m command next.1) }
+        ensures err { IsTrue D.tells → (care : Care) (m : Machine) → Stands care (D.view store.old) self m
+            → OnErr result (Breaks care (D.view store.old) (D.view store.new) m command) }
+        ensures narrow { IfOk result (λ next. IsNarrow next.1) }
+        ensures alone { ChangesAtMost (folder_of self) command (D.view store.old) (D.view store.new) }
+        ensures gone { IsTrue D.tells → IfOk result (λ next. AreGoneSince (table_in (folder_of self))
+            (table_in (folder_of next.0)) (D.view store.new) (D.counts store.old) (D.counts store.new)) }
+        ensures cause { OnErr result (Rose (D.counts store.old).writes (D.counts store.new).writes) }
+        ensures no_fault { OnOk result ((D.counts store.new).writes ≡ (D.counts store.old).writes) }
+        ensures refused { IfOk result
+            (λ next. LeavesWhereRefused next.1 (D.view store.old) (D.view store.new)) }
+        ensures fault { IfOk result (λ next. next.1 ≡ Answer.Refused Refusal.Fault
+            → Rose (D.counts store.old).reads (D.counts store.new).reads) }
+        ensures only_fault { IfOk result (λ next. (next.1 ≡ Answer.Refused Refusal.Fault → ⊥)
+            → (D.counts store.new).reads ≡ (D.counts store.old).reads) }
+        ensures looks { OnErr result ((D.counts store.new).reads ≡ (D.counts store.old).reads) }
+        ensures found { IsTrue D.tells → IfOk result (λ next. HasByteCause (table_in (folder_of self))
+            (jobs_of self) command (D.view store.old).files next.1) }
+        ensures taken { IsTrue D.tells → (care : Care) (m : Machine) → Stands care (D.view store.old) self m
+            → IfOk result (λ next. TakesAsTold (table_in (folder_of self)) (jobs_of self) command next.1
+            (D.counts store.old) (D.counts store.new)) }
+        ensures most { IsTrue D.tells → TakesFor (table_in (folder_of self)) (jobs_of self) command
+            (D.counts store.old) (D.counts store.new) }
+        ensures crash { IsTrue D.tells → FolderStands (D.view store.old) (folder_of self)
+            → IfOk result (λ next. FolderStands (D.view store.new) (folder_of next.0)) }
+        ensures counts { Rises (D.counts store.old) (D.counts store.new) }
+    {
+        left_stores::<D>();
+        job_work_stays();
+        know_table(self.base.catalog());
+        match self.base.work_off(store, command) {
+            Ok(done) => self.record(store, done, None),
+            Err(refusal) => Ok((self, Answer::Refused(refusal))),
+        }
+    }
+
+    // Performs a command that concerns no job and works nothing off.
     fn perform<D: Store>(self, store: &mut D, command: Command) -> Result<(Session, Answer), Failed>
         requires whole { IsWhole command }
         requires of_folder { IsOfJobs command → ⊥ }
+        requires no_work { IsWork command → ⊥ }
         requires holds { HoldsJobs self }
         ensures holds { IfOk result (λ next. HoldsJobs next.0) }
         ensures ok { IsTrue D.tells → (care : Care) (m : Machine) → Stands care (D.view store.old) self m

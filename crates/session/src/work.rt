@@ -7,17 +7,16 @@ ghost use Rattle.outside_traits.specs.Runs.{Narrows};
 ghost use Rattle.plan_core.specs.PlainPlan.{PlainPlan};
 ghost use Rattle.plan_grammar.specs.Counts.{IsWithinLimits};
 ghost use Rattle.catalog_core.specs.Catalogs.{table_of};
-ghost use Rattle.admission.specs.Admitting.{MadeResult};
 ghost use Rattle.folder.specs.Left.{IsLeft};
 ghost use Rattle.folder.specs.Sound.{Care};
 ghost use Rattle.folder.specs.State.{State, table};
 ghost use Rattle.planning.specs.Opening.{opening};
 ghost use Rattle.planning.specs.Running.{Run};
 ghost use Rattle.script_text.specs.declared.answer.Refusal.{Refusal};
-ghost use Rattle.work_plan.specs.Planning.{IsWorkPlan};
-ghost use Rattle.work_run.specs.Ends.{HaveFewValues};
+ghost use Rattle.script_text.specs.Answer.{IsNarrow};
+ghost use Rattle.folder_session.specs.Working.{IsPlannedOver, answer_of};
 ghost use Rattle.work_run.specs.Opened.{HasRead, files_left};
-ghost use Rattle.work_turns.specs.Ends.{files_among, free_of, those_among};
+ghost use Rattle.work_turns.specs.Ends.{those_among};
 ghost use Rattle.job_turns.specs.Ends.{ComesAtLast};
 ghost use Rattle.job_turns.specs.Jobs.{IsJob};
 ghost use Rattle.job_turns.specs.Turns.{Reads};
@@ -103,14 +102,13 @@ pub(crate) fn read_file<D: Store>(
 }
 
 /// Closes the work, unless a limit of programs or commands is passed: its files that are left are read, where
-/// kept results may be noted, and its rows made, and what is recorded of it. The noted results are dropped by
-/// that, but those that are held by others. A refusal leaves the work, with what it has read and noted.
+/// kept results may be noted, and its rows made, and what is recorded of it. The noted results that are still
+/// there are dropped by that. A refusal leaves the work, with what it has read and noted.
 pub(crate) fn close_work<D: Store>(
     alloc: Global,
     work: &mut JobWork,
     store: &mut D,
     catalog: &Catalog,
-    held: &[u32],
 ) -> Result<WorkInTurns, Refusal>
     requires { (plan : PlainPlan) × IsJob (table_of catalog.now) plan work.old }
     ensures job { (plan : PlainPlan) → IsJob (table_of catalog.now) plan work.old
@@ -123,19 +121,14 @@ pub(crate) fn close_work<D: Store>(
     ensures ok { IsTrue D.tells → (care : Care) (s : State) (plan : PlainPlan)
         → IsLeft care (D.view store.old) s s → table_of catalog.now ≡ table s → HasRead s work.old.work
         → IsJob (table_of catalog.now) plan work.old
-        → IfOk result (λ done. ComesAtLast held.now s plan work.new done.work) }
+        → IfOk result (λ done. ComesAtLast s plan work.new done.work) }
     ensures err { (plan : PlainPlan) → IsJob (table_of catalog.now) plan work.old
         → IfErr result (IsNotClosed D.tells (table_of catalog.now) (D.view store.old) plan work.old work.new
         (D.counts store.old) (D.counts store.new)) }
-    ensures recorded { IfOk result (λ done. (mades : List MadeResult) × IsWorkPlan (table_of catalog.now)
-        (Some work.old.work.program) done.work.used.items
-        (those_among (free_of held.now work.new.noted.items) (table_of catalog.now).entries) mades
-        done.work.plan) }
-    ensures gone { IfOk result (λ done. done.gone.items ≡ files_among
-        (those_among (free_of held.now work.new.noted.items) (table_of catalog.now).entries)
-        (table_of catalog.now).entries) }
-    ensures narrow { IfOk result
-        (λ done. HaveFewValues done.work.rows.items × (length done.work.used.items ≤ 4096)) }
+    ensures planned { IfOk result (IsPlannedOver (table_of catalog.now)) }
+    ensures dropped { IfOk result (λ done. done.dropped.items
+        ≡ those_among work.new.noted.items (table_of catalog.now).entries) }
+    ensures narrow { IfOk result (λ done. IsNarrow (answer_of done.work)) }
     ensures narrows { Narrows (D.view store.old) (D.view store.new) }
     ensures counts { MayRaiseReads (D.counts store.old) (D.counts store.new) }
 {
@@ -145,7 +138,7 @@ pub(crate) fn close_work<D: Store>(
     if let Some(kind) = plan_close(catalog, &work.work.program) {
         return Err(Refusal::Limit(kind));
     }
-    match work.close(alloc, store, catalog, held) {
+    match work.close(alloc, store, catalog) {
         Ok(done) => Ok(done),
         Err(refusal) => Err(refusal_of(refusal)),
     }

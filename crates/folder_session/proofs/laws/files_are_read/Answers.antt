@@ -8,4 +8,4 @@ pub returns-clause-unreadable : goal.returns-clause-unreadable
 returns-clause-unreadable c = never_unreadable
 
 pub returns-clause-none_lost : goal.returns-clause-none_lost
-returns-clause-none_lost c = λ held s new program plan form cuts given works. never_lost s works.lost works.shown
+returns-clause-none_lost c = λ s new program plan form cuts given works. never_lost s works.lost works.shown

@@ -40,7 +40,7 @@ returns-in-Ok-run_in_turns-clause-most g c = λ told. inr (c.in-Ok.taken.normal.
 -- ---- or refused
 
 pub returns-clause-err : goal.returns-clause-err
-returns-clause-err g c = λ told care s left means held program.
+returns-clause-err g c = λ told care s left means program.
     let t = table_of c.args.catalog.now in
     let plan = c.args.typed.plan in
     let why = c.in-Err.refusal in
@@ -48,8 +48,8 @@ returns-clause-err g c = λ told care s left means held program.
     let is = c.in-Err.ensures.err told care s plan left means first in
     let cause = c.in-Err.ensures.cause plan first in
     let extent = of_extent_of c.serving_rewritings.ensures.there c.taken_rewritings.ensures.serves c.results_are_left_out.ensures.table t c.streams.ensures.table plan c.in-Ok.taken.normal.plan c.args.cuts.now c.requires.are_cuts cause.rewriting cause.after why cause.of_extent in
-    subst (λ (w : Refusal). WorkStep care held s program plan c.args.cuts.now (answer.Refused w) s) (sym c.refusal_of.ensures)
-    (refused_work care held s program plan c.args.cuts.now why is (subst (λ (x : Table). IsOfExtent x (refusal_of why)) means extent))
+    subst (λ (w : Refusal). WorkStep care s program plan c.args.cuts.now (answer.Refused w) s) (sym c.refusal_of.ensures)
+    (refused_work care s program plan c.args.cuts.now why is (subst (λ (x : Table). IsOfExtent x (refusal_of why)) means extent))
 
 pub returns-clause-most : goal.returns-clause-most
 returns-clause-most g c = λ told. inr (c.in-Ok.taken.normal.plan, c.run_in_turns.ensures.most told c.args.typed.plan (c.in-Ok.ensures.of_form (target_at c.args.typed c.args.cuts.now) c.requires))
@@ -77,4 +77,4 @@ returns-clause-only_fault g c = λ other.
 -- ---- want of memory for the choice
 
 pub returns-in_default-clause-err : goal.returns-in_default-clause-err
-returns-in_default-clause-err g c = λ told care s left means held program. inr (refusal.Memory, tt, tt, refl)
+returns-in_default-clause-err g c = λ told care s left means program. inr (refusal.Memory, tt, tt, refl)

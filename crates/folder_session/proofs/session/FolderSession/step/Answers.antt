@@ -1,16 +1,13 @@
-use Rattle.std.proofs.Common.{sym, subst, ap, refl, IfOk, Ok}
+use Rattle.std.proofs.Common.{sym, subst, ap, refl, IfOk}
 use Rattle.script_text.specs.declared.item.Command.{Command}
 use Rattle.script_text.specs.declared.item.Command.TheVariants as command
 use Rattle.folder.specs.Folders.{table_in, FolderStands}
 use Rattle.folder_session.specs.declared.session.FolderSession.{FolderSession}
 use Rattle.folder_session.specs.Machine.{told_catalog, told_entries}
 use Rattle.folder_session.specs.Standing.{Performs, ChangesAtMost, folder_of}
-use Rattle.folder_session.specs.Wanted.{IsWanted}
 use Rattle.folder_session.proofs.CollectLemmas.{tells_list, list_leaves, list_narrow, list_tells}
 use Rattle.folder_session.proofs.DroppedLemmas.{gone_from_none, none_gone}
-use Rattle.folder_session.proofs.RefusalLemmas.{no_file_causes, no_fault_in}
-use Rattle.folder_session.proofs.TakenLemmas.{told_of_any, none_for}
-use Rattle.folder_session.proofs.LeavingLemmas.{changes_none, looked_before, failed_after}
+use Rattle.folder_session.proofs.LeavingLemmas.{changes_none}
 use Rattle.folder_session.proofs.LaterLemmas.{same_later}
 use Rattle.folder_session.proofs.session.FolderSession.step.Goals as goal
 
@@ -21,52 +18,6 @@ returns-in-Stream-clause-ok g c = λ told care s stands.
 pub returns-in-Append-clause-ok : goal.returns-in-Append-clause-ok
 returns-in-Append-clause-ok g c = λ told care s stands.
     subst (λ (x : Command). IfOk c.append.result (λ next. Performs care (g.D.Store.view c.args.store.now) (g.D.Store.view c.append.new.store) c.args.held.now next.0 s x next.1)) (sym c.in-Append.is) (c.append.ensures.ok told care c.args.held.now s stands)
-
-pub returns-in-Run-clause-ok : goal.returns-in-Run-clause-ok
-returns-in-Run-clause-ok g c = λ told care s stands.
-    c.work.ensures.ok told care s c.args.command stands (subst (λ (x : Command). IsWanted (table_in (folder_of c.args.self)) x c.want_run-wanted.result) (sym c.in-Run.is) c.want_run-wanted.ensures.wanted)
-
-pub returns-in-Stream-clause-taken : goal.returns-in-Stream-clause-taken
-returns-in-Stream-clause-taken g c = λ told care s stands. told_of_any (g.D.Store.counts c.args.store.now) (g.D.Store.counts c.make.new.store) _ c.make.ensures.of_no_file
-
-pub returns-in-Append-clause-taken : goal.returns-in-Append-clause-taken
-returns-in-Append-clause-taken g c = λ told care s stands. told_of_any (g.D.Store.counts c.args.store.now) (g.D.Store.counts c.append.new.store) _ c.append.ensures.of_no_file
-
-pub returns-in-Stream-clause-most : goal.returns-in-Stream-clause-most
-returns-in-Stream-clause-most g c = λ told. none_for (table_in (folder_of c.args.self)) c.args.command (g.D.Store.counts c.args.store.now) (g.D.Store.counts c.make.new.store) c.make.ensures.counts.taken
-
-pub returns-in-Append-clause-most : goal.returns-in-Append-clause-most
-returns-in-Append-clause-most g c = λ told. none_for (table_in (folder_of c.args.self)) c.args.command (g.D.Store.counts c.args.store.now) (g.D.Store.counts c.append.new.store) c.append.ensures.counts.taken
-
-pub returns-in-Run-clause-most : goal.returns-in-Run-clause-most
-returns-in-Run-clause-most g c = λ told. c.work.ensures.most told c.args.command (subst (λ (x : Command). IsWanted (table_in (folder_of c.args.self)) x c.want_run-wanted.result) (sym c.in-Run.is) c.want_run-wanted.ensures.wanted)
-
-pub returns-in-Stream-clause-found : goal.returns-in-Stream-clause-found
-returns-in-Stream-clause-found g c = λ told. no_file_causes (table_in (folder_of c.args.self)) (g.D.Store.view c.args.store.now).files c.args.command _ c.make.ensures.of_no_file
-
-pub returns-in-Append-clause-found : goal.returns-in-Append-clause-found
-returns-in-Append-clause-found g c = λ told. no_file_causes (table_in (folder_of c.args.self)) (g.D.Store.view c.args.store.now).files c.args.command _ c.append.ensures.of_no_file
-
-pub returns-in-Run-clause-found : goal.returns-in-Run-clause-found
-returns-in-Run-clause-found g c = λ told. c.work.ensures.found told c.args.command (subst (λ (x : Command). IsWanted (table_in (folder_of c.args.self)) x c.want_run-wanted.result) (sym c.in-Run.is) c.want_run-wanted.ensures.wanted)
-
-pub returns-in-Stream-clause-fault : goal.returns-in-Stream-clause-fault
-returns-in-Stream-clause-fault g c = no_fault_in _ _ _ c.make.ensures.of_no_file
-
-pub returns-in-Append-clause-fault : goal.returns-in-Append-clause-fault
-returns-in-Append-clause-fault g c = no_fault_in _ _ _ c.append.ensures.of_no_file
-
-pub returns-in-Stream-clause-only_fault : goal.returns-in-Stream-clause-only_fault
-returns-in-Stream-clause-only_fault g c = looked_before _ _ _ c.make.ensures.counts.reads
-
-pub returns-in-Append-clause-only_fault : goal.returns-in-Append-clause-only_fault
-returns-in-Append-clause-only_fault g c = looked_before _ _ _ c.append.ensures.counts.reads
-
-pub returns-in-Stream-clause-looks : goal.returns-in-Stream-clause-looks
-returns-in-Stream-clause-looks g c = failed_after _ _ c.make.ensures.counts.reads
-
-pub returns-in-Append-clause-looks : goal.returns-in-Append-clause-looks
-returns-in-Append-clause-looks g c = failed_after _ _ c.append.ensures.counts.reads
 
 pub returns-in-Stream-clause-alone : goal.returns-in-Stream-clause-alone
 returns-in-Stream-clause-alone g c = subst (λ (x : Command). ChangesAtMost (folder_of c.args.self) x (g.D.Store.view c.args.store.now) (g.D.Store.view c.make.new.store)) (sym c.in-Stream.is) c.make.ensures.alone
@@ -80,22 +31,6 @@ returns-in-Append-clause-alone g c = subst (λ (x : Command). ChangesAtMost (fol
 pub returns-in-Append-clause-gone : goal.returns-in-Append-clause-gone
 returns-in-Append-clause-gone g c = λ told. none_gone (table_in (folder_of c.args.self)) (g.D.Store.view c.append.new.store) (g.D.Store.counts c.args.store.now) (g.D.Store.counts c.append.new.store) c.append.result c.append.ensures.later
 
-pub returns-in-Run-clause-alone : goal.returns-in-Run-clause-alone
-returns-in-Run-clause-alone g c = subst (λ (x : Command). ChangesAtMost (folder_of c.args.self) x (g.D.Store.view c.args.store.now) (g.D.Store.view c.work.new.store)) (sym c.in-Run.is) c.work.ensures.alone
-
-pub returns-in-Fetch-clause-alone : goal.returns-in-Fetch-clause-alone
-returns-in-Fetch-clause-alone g c = subst (λ (x : Command). ChangesAtMost (folder_of c.args.self) x (g.D.Store.view c.args.store.now) (g.D.Store.view c.work-in-Fetch.new.store)) (sym c.in-Fetch.is) c.work-in-Fetch.ensures.alone
-
-pub returns-in-Fetch-clause-ok : goal.returns-in-Fetch-clause-ok
-returns-in-Fetch-clause-ok g c = λ told care s stands.
-    c.work-in-Fetch.ensures.ok told care s c.args.command stands (subst (λ (x : Command). IsWanted (table_in (folder_of c.args.self)) x c.want_fetch-wanted.result) (sym c.in-Fetch.is) c.want_fetch-wanted.ensures.wanted)
-
-pub returns-in-Fetch-clause-most : goal.returns-in-Fetch-clause-most
-returns-in-Fetch-clause-most g c = λ told. c.work-in-Fetch.ensures.most told c.args.command (subst (λ (x : Command). IsWanted (table_in (folder_of c.args.self)) x c.want_fetch-wanted.result) (sym c.in-Fetch.is) c.want_fetch-wanted.ensures.wanted)
-
-pub returns-in-Fetch-clause-found : goal.returns-in-Fetch-clause-found
-returns-in-Fetch-clause-found g c = λ told. c.work-in-Fetch.ensures.found told c.args.command (subst (λ (x : Command). IsWanted (table_in (folder_of c.args.self)) x c.want_fetch-wanted.result) (sym c.in-Fetch.is) c.want_fetch-wanted.ensures.wanted)
-
 -- ---- a collection
 
 pub returns-in-Collect-clause-ok : goal.returns-in-Collect-clause-ok
@@ -104,24 +39,6 @@ returns-in-Collect-clause-ok g c = λ told care s stands.
 
 pub returns-in-Collect-clause-alone : goal.returns-in-Collect-clause-alone
 returns-in-Collect-clause-alone g c = subst (λ (x : Command). ChangesAtMost (folder_of c.args.self) x (g.D.Store.view c.args.store.now) (g.D.Store.view c.collect.new.store)) (sym c.in-Collect.is) c.collect.ensures.alone
-
-pub returns-in-Collect-clause-taken : goal.returns-in-Collect-clause-taken
-returns-in-Collect-clause-taken g c = λ told care s stands. told_of_any (g.D.Store.counts c.args.store.now) (g.D.Store.counts c.collect.new.store) _ c.collect.ensures.of_no_file
-
-pub returns-in-Collect-clause-most : goal.returns-in-Collect-clause-most
-returns-in-Collect-clause-most g c = λ told. none_for (table_in (folder_of c.args.self)) c.args.command (g.D.Store.counts c.args.store.now) (g.D.Store.counts c.collect.new.store) c.collect.ensures.taken
-
-pub returns-in-Collect-clause-found : goal.returns-in-Collect-clause-found
-returns-in-Collect-clause-found g c = λ told. no_file_causes (table_in (folder_of c.args.self)) (g.D.Store.view c.args.store.now).files c.args.command _ c.collect.ensures.of_no_file
-
-pub returns-in-Collect-clause-fault : goal.returns-in-Collect-clause-fault
-returns-in-Collect-clause-fault g c = no_fault_in _ _ _ c.collect.ensures.of_no_file
-
-pub returns-in-Collect-clause-only_fault : goal.returns-in-Collect-clause-only_fault
-returns-in-Collect-clause-only_fault g c = looked_before _ _ _ c.collect.ensures.reads
-
-pub returns-in-Collect-clause-looks : goal.returns-in-Collect-clause-looks
-returns-in-Collect-clause-looks g c = failed_after _ _ c.collect.ensures.reads
 
 -- ---- what is kept is told
 
@@ -143,21 +60,11 @@ pub returns-in-Entries-clause-gone : goal.returns-in-Entries-clause-gone
 returns-in-Entries-clause-gone g c = λ told.
     gone_from_none (table_in (folder_of c.args.self)) (table_in (folder_of c.tell_entries.result.0)) (ap (λ (x : FolderSession). table_in (folder_of x)) c.tell_entries.ensures.session) (g.D.Store.view c.args.store.now) (g.D.Store.counts c.args.store.now) (g.D.Store.counts c.args.store.now)
 
-pub returns-in-Entries-clause-taken : goal.returns-in-Entries-clause-taken
-returns-in-Entries-clause-taken g c = λ told care s stands. told_of_any (g.D.Store.counts c.args.store.now) (g.D.Store.counts c.args.store.now) (Ok c.tell_entries.result) (list_tells told_entries (table_in (folder_of c.args.self)) _ c.tell_entries.ensures.told tt)
-
-pub returns-in-Entries-clause-most : goal.returns-in-Entries-clause-most
-returns-in-Entries-clause-most g c = λ told. none_for (table_in (folder_of c.args.self)) c.args.command (g.D.Store.counts c.args.store.now) (g.D.Store.counts c.args.store.now) refl
-
-pub returns-in-Entries-clause-found : goal.returns-in-Entries-clause-found
-returns-in-Entries-clause-found g c = λ told.
-    no_file_causes (table_in (folder_of c.args.self)) (g.D.Store.view c.args.store.now).files c.args.command (Ok c.tell_entries.result) (list_tells told_entries (table_in (folder_of c.args.self)) _ c.tell_entries.ensures.told tt)
-
-pub returns-in-Entries-clause-fault : goal.returns-in-Entries-clause-fault
-returns-in-Entries-clause-fault g c = no_fault_in _ _ (Ok c.tell_entries.result) (list_tells told_entries (table_in (folder_of c.args.self)) _ c.tell_entries.ensures.told tt)
-
 pub returns-in-Entries-clause-crash : goal.returns-in-Entries-clause-crash
 returns-in-Entries-clause-crash g c = λ told stands. subst (λ (x : FolderSession). FolderStands (g.D.Store.view c.args.store.now) (folder_of x)) (sym c.tell_entries.ensures.session) stands
+
+pub returns-in-Entries-clause-of_no_file : goal.returns-in-Entries-clause-of_no_file
+returns-in-Entries-clause-of_no_file g c = list_tells told_entries (table_in (folder_of c.args.self)) _ c.tell_entries.ensures.told tt
 
 -- ---- the catalogue is told
 
@@ -179,21 +86,11 @@ pub returns-in-Catalog-clause-gone : goal.returns-in-Catalog-clause-gone
 returns-in-Catalog-clause-gone g c = λ told.
     gone_from_none (table_in (folder_of c.args.self)) (table_in (folder_of c.tell_catalog.result.0)) (ap (λ (x : FolderSession). table_in (folder_of x)) c.tell_catalog.ensures.session) (g.D.Store.view c.args.store.now) (g.D.Store.counts c.args.store.now) (g.D.Store.counts c.args.store.now)
 
-pub returns-in-Catalog-clause-taken : goal.returns-in-Catalog-clause-taken
-returns-in-Catalog-clause-taken g c = λ told care s stands. told_of_any (g.D.Store.counts c.args.store.now) (g.D.Store.counts c.args.store.now) (Ok c.tell_catalog.result) (list_tells told_catalog (table_in (folder_of c.args.self)) _ c.tell_catalog.ensures.told tt)
-
-pub returns-in-Catalog-clause-most : goal.returns-in-Catalog-clause-most
-returns-in-Catalog-clause-most g c = λ told. none_for (table_in (folder_of c.args.self)) c.args.command (g.D.Store.counts c.args.store.now) (g.D.Store.counts c.args.store.now) refl
-
-pub returns-in-Catalog-clause-found : goal.returns-in-Catalog-clause-found
-returns-in-Catalog-clause-found g c = λ told.
-    no_file_causes (table_in (folder_of c.args.self)) (g.D.Store.view c.args.store.now).files c.args.command (Ok c.tell_catalog.result) (list_tells told_catalog (table_in (folder_of c.args.self)) _ c.tell_catalog.ensures.told tt)
-
-pub returns-in-Catalog-clause-fault : goal.returns-in-Catalog-clause-fault
-returns-in-Catalog-clause-fault g c = no_fault_in _ _ (Ok c.tell_catalog.result) (list_tells told_catalog (table_in (folder_of c.args.self)) _ c.tell_catalog.ensures.told tt)
-
 pub returns-in-Catalog-clause-crash : goal.returns-in-Catalog-clause-crash
 returns-in-Catalog-clause-crash g c = λ told stands. subst (λ (x : FolderSession). FolderStands (g.D.Store.view c.args.store.now) (folder_of x)) (sym c.tell_catalog.ensures.session) stands
+
+pub returns-in-Catalog-clause-of_no_file : goal.returns-in-Catalog-clause-of_no_file
+returns-in-Catalog-clause-of_no_file g c = list_tells told_catalog (table_in (folder_of c.args.self)) _ c.tell_catalog.ensures.told tt
 
 -- ---- what goes on standing
 

@@ -1,4 +1,4 @@
-use Rattle.std.proofs.Common.{◌≡◌, IfOk, inl, refl, sym, ap, ◌∙◌, subst, Bool}
+use Rattle.std.proofs.Common.{◌≡◌, IfOk, OnErr, Some, inl, refl, sym, ap, ◌∙◌, subst, Bool, length-set, arith}
 use Rattle.std.proofs.Math.ListN.{set}
 use Rattle.outside_traits.proofs.RunLemmas.{spans_narrowed}
 use Rattle.plan_core.specs.PlainPlan.{PlainPlan}
@@ -12,26 +12,27 @@ use Rattle.folder.specs.Folders.{table_in}
 use Rattle.folder.specs.Left.{Everything, IsSoundForOneOf}
 use Rattle.folder.specs.Sound.{IsSound}
 use Rattle.folder.specs.State.{table}
-use Rattle.folder_session.proofs.DroppedLemmas.{dropped_free, gone_from_none}
+use Rattle.folder_session.specs.Working.{IsPlannedOver}
+use Rattle.folder_session.proofs.DroppedLemmas.{gone_from_none}
 use Rattle.folder_session.proofs.LeavingLemmas.{failed_after, work_on, work_reads}
 use Rattle.job_table.specs.declared.table.OpenJob.{OpenJob}
-use Rattle.later_states.specs.Later.{SparesHeld}
-use Rattle.work_turns.specs.Ends.{free_of, those_among}
+use Rattle.later_states.specs.Later.{IsLater}
+use Rattle.work_turns.specs.Ends.{those_among}
 use Rattle.job_turns.specs.Jobs as work
 use Rattle.job_turns.specs.Turns.{Reads}
 use Rattle.job_turns.specs.declared.job.JobWork.{JobWork}
-use Rattle.session.specs.Jobs.{AreHeldOver, IsJob, held_of}
+use Rattle.session.specs.Jobs.{OpenJobs, AreHeldOver, AreLeftBehind, IsJob}
 use Rattle.session.specs.Standing.{folder_of, jobs_of}
 use Rattle.session.specs.Causes.{IsFoundOf}
 use Rattle.session.specs.Taken.{TakesAsTold, TakesGoingOn}
-use Rattle.session.specs.Work.{IsNotClosed, IsWithin}
-use Rattle.session.proofs.CloseLemmas.{removed_same, unknown_close, want_close}
+use Rattle.session.specs.Work.{IsEnded, IsNotClosed, IsWithin}
+use Rattle.session.proofs.CloseLemmas.{unknown_close}
 use Rattle.session.proofs.ClosingLemmas.{closed_breaks, closed_result, found, not_closed_performs}
-use Rattle.session.proofs.EndedLemmas.{closed_gone, closed_takes, ended_found, ended_holds, ended_narrow, ended_no_fault, ended_taken, refused_since, same_whatever}
-use Rattle.session.proofs.FoundLemmas.{close_found, close_most, held_at, most_on, none_most, not_closed_rose, not_closed_unread, read_held, reads_most, stopped_found, stopped_most, unclosed_most}
+use Rattle.session.proofs.EndedLemmas.{closed_gone, closed_takes, ended_answers, ended_found, ended_narrow, ended_no_fault, ended_taken, refused_since, same_whatever}
+use Rattle.session.proofs.FoundLemmas.{close_found, close_most, held_at, most_on, not_closed_rose, not_closed_unread, read_held, reads_most, stopped_found, stopped_most, unclosed_most}
 use Rattle.session.proofs.JobSteps.{same_name}
 use Rattle.session.proofs.OpenLemmas.{stays}
-use Rattle.session.proofs.Places.{first_at, job_at, none_at, none_named}
+use Rattle.session.proofs.Places.{first_at, job_at, none_at, none_named, within_first}
 use Rattle.session.proofs.session.Session.close.Goals as goal
 
 -- ---- no job of the name is open
@@ -45,22 +46,8 @@ returns-in_default-clause-ok g c = λ told care m stands.
 pub returns-in_default-clause-gone : goal.returns-in_default-clause-gone
 returns-in_default-clause-gone g c = λ told. (let t = table_in (folder_of c.args.self) in gone_from_none t t refl (g.D.Store.view c.args.store.now) (g.D.Store.counts c.args.store.now) (g.D.Store.counts c.args.store.now))
 
--- ---- want of memory for the ids that are held
-
-pub returns-in_default-held_beside-clause-ok : goal.returns-in_default-held_beside-clause-ok
-returns-in_default-held_beside-clause-ok g c = λ told care m stands.
-    stays care (g.D.Store.view c.args.store.now) c.args.self c.args.self m (command.Close c.args.name) (answer.Refused refusal.Memory) stands refl refl (want_close care m c.args.name)
-
-pub returns-in_default-held_beside-clause-gone : goal.returns-in_default-held_beside-clause-gone
-returns-in_default-held_beside-clause-gone g c = λ told. (let t = table_in (folder_of c.args.self) in gone_from_none t t refl (g.D.Store.view c.args.store.now) (g.D.Store.counts c.args.store.now) (g.D.Store.counts c.args.store.now))
-
 pub returns-in_default-clause-most : goal.returns-in_default-clause-most
 returns-in_default-clause-most g c = λ told. unclosed_most (jobs_of c.args.self) c.args.name (sym c.place_of.ensures ∙ c.in_default.is) (table_in (folder_of c.args.self)) (g.D.Store.counts c.args.store.now)
-
-pub returns-in_default-held_beside-clause-most : goal.returns-in_default-held_beside-clause-most
-returns-in_default-held_beside-clause-most g c = λ told.
-    let t = table_in (folder_of c.args.self) in
-    none_most (jobs_of c.args.self) c.args.name c.in-Some.at (sym c.place_of.ensures ∙ c.in-Some.is) t c.requires.holds (g.D.Store.view c.args.store.now) (g.D.Store.counts c.args.store.now)
 
 -- ---- what closing asks
 
@@ -73,27 +60,29 @@ close_work-closed-requires g c =
 
 -- ---- closed
 
-pub returns-in-Ok-closed-clause-holds : goal.returns-in-Ok-closed-clause-holds
-returns-in-Ok-closed-clause-holds g c =
-    let t = table_in (folder_of c.args.self) in
+pub record-requires-clause-planned : goal.record-requires-clause-planned
+record-requires-clause-planned g c = subst (λ (x : Table). IsPlannedOver x c.in-Ok.done) c.catalog-2.ensures c.in-Ok.ensures.planned
+
+pub record-requires-clause-holds : goal.record-requires-clause-holds
+record-requires-clause-holds g c =
+    let o = c.index_mut.result.now in
+    let job = c.close_work-closed.new.work in
+    let still = subst (λ (x : Table). (plan : PlainPlan) → work.IsJob x plan o.job → work.IsJob x plan job) c.catalog-2.ensures c.in-Ok.ensures.job in
+    read_held (jobs_of c.args.self) c.args.name c.in-Some.at o (sym c.place_of.ensures ∙ c.in-Some.is) c.index_mut.ensures.value (table_in (folder_of c.args.self)) job still c.requires.holds
+
+pub record-requires-clause-closed : goal.record-requires-clause-closed
+record-requires-clause-closed g c =
     let jobs = jobs_of c.args.self in
-    let at = c.in-Some.at in
-    let o = c.index_mut.result.now in
-    let job = c.close_work-closed.new.work in
-    let after : OpenJob JobWork = record { name = o.name; job = job } in
-    let still = subst (λ (x : Table). (plan : PlainPlan) → work.IsJob x plan o.job → work.IsJob x plan job) c.catalog-2.ensures c.in-Ok-closed.ensures.job in
-    let over = read_held jobs c.args.name at o (sym c.place_of.ensures ∙ c.in-Some.is) c.index_mut.ensures.value t job still c.requires.holds in
-    let held = c.deref.result.now in
-    let held_is = c.deref.ensures.value ∙ c.in-Ok.ensures ∙ ap held_of (sym (removed_same jobs at after)) in
-    let spares = subst (SparesHeld held) (sym c.in-Ok-closed.ensures.recorded.1.change) (dropped_free held job.noted.items (table_of c.catalog-2.result.now).entries) in
-    ended_holds c.job_work_stays.ensures.job t (subst IsTable c.catalog.ensures c.know_table.ensures) (set jobs at after) c.in-Ok-closed.done.work at held held_is over c.record_closed.result c.record_closed.ensures.table
-    (c.record_closed.ensures.later held spares) c.record_closed.ensures.same c.record_closed.ensures.ended
+    let after : OpenJob JobWork = record { name = c.index_mut.result.now.name; job = c.close_work-closed.new.work } in
+    let low = within_first c.args.name jobs c.in-Some.at (first_at c.args.name jobs c.in-Some.at (sym c.place_of.ensures ∙ c.in-Some.is)) in
+    let long = length-set jobs c.in-Some.at after in
+    omega (arith, low, long)
 
-pub returns-in-Ok-closed-clause-ok : goal.returns-in-Ok-closed-clause-ok
-returns-in-Ok-closed-clause-ok g c = λ told care m stands.
+pub returns-in-Ok-clause-ok : goal.returns-in-Ok-clause-ok
+returns-in-Ok-clause-ok g c = λ told care m stands.
     let u = g.D.Store.view c.args.store.now in
     let w = g.D.Store.view c.close_work-closed.new.store in
-    let v = g.D.Store.view c.record_closed.new.store in
+    let v = g.D.Store.view c.record.new.store in
     let first = g.D.Store.counts c.args.store.now in
     let then = g.D.Store.counts c.close_work-closed.new.store in
     let tells = g.D.Store.tells in
@@ -102,29 +91,30 @@ returns-in-Ok-closed-clause-ok g c = λ told care m stands.
     let job = c.close_work-closed.new.work in
     let after : OpenJob JobWork = record { name = o.name; job = job } in
     let e = c.catalog-2.ensures ∙ stands.base.means.table_is in
-    let narrows = c.in-Ok-closed.ensures.narrows in
+    let narrows = c.in-Ok.ensures.narrows in
     let means = c.left_stores.ensures.means care c.args.store.now c.close_work-closed.new.store _ _ m.state narrows stands.base.means in
-    let still = subst (λ (x : Table). (plan : PlainPlan) → work.IsJob x plan o.job → work.IsJob x plan job) e c.in-Ok-closed.ensures.job in
+    let still = subst (λ (x : Table). (plan : PlainPlan) → work.IsJob x plan o.job → work.IsJob x plan job) e c.in-Ok.ensures.job in
     let place = sym c.place_of.ensures ∙ c.in-Some.is in
     let of = found care u c.args.self m stands c.args.name at o o after place (sym c.index_mut.ensures.value) refl still in
     let is_job = subst (λ (x : Table). work.IsJob x of.job.run.plan o.job) (sym e) of.is.is_job in
-    let comes = c.in-Ok-closed.ensures.ok told care m.state of.job.run.plan stands.base.left e of.is.read is_job in
-    let reads = subst (λ (x : Table). Reads tells x u of.job.run.plan o.job job first then) e (c.in-Ok-closed.ensures.reads of.job.run.plan is_job) in
-    let within = subst (λ (x : Table). IsWithin x o.job) e c.in-Ok-closed.ensures.within in
-    let held = c.deref.result.now in
-    let held_is = c.deref.ensures.value ∙ c.in-Ok.ensures in
-    let spares = subst (SparesHeld held) (sym c.in-Ok-closed.ensures.recorded.1.change) (dropped_free held job.noted.items (table_of c.catalog-2.result.now).entries) in
-    let dropped = those_among (free_of held job.noted.items) m.state.entries in
-    closed_result care u c.args.self m stands c.args.name at o o after place (sym c.index_mut.ensures.value) refl still tells told first then reads c.in-Ok-closed.ensures.whole within c.in-Ok-closed.done.work held held_is comes w v
-    (spans_narrowed Everything (λ image. IsSound care image m.state) _ _ narrows stands.base.means.settled) c.job_work_stays.ensures.job c.job_work_stays.ensures.read
-    (subst IsTable c.catalog.ensures c.know_table.ensures) c.record_closed.result c.record_closed.ensures.table (c.record_closed.ensures.later held spares) c.record_closed.ensures.ended
-    (c.record_closed.ensures.ok told care m.state job.work.program dropped comes.news (record { means = means; left = c.left_stores.ensures.meant care c.close_work-closed.new.store _ _ m.state means }) comes.change_is comes.files)
+    let comes = c.in-Ok.ensures.ok told care m.state of.job.run.plan stands.base.left e of.is.read is_job in
+    let reads = subst (λ (x : Table). Reads tells x u of.job.run.plan o.job job first then) e (c.in-Ok.ensures.reads of.job.run.plan is_job) in
+    let within = subst (λ (x : Table). IsWithin x o.job) e c.in-Ok.ensures.within in
+    let done = c.in-Ok.done in
+    let t = stands.base.means.table_is in
+    let dropped = those_among job.noted.items m.state.entries in
+    let dropped_are = c.in-Ok.ensures.dropped ∙ ap (λ (x : Table). those_among job.noted.items x.entries) e in
+    closed_result care u c.args.self m stands c.args.name at o o after place (sym c.index_mut.ensures.value) refl still tells told first then reads c.in-Ok.ensures.whole within done dropped_are comes w v
+    (spans_narrowed Everything (λ image. IsSound care image m.state) _ _ narrows stands.base.means.settled) (subst IsTable (c.catalog.ensures ∙ t) c.know_table.ensures) c.job_work_stays.ensures.job c.job_work_stays.ensures.read c.record.result c.record.ensures.table
+    (λ held free. subst (λ (x : Table). IfOk c.record.result (λ next. IsLater held x (table_in (folder_of next.0)))) t (c.record.ensures.later held free))
+    (subst (λ (x : Table). IfOk c.record.result (λ next. IsEnded x done (Some at) (set (jobs_of c.args.self) at after) (jobs_of next.0) next.1)) t c.record.ensures.ended)
+    (c.record.ensures.ok told care m.state (Some job.work.program) dropped comes.news (record { means = means; left = c.left_stores.ensures.meant care c.close_work-closed.new.store _ _ m.state means }) comes.change_is comes.files)
 
-pub returns-in-Ok-closed-clause-err : goal.returns-in-Ok-closed-clause-err
-returns-in-Ok-closed-clause-err g c = λ told care m stands.
+pub returns-in-Ok-clause-err : goal.returns-in-Ok-clause-err
+returns-in-Ok-clause-err g c = λ told care m stands.
     let u = g.D.Store.view c.args.store.now in
     let w = g.D.Store.view c.close_work-closed.new.store in
-    let v = g.D.Store.view c.record_closed.new.store in
+    let v = g.D.Store.view c.record.new.store in
     let first = g.D.Store.counts c.args.store.now in
     let then = g.D.Store.counts c.close_work-closed.new.store in
     let tells = g.D.Store.tells in
@@ -133,46 +123,45 @@ returns-in-Ok-closed-clause-err g c = λ told care m stands.
     let job = c.close_work-closed.new.work in
     let after : OpenJob JobWork = record { name = o.name; job = job } in
     let e = c.catalog-2.ensures ∙ stands.base.means.table_is in
-    let narrows = c.in-Ok-closed.ensures.narrows in
+    let narrows = c.in-Ok.ensures.narrows in
     let means = c.left_stores.ensures.means care c.args.store.now c.close_work-closed.new.store _ _ m.state narrows stands.base.means in
-    let still = subst (λ (x : Table). (plan : PlainPlan) → work.IsJob x plan o.job → work.IsJob x plan job) e c.in-Ok-closed.ensures.job in
+    let still = subst (λ (x : Table). (plan : PlainPlan) → work.IsJob x plan o.job → work.IsJob x plan job) e c.in-Ok.ensures.job in
     let place = sym c.place_of.ensures ∙ c.in-Some.is in
     let of = found care u c.args.self m stands c.args.name at o o after place (sym c.index_mut.ensures.value) refl still in
     let is_job = subst (λ (x : Table). work.IsJob x of.job.run.plan o.job) (sym e) of.is.is_job in
-    let comes = c.in-Ok-closed.ensures.ok told care m.state of.job.run.plan stands.base.left e of.is.read is_job in
-    let reads = subst (λ (x : Table). Reads tells x u of.job.run.plan o.job job first then) e (c.in-Ok-closed.ensures.reads of.job.run.plan is_job) in
-    let within = subst (λ (x : Table). IsWithin x o.job) e c.in-Ok-closed.ensures.within in
-    let held = c.deref.result.now in
-    let held_is = c.deref.ensures.value ∙ c.in-Ok.ensures in
-    let dropped = those_among (free_of held job.noted.items) m.state.entries in
-    closed_breaks care u c.args.self m stands c.args.name at o o after place (sym c.index_mut.ensures.value) refl still tells told first then reads c.in-Ok-closed.ensures.whole within c.in-Ok-closed.done.work held held_is comes w v
-    (spans_narrowed Everything (λ image. IsSound care image m.state) _ _ narrows stands.base.means.settled) c.record_closed.result
-    (c.record_closed.ensures.err told care m.state job.work.program dropped comes.news (record { means = means; left = c.left_stores.ensures.meant care c.close_work-closed.new.store _ _ m.state means }) comes.change_is comes.files)
+    let comes = c.in-Ok.ensures.ok told care m.state of.job.run.plan stands.base.left e of.is.read is_job in
+    let reads = subst (λ (x : Table). Reads tells x u of.job.run.plan o.job job first then) e (c.in-Ok.ensures.reads of.job.run.plan is_job) in
+    let within = subst (λ (x : Table). IsWithin x o.job) e c.in-Ok.ensures.within in
+    let done = c.in-Ok.done in
+    let t = stands.base.means.table_is in
+    let dropped = those_among job.noted.items m.state.entries in
+    let dropped_are = c.in-Ok.ensures.dropped ∙ ap (λ (x : Table). those_among job.noted.items x.entries) e in
+    closed_breaks care u c.args.self m stands c.args.name at o o after place (sym c.index_mut.ensures.value) refl still tells told first then reads c.in-Ok.ensures.whole within done dropped_are comes w v
+    (spans_narrowed Everything (λ image. IsSound care image m.state) _ _ narrows stands.base.means.settled) (subst IsTable (c.catalog.ensures ∙ t) c.know_table.ensures) c.record.result
+    (subst (λ (x : Table). OnErr c.record.result ((news : OpenJobs) × AreLeftBehind x done.dropped.items (Some at) (set (jobs_of c.args.self) at after) news)) t c.record.ensures.left)
+    (c.record.ensures.err told care m.state (Some job.work.program) dropped comes.news (record { means = means; left = c.left_stores.ensures.meant care c.close_work-closed.new.store _ _ m.state means }) comes.change_is comes.files)
 
-pub returns-in-Ok-closed-clause-alone : goal.returns-in-Ok-closed-clause-alone
-returns-in-Ok-closed-clause-alone g c = work_on (folder_of c.args.self) _ _ _ (work_reads (folder_of c.args.self) _ _ c.in-Ok-closed.ensures.narrows) c.record_closed.ensures.alone
+pub returns-in-Ok-clause-alone : goal.returns-in-Ok-clause-alone
+returns-in-Ok-clause-alone g c = work_on (folder_of c.args.self) _ _ _ (work_reads (folder_of c.args.self) _ _ c.in-Ok.ensures.narrows) c.record.ensures.alone
 
-pub returns-in-Ok-closed-clause-gone : goal.returns-in-Ok-closed-clause-gone
-returns-in-Ok-closed-clause-gone g c = λ told.
-    closed_gone (table_in (folder_of c.args.self)) (g.D.Store.view c.record_closed.new.store) (g.D.Store.counts c.args.store.now) (g.D.Store.counts c.close_work-closed.new.store) (g.D.Store.counts c.record_closed.new.store) c.in-Ok-closed.ensures.counts.removes c.record_closed.result
-    (c.record_closed.ensures.gone told)
+pub returns-in-Ok-clause-gone : goal.returns-in-Ok-clause-gone
+returns-in-Ok-clause-gone g c = λ told.
+    closed_gone (table_in (folder_of c.args.self)) (g.D.Store.view c.record.new.store) (g.D.Store.counts c.args.store.now) (g.D.Store.counts c.close_work-closed.new.store) (g.D.Store.counts c.record.new.store) c.in-Ok.ensures.counts.removes c.record.result
+    (c.record.ensures.gone told)
 
-pub returns-in-Ok-closed-clause-narrow : goal.returns-in-Ok-closed-clause-narrow
-returns-in-Ok-closed-clause-narrow g c =
-    let o = c.index_mut.result.now in
-    let few = c.in-Ok-closed.ensures.narrow in
-    ended_narrow (set (jobs_of c.args.self) c.in-Some.at (record { name = o.name; job = c.close_work-closed.new.work })) c.in-Some.at c.in-Ok-closed.done.work (few.0, few.1, c.in-Ok-closed.ensures.recorded.1.few) c.record_closed.result c.record_closed.ensures.ended
+pub returns-in-Ok-clause-narrow : goal.returns-in-Ok-clause-narrow
+returns-in-Ok-clause-narrow g c = ended_narrow c.in-Ok.done.work c.in-Ok.ensures.narrow c.record.result (ended_answers (table_in (folder_of c.args.self)) c.in-Ok.done (Some c.in-Some.at) _ c.record.result c.record.ensures.ended)
 
-pub returns-in-Ok-closed-clause-refused : goal.returns-in-Ok-closed-clause-refused
-returns-in-Ok-closed-clause-refused g c = refused_since _ _ _ c.in-Ok-closed.ensures.narrows c.record_closed.result c.record_closed.ensures.refused
+pub returns-in-Ok-clause-refused : goal.returns-in-Ok-clause-refused
+returns-in-Ok-clause-refused g c = refused_since _ _ _ c.in-Ok.ensures.narrows c.record.result c.record.ensures.refused
 
-pub returns-in-Ok-closed-clause-taken : goal.returns-in-Ok-closed-clause-taken
-returns-in-Ok-closed-clause-taken g c = λ told care m stands.
+pub returns-in-Ok-clause-taken : goal.returns-in-Ok-clause-taken
+returns-in-Ok-clause-taken g c = λ told care m stands.
     let s = table m.state in
     let u = g.D.Store.view c.args.store.now in
     let first = g.D.Store.counts c.args.store.now in
     let then = g.D.Store.counts c.close_work-closed.new.store in
-    let last = g.D.Store.counts c.record_closed.new.store in
+    let last = g.D.Store.counts c.record.new.store in
     let jobs = jobs_of c.args.self in
     let at = c.in-Some.at in
     let o = c.index_mut.result.now in
@@ -184,14 +173,14 @@ returns-in-Ok-closed-clause-taken g c = λ told care m stands.
     let is = subst (IsJob m.state of.0) (sym c.index_mut.ensures.value) of.3 in
     let plan = of.0.run.plan in
     let is_job = subst (λ (x : Table). work.IsJob x plan o.job) (sym e) is.is_job in
-    let comes = c.in-Ok-closed.ensures.ok told care m.state plan stands.base.left e is.read is_job in
-    let reads = subst (λ (b : Bool). Reads b s u plan o.job job first then) told (subst (λ (x : Table). Reads g.D.Store.tells x u plan o.job job first then) e (c.in-Ok-closed.ensures.reads plan is_job)) in
-    subst (λ (x : Table). IfOk c.record_closed.result (λ next. TakesAsTold x jobs (command.Close c.args.name) next.1 first last)) (sym stands.base.means.table_is)
-    (ended_taken s jobs (set jobs at after) c.args.name at o place c.index_mut.ensures.value c.in-Ok-closed.done.work first then last
-    (closed_takes s u plan o job c.in-Ok-closed.done.work first then reads c.in-Ok-closed.ensures.whole (reads.over refl care m.state stands.base.left refl is.read).2 comes.works.read) c.record_closed.ensures.taken c.record_closed.result c.record_closed.ensures.ended)
+    let comes = c.in-Ok.ensures.ok told care m.state plan stands.base.left e is.read is_job in
+    let reads = subst (λ (b : Bool). Reads b s u plan o.job job first then) told (subst (λ (x : Table). Reads g.D.Store.tells x u plan o.job job first then) e (c.in-Ok.ensures.reads plan is_job)) in
+    subst (λ (x : Table). IfOk c.record.result (λ next. TakesAsTold x jobs (command.Close c.args.name) next.1 first last)) (sym stands.base.means.table_is)
+    (ended_taken s jobs c.args.name at o place c.index_mut.ensures.value c.in-Ok.done.work first then last
+    (closed_takes s u plan o job c.in-Ok.done.work first then reads c.in-Ok.ensures.whole (reads.over refl care m.state stands.base.left refl is.read).2 comes.works.read) c.record.ensures.taken c.record.result (ended_answers (table_in (folder_of c.args.self)) c.in-Ok.done (Some c.in-Some.at) _ c.record.result c.record.ensures.ended))
 
-pub returns-in-Ok-closed-clause-most : goal.returns-in-Ok-closed-clause-most
-returns-in-Ok-closed-clause-most g c = λ told.
+pub returns-in-Ok-clause-most : goal.returns-in-Ok-clause-most
+returns-in-Ok-clause-most g c = λ told.
     let jobs = jobs_of c.args.self in
     let t = table_of c.catalog-2.result.now in
     let o = c.index_mut.result.now in
@@ -199,41 +188,35 @@ returns-in-Ok-closed-clause-most g c = λ told.
     let u = g.D.Store.view c.args.store.now in
     let old = g.D.Store.counts c.args.store.now in
     let half = g.D.Store.counts c.close_work-closed.new.store in
-    let new = g.D.Store.counts c.record_closed.new.store in
+    let new = g.D.Store.counts c.record.new.store in
     let place = sym c.place_of.ensures ∙ c.in-Some.is in
     let is = held_at jobs c.args.name c.in-Some.at o place c.index_mut.ensures.value t (subst (λ (x : Table). AreHeldOver x jobs) (sym c.catalog-2.ensures) c.requires.holds) in
-    let reads = subst (λ (b : Bool). Reads b t u is.plan o.job job old half) told (c.in-Ok-closed.ensures.reads is.plan is.is_job) in
+    let reads = subst (λ (b : Bool). Reads b t u is.plan o.job job old half) told (c.in-Ok.ensures.reads is.plan is.is_job) in
     close_most jobs c.args.name c.in-Some.at o place c.index_mut.ensures.value (table_in (folder_of c.args.self)) old new
-    (subst (λ (x : Table). TakesGoingOn x o.job old new) c.catalog-2.ensures (most_on t o.job old half new (reads_most t u is.plan o.job job old half reads) c.record_closed.ensures.taken))
+    (subst (λ (x : Table). TakesGoingOn x o.job old new) c.catalog-2.ensures (most_on t o.job old half new (reads_most t u is.plan o.job job old half reads) c.record.ensures.taken))
 
-pub returns-in-Ok-closed-clause-crash : goal.returns-in-Ok-closed-clause-crash
-returns-in-Ok-closed-clause-crash g c = λ told stands. c.record_closed.ensures.crash told (c.left_stores.ensures.stands c.args.store.now c.close_work-closed.new.store _ _ c.in-Ok-closed.ensures.narrows stands)
+pub returns-in-Ok-clause-crash : goal.returns-in-Ok-clause-crash
+returns-in-Ok-clause-crash g c = λ told stands. c.record.ensures.crash told (c.left_stores.ensures.stands c.args.store.now c.close_work-closed.new.store _ _ c.in-Ok.ensures.narrows stands)
 
-pub returns-in-Ok-closed-clause-found : goal.returns-in-Ok-closed-clause-found
-returns-in-Ok-closed-clause-found g c = λ told.
-    let o = c.index_mut.result.now in
-    let jobs = jobs_of c.args.self in
-    ended_found (table_in (folder_of c.args.self)) jobs (set jobs c.in-Some.at (record { name = o.name; job = c.close_work-closed.new.work })) c.args.name c.in-Some.at c.in-Ok-closed.done.work (g.D.Store.view c.args.store.now).files c.record_closed.result
-    c.record_closed.ensures.ended
+pub returns-in-Ok-clause-found : goal.returns-in-Ok-clause-found
+returns-in-Ok-clause-found g c = λ told. ended_found (table_in (folder_of c.args.self)) (jobs_of c.args.self) c.args.name c.in-Ok.done.work (g.D.Store.view c.args.store.now).files c.record.result (ended_answers (table_in (folder_of c.args.self)) c.in-Ok.done (Some c.in-Some.at) _ c.record.result c.record.ensures.ended)
 
-pub returns-in-Ok-closed-clause-fault : goal.returns-in-Ok-closed-clause-fault
-returns-in-Ok-closed-clause-fault g c =
-    let o = c.index_mut.result.now in
-    ended_no_fault (set (jobs_of c.args.self) c.in-Some.at (record { name = o.name; job = c.close_work-closed.new.work })) c.in-Some.at c.in-Ok-closed.done.work _ c.record_closed.result c.record_closed.ensures.ended
+pub returns-in-Ok-clause-fault : goal.returns-in-Ok-clause-fault
+returns-in-Ok-clause-fault g c = ended_no_fault c.in-Ok.done.work _ c.record.result (ended_answers (table_in (folder_of c.args.self)) c.in-Ok.done (Some c.in-Some.at) _ c.record.result c.record.ensures.ended)
 
-pub returns-in-Ok-closed-clause-only_fault : goal.returns-in-Ok-closed-clause-only_fault
-returns-in-Ok-closed-clause-only_fault g c =
+pub returns-in-Ok-clause-only_fault : goal.returns-in-Ok-clause-only_fault
+returns-in-Ok-clause-only_fault g c =
     let jobs = jobs_of c.args.self in
     let o = c.index_mut.result.now in
     let is = held_at jobs c.args.name c.in-Some.at o (sym c.place_of.ensures ∙ c.in-Some.is) c.index_mut.ensures.value (table_of c.catalog-2.result.now) (subst (λ (x : Table). AreHeldOver x jobs) (sym c.catalog-2.ensures) c.requires.holds) in
-    same_whatever c.record_closed.result _ _ (c.record_closed.ensures.reads ∙ (c.in-Ok-closed.ensures.reads is.plan is.is_job).no_fault)
+    same_whatever c.record.result _ _ (c.record.ensures.reads ∙ (c.in-Ok.ensures.reads is.plan is.is_job).no_fault)
 
-pub returns-in-Ok-closed-clause-looks : goal.returns-in-Ok-closed-clause-looks
-returns-in-Ok-closed-clause-looks g c =
+pub returns-in-Ok-clause-looks : goal.returns-in-Ok-clause-looks
+returns-in-Ok-clause-looks g c =
     let jobs = jobs_of c.args.self in
     let o = c.index_mut.result.now in
     let is = held_at jobs c.args.name c.in-Some.at o (sym c.place_of.ensures ∙ c.in-Some.is) c.index_mut.ensures.value (table_of c.catalog-2.result.now) (subst (λ (x : Table). AreHeldOver x jobs) (sym c.catalog-2.ensures) c.requires.holds) in
-    failed_after c.record_closed.result _ (c.record_closed.ensures.reads ∙ (c.in-Ok-closed.ensures.reads is.plan is.is_job).no_fault)
+    failed_after c.record.result _ (c.record.ensures.reads ∙ (c.in-Ok.ensures.reads is.plan is.is_job).no_fault)
 
 -- ---- not closed
 

@@ -6,6 +6,7 @@ use Rattle.folder_session.specs.declared.session.FolderSession.{FolderSession}
 use Rattle.folder_session.proofs.DroppedLemmas.{gone_from_none}
 use Rattle.session.specs.Standing.{Performs, folder_of, jobs_of}
 use Rattle.session.specs.Taken.{TakesAsTold}
+use Rattle.session.proofs.HoldLemmas.{leaves_none}
 use Rattle.session.proofs.session.Session.step.Goals as goal
 
 pub returns-in-Step-clause-taken : goal.returns-in-Step-clause-taken
@@ -29,6 +30,9 @@ returns-in-Close-clause-taken g c = λ told care m stands.
 
 pub returns-in-Close-clause-alone : goal.returns-in-Close-clause-alone
 returns-in-Close-clause-alone g c = subst (λ (x : Command). folder.ChangesAtMost (folder_of c.args.self) x (g.D.Store.view c.args.store.now) (g.D.Store.view c.close.new.store)) (sym c.in-Close.is) c.close.ensures.alone
+
+pub returns-in-OpenJob-clause-refused : goal.returns-in-OpenJob-clause-refused
+returns-in-OpenJob-clause-refused g c = leaves_none c.open_job.result.1 (g.D.Store.view c.args.store.now)
 
 pub returns-in-OpenJob-clause-gone : goal.returns-in-OpenJob-clause-gone
 returns-in-OpenJob-clause-gone g c = λ told.
