@@ -1,5 +1,5 @@
 -- Where the entry of an id stands among entries whose ids ascend.
-use Rattle.std.proofs.Common.{◌≡◌, ℕ, zero, suc, ◌<◌, ◌≤◌, ◌+◌, ◌&&◌, ◌||◌, ◌==◌, Bool, true, false, cond, List, [], ◌∷◌, length, get_or, slice_get, position, nat_lt, Option, Some, None, Result, Ok, Err, IfSome, MatchOption, inl, inr, refl, sym, ap, subst, ◌∙◌, arith}
+use Rattle.std.proofs.Common.{◌≡◌, ℕ, zero, suc, ◌<◌, ◌≤◌, ◌+◌, ◌||◌, ◌==◌, Bool, true, false, cond, List, [], ◌∷◌, length, get_or, slice_get, position, nat_lt, Option, Some, None, Result, Ok, Err, IfSome, MatchOption, inl, inr, refl, sym, ap, subst, ◌∙◌, arith}
 use Rattle.std.specs.List.{position_or_len, position_from, list_any, find, AllWithin}
 use Rattle.std.specs.Option.{is_some}
 use Rattle.std.proofs.lemmas.Iterator.Adapters.{position_from-zero}
@@ -7,23 +7,19 @@ use Rattle.std.specs.List.Sorted.{IsBinarySearchResult, IsSearchInRange}
 use Rattle.std.specs.Ordering.{nat_cmp, ordering_index}
 use Rattle.std.specs.declared.cmp.Ordering.TheVariants.{Less, Equal, Greater}
 use Rattle.std.specs.Result.{result_ok}
-use Rattle.std.proofs.lemmas.Bool.{ltb-true, cases_lt}
+use Rattle.std.proofs.lemmas.Bool.{ltb-true, cases_lt, and_parts}
 use Rattle.std.proofs.lemmas.Bool.Decides.{nat_tests}
 use Rattle.std.proofs.lemmas.List.Sums.{position_or_len_is}
 use Rattle.std.proofs.lemmas.List.Folds.{find_at}
 use Rattle.catalog_types.specs.PlainEntry.{PlainEntry}
 use Rattle.cache_index.specs.Ids.{ids_of, ascend_above}
 
-pub both : (b c : Bool) → b && c ≡ true → (b ≡ true) × (c ≡ true)
-both true c e = (refl, e)
-both false c e = absurd (cc)
-
 -- each id is above the bound
 above : (low : ℕ) (es : List PlainEntry) (i : ℕ) (d : PlainEntry) → ascend_above low (ids_of es) ≡ true → i < length es → low < (get_or es i d).id
 above low [] i d up here = absurd (omega (arith, here))
-above low (e ∷ es) zero d up here = ltb-true low e.id (both (nat_lt low e.id) (ascend_above e.id (ids_of es)) up).0
+above low (e ∷ es) zero d up here = ltb-true low e.id (and_parts (nat_lt low e.id) (ascend_above e.id (ids_of es)) up).0
 above low (e ∷ es) (suc i) d up here =
-    let parts = both (nat_lt low e.id) (ascend_above e.id (ids_of es)) up in
+    let parts = and_parts (nat_lt low e.id) (ascend_above e.id (ids_of es)) up in
     let first = ltb-true low e.id parts.0 in
     let rest = above e.id es i d parts.1 (omega (arith, here)) in
     omega (arith, first, rest)
@@ -32,9 +28,9 @@ above low (e ∷ es) (suc i) d up here =
 rises : (low : ℕ) (es : List PlainEntry) (i j : ℕ) (d : PlainEntry) → ascend_above low (ids_of es) ≡ true → i < j → j < length es → (get_or es i d).id < (get_or es j d).id
 rises low [] i j d up order here = absurd (omega (arith, here))
 rises low (e ∷ es) i zero d up order here = absurd (omega (arith, order))
-rises low (e ∷ es) zero (suc j) d up order here = above e.id es j d (both (nat_lt low e.id) (ascend_above e.id (ids_of es)) up).1 (omega (arith, here))
+rises low (e ∷ es) zero (suc j) d up order here = above e.id es j d (and_parts (nat_lt low e.id) (ascend_above e.id (ids_of es)) up).1 (omega (arith, here))
 rises low (e ∷ es) (suc i) (suc j) d up order here =
-    rises e.id es i j d (both (nat_lt low e.id) (ascend_above e.id (ids_of es)) up).1 (omega (arith, order)) (omega (arith, here))
+    rises e.id es i j d (and_parts (nat_lt low e.id) (ascend_above e.id (ids_of es)) up).1 (omega (arith, order)) (omega (arith, here))
 
 cmp-equal : (x y : ℕ) → nat_cmp x y ≡ Equal → x ≡ y
 cmp-equal x y e = grind (arith, nat_tests)

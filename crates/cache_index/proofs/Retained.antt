@@ -4,7 +4,7 @@ use Rattle.std.specs.List.{AllByRecursion, IsDistinct, filter}
 use Rattle.std.specs.Map.{keys_of, lookup}
 use Rattle.std.specs.Map.Calls.{RetainsPairs}
 use Rattle.std.specs.Option.{option_map_or}
-use Rattle.std.proofs.lemmas.Bool.{eqb-true}
+use Rattle.std.proofs.lemmas.Bool.{eqb-true, not-false}
 use Rattle.std.proofs.lemmas.List.{nil_from_length}
 use Rattle.std.proofs.lemmas.Map.Keys.{IsDistinct-head, IsDistinct-tail}
 use Rattle.rows_core.specs.declared.file_ref.Digest.{Digest}
@@ -36,11 +36,7 @@ absent own [] apart = refl
 absent own (e ∷ es) apart = ap (λ b. cond b (Some e.1) (lookup (same_digest own) es)) apart.0 ∙ absent own es apart.1
 
 empty-told : (b : Bool) (xs : List ℕ) → b ≡ not (length xs == 0) → b ≡ false → xs ≡ []
-empty-told b xs is told = nil_from_length xs (eqb-true (length xs) 0 (turned (length xs == 0) (sym is ∙ told)))
-  where
-    turned : (c : Bool) → not c ≡ false → c ≡ true
-    turned true e = refl
-    turned false e = absurd cc
+empty-told b xs is told = nil_from_length xs (eqb-true (length xs) 0 (not-false (length xs == 0) (sym is ∙ told)))
 
 module _ {F : Type 0} (T : F → Digest → Ids → Bool → Ids → F → Type 0) (P : ℕ → Bool) (f : F)
     (says : (k : Digest) (v : Ids) (b : Bool) (w : Ids) (g : F) → T f k v b w g

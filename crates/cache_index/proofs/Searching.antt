@@ -2,7 +2,7 @@
 use Rattle.std.proofs.Common.{◌≡◌, refl, sym, ap, ◌∙◌, subst, ℕ, ◌<◌, ◌==◌, nat_lt, Bool, true, false, cond, List, [], ◌∷◌, map, Option, Some, None, inl, inr, arith}
 use Rattle.std.specs.Bool.{IsTrue}
 use Rattle.std.specs.List.{AllByRecursion, Contains, filter, find}
-use Rattle.std.proofs.lemmas.Bool.{ltb-true}
+use Rattle.std.proofs.lemmas.Bool.{ltb-true, and_parts}
 use Rattle.std.proofs.lemmas.Bool.Decides.{nat_tests}
 use Rattle.rows_core.specs.declared.file_ref.Digest.{Digest}
 use Rattle.plan_core.specs.PlainPlan.{PlainPlan}
@@ -18,7 +18,6 @@ use Rattle.cache_index.specs.Ids.{ids_of, ascend_above, in_front, listed}
 use Rattle.cache_index.specs.Index.{ids_of_program}
 use Rattle.cache_index.specs.Lists.{same_digest}
 use Rattle.cache_index.proofs.Digests.{same_digest-Decides}
-use Rattle.cache_index.proofs.Places.{both}
 
 all-map : {A : Type 0} (P Q : A → Type 0) → ((x : A) → P x → Q x) → (xs : List A) → AllByRecursion P xs → AllByRecursion Q xs
 all-map P Q f [] all = tt
@@ -41,7 +40,7 @@ all-filter P test (x ∷ xs) all = by (test x) (all-filter P test xs all.1)
 above : (low : ℕ) (es : List PlainEntry) → ascend_above low (ids_of es) ≡ true → AllByRecursion (λ (e : PlainEntry). low < e.id) es
 above low [] up = tt
 above low (e ∷ es) up =
-    let parts = both (nat_lt low e.id) (ascend_above e.id (ids_of es)) up in
+    let parts = and_parts (nat_lt low e.id) (ascend_above e.id (ids_of es)) up in
     let less : low < e.id = ltb-true low e.id parts.0 in
     (less, all-map (λ (x : PlainEntry). e.id < x.id) (λ (x : PlainEntry). low < x.id) (λ x more. omega (arith, less, more)) es (above e.id es parts.1))
 
@@ -55,7 +54,7 @@ own x = grind (arith, nat_tests)
 found-own : (low : ℕ) (es : List PlainEntry) → ascend_above low (ids_of es) ≡ true → AllByRecursion (λ (x : PlainEntry). find (λ (e : PlainEntry). e.id == x.id) es ≡ Some x) es
 found-own low [] up = tt
 found-own low (e ∷ es) up =
-    let parts = both (nat_lt low e.id) (ascend_above e.id (ids_of es)) up in (
+    let parts = and_parts (nat_lt low e.id) (ascend_above e.id (ids_of es)) up in (
       ap (λ b. cond b (Some e) (find (λ (y : PlainEntry). y.id == e.id) es)) (own e.id),
       all-both (λ (x : PlainEntry). e.id < x.id) (λ (x : PlainEntry). find (λ (y : PlainEntry). y.id == x.id) es ≡ Some x) (λ (x : PlainEntry). find (λ (y : PlainEntry). y.id == x.id) (e ∷ es) ≡ Some x)
           (λ x more found. ap (λ b. cond b (Some e) (find (λ (y : PlainEntry). y.id == x.id) es)) (other e.id x.id more) ∙ found) es (above e.id es parts.1) (found-own e.id es parts.1),

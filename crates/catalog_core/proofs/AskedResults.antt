@@ -2,7 +2,7 @@
 use Rattle.std.proofs.Common.{◌≡◌, inl, inr, refl, sym, ap, ◌∙◌, subst, ℕ, ◌<◌, ◌==◌, ◌||◌, nat_lt, Bool, true, false, cond, List, [], ◌∷◌, length, map, Some, None, unwrap_or, arith}
 use Rattle.std.specs.List.{Contains, AllByRecursion, filter, find}
 use Rattle.std.specs.Option.{option_map}
-use Rattle.std.proofs.lemmas.Bool.{ltb-true, eqb-true, eq-eqb}
+use Rattle.std.proofs.lemmas.Bool.{ltb-true, eqb-true, eq-eqb, and_parts}
 use Rattle.std.proofs.lemmas.List.Elements.{All-contains, All-from_recursion}
 use Rattle.std.proofs.lemmas.List.Folds.{list_any_at}
 use Rattle.rows_core.specs.declared.cut.Cut.{Cut}
@@ -16,7 +16,6 @@ use Rattle.catalog_types.specs.declared.snapshot.StreamState.{StreamState}
 use Rattle.cache_index.specs.Asked.{entry, is_asked, asked}
 use Rattle.entry_table.specs.AreKept.{AreAlike, NoTwoAreAlike}
 use Rattle.entry_table.specs.Ids.{ids_of, ascend_above, is_there}
-use Rattle.entry_table.proofs.Places.{both}
 use Rattle.catalog_core.specs.IsTable.{IsTable}
 use Rattle.catalog_core.specs.Named.{no_file, file_at, machine_at}
 use Rattle.catalog_core.specs.Programs.{AreCuts}
@@ -44,7 +43,7 @@ asked-is without (x ∷ xs) y has = by (is_asked without x) has (asked-is withou
 above-each : (low : ℕ) (es : List PlainEntry) (x : PlainEntry) → ascend_above low (ids_of es) ≡ true → Contains es x → low < x.id
 above-each low [] x up has = absurd (Contains-none x has)
 above-each low (e ∷ es) x up has =
-    let parts = both (nat_lt low e.id) (ascend_above e.id (ids_of es)) up in
+    let parts = and_parts (nat_lt low e.id) (ascend_above e.id (ids_of es)) up in
     let less : low < e.id = ltb-true low e.id parts.0 in
     elim (Contains-cons_cases e es x has) [
       | inl is ↦ subst (λ (y : PlainEntry). low < y.id) is less
@@ -54,7 +53,7 @@ above-each low (e ∷ es) x up has =
 find-own : (low : ℕ) (es : List PlainEntry) (x : PlainEntry) → ascend_above low (ids_of es) ≡ true → Contains es x → find (λ e. e.id == x.id) es ≡ Some x
 find-own low [] x up has = absurd (Contains-none x has)
 find-own low (y ∷ ys) x up has =
-    let parts = both (nat_lt low y.id) (ascend_above y.id (ids_of ys)) up in
+    let parts = and_parts (nat_lt low y.id) (ascend_above y.id (ids_of ys)) up in
     elim (Contains-cons_cases y ys x has) [
       | inl is ↦ subst (λ (z : PlainEntry). find (λ e. e.id == z.id) (y ∷ ys) ≡ Some z) is (ap (λ b. cond b (Some y) (find (λ e. e.id == y.id) ys)) (eq-eqb y.id y.id refl))
       | inr more ↦ ap (λ b. cond b (Some y) (find (λ e. e.id == x.id) ys)) (other y x (above-each y.id ys x parts.1 more)) ∙ find-own y.id ys x parts.1 more

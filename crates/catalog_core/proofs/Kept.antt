@@ -4,6 +4,7 @@ use Rattle.std.specs.List.{AllByRecursion, list_any, position_or_len}
 use Rattle.std.specs.Cmp.Lexicographic.{nat_list_eq_equiv}
 use Rattle.std.proofs.lemmas.Bool.Decides.{nat_tests}
 use Rattle.std.proofs.lemmas.List.Sums.{sum_by-cons, sum_by-append}
+use Rattle.std.proofs.lemmas.Bool.{not-true, or_from}
 use Rattle.rows_core.specs.declared.schema.Column.{Column}
 use Rattle.catalog_types.specs.declared.change.Change.{Change}
 use Rattle.catalog_types.specs.declared.change.Change.TheVariants as change
@@ -31,17 +32,14 @@ right-false : (x y : Bool) → x || y ≡ false → y ≡ false
 right-false true y e = absurd (cc)
 right-false false y e = e
 
-both-false : (x y : Bool) → x ≡ false → y ≡ false → x || y ≡ false
-both-false x y a b = ap (λ z. z || y) a ∙ b
-
 any-push : (p : List ℕ → Bool) (names : List (List ℕ)) (n : List ℕ) → list_any p names ≡ false → p n ≡ false → list_any p (names ++ n ∷ []) ≡ false
-any-push p [] n none fails = both-false (p n) false fails refl
-any-push p (m ∷ ms) n none fails = both-false (p m) _ (left-false (p m) _ none) (any-push p ms n (right-false (p m) _ none) fails)
+any-push p [] n none fails = or_from (p n) false fails refl
+any-push p (m ∷ ms) n none fails = or_from (p m) _ (left-false (p m) _ none) (any-push p ms n (right-false (p m) _ none) fails)
 
 no-repeat-push : (names : List (List ℕ)) (n : List ℕ) → has_repeat names ≡ false → is_there names n ≡ false → has_repeat (names ++ n ∷ []) ≡ false
 no-repeat-push [] n differ absent = refl
 no-repeat-push (m ∷ ms) n differ absent =
-    both-false (is_there (ms ++ n ∷ []) m) _
+    or_from (is_there (ms ++ n ∷ []) m) _
     (any-push (λ other. bytes_eq other m) ms n (left-false (is_there ms m) _ differ) (nat_list_eq_equiv.symm n m ∙ left-false (bytes_eq m n) _ absent))
     (no-repeat-push ms n (right-false (is_there ms m) _ differ) (right-false (bytes_eq m n) _ absent))
 
@@ -94,10 +92,6 @@ stream-keeps name columns t fits is = record {
   ids = is.ids;
   own_files = files-stream t.next_file t.streams t.entries (new_stream name columns) refl is.own_files;
 }
-  where
-    untrue : (b : Bool) → not b ≡ true → b ≡ false
-    untrue true e = absurd (cc)
-    untrue false e = refl
 
 -- ---- an extent more
 

@@ -3,6 +3,7 @@ use Rattle.std.proofs.Common.{◌≡◌, refl, sym, ap, ◌∙◌, ℕ, ◌+◌,
 use Rattle.std.specs.List.{list_any}
 use Rattle.std.proofs.lemmas.List.{take_more, take-append-drop, map-append}
 use Rattle.std.proofs.lemmas.List.Folds.{list_any-append}
+use Rattle.std.proofs.lemmas.Bool.{or_right}
 use Rattle.indexmap.specs.IndexSet.{insert_key}
 use Rattle.plan_binder.specs.Binding.{has_repeat, is_there}
 use Rattle.catalog_core.specs.declared.stream.CatalogStream.{CatalogStream}
@@ -60,10 +61,6 @@ module _ (keys : List (List ℕ)) (streams : List CatalogStream) (i : ℕ) (x : 
   -- the name is there
   pub two-alike : list_any (bytes_eq n) keys ≡ true → has_repeat (names_of (states_of streams)) ≡ true
   two-alike there =
-      let here : has_repeat (map name_of (take (i + 1) streams)) ≡ true = ap has_repeat with-name ∙ repeat-more keys n ∙ by (has_repeat keys) (list_any (bytes_eq n) keys) there in
+      let here : has_repeat (map name_of (take (i + 1) streams)) ≡ true = ap has_repeat with-name ∙ repeat-more keys n ∙ or_right (has_repeat keys) (list_any (bytes_eq n) keys) there in
       ap has_repeat (sym (names-states streams)) ∙ ap has_repeat (sym (ap (λ (xs : List CatalogStream). map name_of xs) (take-append-drop (i + 1) streams)) ∙ map-append name_of (take (i + 1) streams) (drop (i + 1) streams))
       ∙ repeat-stays (map name_of (take (i + 1) streams)) (map name_of (drop (i + 1) streams)) here
-    where
-      by : (a b : Bool) → b ≡ true → a || b ≡ true
-      by true b e = refl
-      by false b e = e

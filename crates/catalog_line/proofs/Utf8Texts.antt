@@ -1,5 +1,5 @@
 -- A text that has tokens is UTF-8: its texts are, and all other bytes are ASCII.
-use Rattle.std.proofs.Common.{◌≡◌, refl, sym, ap, ◌∙◌, subst, ℕ, ◌+◌, ◌≤◌, ◌<◌, Bool, true, false, cond, ◌&&◌, ◌==◌, not, nat_le, List, [], ◌∷◌, ◌++◌, length, drop, take, get_or, codes, Option, Some, None, append_assoc, append-nil, length-append, arith}
+use Rattle.std.proofs.Common.{◌≡◌, refl, sym, ap, subst, ℕ, ◌+◌, ◌≤◌, ◌<◌, Bool, true, false, cond, ◌&&◌, ◌==◌, not, nat_le, List, [], ◌∷◌, ◌++◌, length, drop, take, get_or, codes, Option, Some, None, append_assoc, append-nil, length-append, arith}
 use Rattle.std.proofs.Math.Seq.{take-append_seam, drop-append_seam}
 use Rattle.std.proofs.lemmas.Bool.Decides.{nat_tests}
 use Rattle.std.proofs.lemmas.Grind.{common_steps}
@@ -9,6 +9,7 @@ use Rattle.std.proofs.lemmas.Str.Ascii.{IsAscii-nil, IsAscii-cons}
 use Rattle.std.specs.List.{list_all}
 use Rattle.std.specs.Option.{option_map}
 use Rattle.std.specs.Str.{IsUtf8, IsAscii}
+use Rattle.std.proofs.lemmas.Bool.{and_parts}
 use Rattle.rows_core.specs.Kind.{kind_word}
 use Rattle.rows_core.specs.Name.{is_name, is_reserved, is_name_byte, begins_with_letter, IsName}
 use Rattle.rows_core.specs.declared.kind.Kind as the_kind
@@ -22,11 +23,6 @@ use Rattle.plan_grammar.specs.Token.{ends_word, word_len, word_token, word_at, b
 map_some : {A B : Type 0} (f : A → B) (o : Option A) (y : B) → option_map f o ≡ Some y → (x : A) × (o ≡ Some x) × (f x ≡ y)
 map_some f None y q = absurd (cc q)
 map_some f (Some x) y q = (x, refl, cc q)
-
-two_true : (a b : Bool) → (a && b) ≡ true → (a ≡ true) × (b ≡ true)
-two_true true true e = (refl, refl)
-two_true true false e = absurd (cc e)
-two_true false b e = absurd (cc e)
 
 -- ---- a text is put together, and cut, at an ASCII byte
 
@@ -223,14 +219,14 @@ tokens-utf8 (t ∷ tokens) text a = spaced_utf8 text (token_utf8 (trimmed text) 
 
 all-name_bytes-ascii : (cs : List ℕ) → list_all is_name_byte cs ≡ true → IsAscii cs
 all-name_bytes-ascii [] e = IsAscii-nil
-all-name_bytes-ascii (c ∷ cs) e = let p = two_true (is_name_byte c) (list_all is_name_byte cs) e in IsAscii-cons c cs (name_byte_low c p.0) (all-name_bytes-ascii cs p.1)
+all-name_bytes-ascii (c ∷ cs) e = let p = and_parts (is_name_byte c) (list_all is_name_byte cs) e in IsAscii-cons c cs (name_byte_low c p.0) (all-name_bytes-ascii cs p.1)
 
 pub name-utf8 : (name : List ℕ) → IsName name → IsUtf8 name
 unfolding is_name
 name-utf8 name is =
-    let p = two_true (begins_with_letter name && list_all is_name_byte name && nat_le (length name) 64) (not (is_reserved name)) is in
-    let q = two_true (begins_with_letter name && list_all is_name_byte name) (nat_le (length name) 64) p.0 in
-    let r = two_true (begins_with_letter name) (list_all is_name_byte name) q.0 in
+    let p = and_parts (begins_with_letter name && list_all is_name_byte name && nat_le (length name) 64) (not (is_reserved name)) is in
+    let q = and_parts (begins_with_letter name && list_all is_name_byte name) (nat_le (length name) 64) p.0 in
+    let r = and_parts (begins_with_letter name) (list_all is_name_byte name) q.0 in
     IsUtf8-from_ascii name (all-name_bytes-ascii name r.1)
 
 pub word-utf8 : (kind : the_kind.Kind) → IsUtf8 (kind_word kind)

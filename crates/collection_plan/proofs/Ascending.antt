@@ -1,17 +1,13 @@
 -- Ids in ascending order, which differ, ascend strictly; and the order of ids doesn't matter to what they leave.
-use Rattle.std.proofs.Common.{◌≡◌, refl, sym, ap, ℕ, suc, ◌<◌, ◌&&◌, ◌==◌, nat_lt, not, Bool, true, false, eqb, List, [], ◌∷◌, length, get_or, arith, IsPermutation}
+use Rattle.std.proofs.Common.{◌≡◌, refl, sym, ap, ℕ, suc, ◌<◌, ◌==◌, nat_lt, not, true, eqb, List, [], ◌∷◌, length, get_or, arith, IsPermutation}
 use Rattle.std.specs.List.{IsDistinct}
 use Rattle.std.specs.List.Sorted.{IsNonDecreasing}
-use Rattle.std.proofs.lemmas.Bool.{lt-ltb}
+use Rattle.std.proofs.lemmas.Bool.{lt-ltb, and_from}
 use Rattle.std.proofs.lemmas.Bool.Decides.{Decides-eqb, not_from_Decides}
 use Rattle.std.proofs.lemmas.List.Elements.{filter_agree}
 use Rattle.std.proofs.lemmas.List.Sorted.{list_any-IsPermutation}
 use Rattle.catalog_types.specs.PlainEntry.{PlainEntry}
 use Rattle.entry_table.specs.Ids.{ascend_above, is_among, without}
-
-both-true : (b c : Bool) → b ≡ true → c ≡ true → b && c ≡ true
-both-true true c e f = f
-both-true false c e f = absurd (cc)
 
 behind : (x : ℕ) (xs : List ℕ) → IsNonDecreasing (x ∷ xs) → IsNonDecreasing xs
 behind x xs up = λ i j d most here. up (suc i) (suc j) d (omega (arith, most)) (omega (arith, here))
@@ -19,7 +15,7 @@ behind x xs up = λ i j d most here. up (suc i) (suc j) d (omega (arith, most)) 
 pub ascends : (low : ℕ) (xs : List ℕ) → IsNonDecreasing xs → IsDistinct eqb xs → ((d : ℕ) → 0 < length xs → low < get_or xs 0 d) → ascend_above low xs ≡ true
 unfolding IsDistinct
 ascends low [] up differ first = refl
-ascends low (x ∷ xs) up differ first = both-true (nat_lt low x) (ascend_above x xs) (lt-ltb low x (first 0 (omega arith))) (ascends x xs (behind x xs up) differ.1 (next xs up differ))
+ascends low (x ∷ xs) up differ first = and_from (nat_lt low x) (ascend_above x xs) (lt-ltb low x (first 0 (omega arith))) (ascends x xs (behind x xs up) differ.1 (next xs up differ))
   where
     next : (xs : List ℕ) → IsNonDecreasing (x ∷ xs) → IsDistinct eqb (x ∷ xs) → (d : ℕ) → 0 < length xs → x < get_or xs 0 d
     next [] up differ d here = absurd (omega (arith, here))

@@ -1,7 +1,7 @@
 -- The kept results of a table can be ranked, and have ids of their own, which are numbers of four bytes from 1 on.
 use Rattle.std.proofs.Common.{◌≡◌, ◌≢◌, refl, sym, ap, ◌∙◌, ℕ, ◌+◌, ◌<◌, ◌≤◌, ◌==◌, nat_lt, true, List, [], ◌∷◌, arith}
 use Rattle.std.specs.List.{All, AllByRecursion, Contains}
-use Rattle.std.proofs.lemmas.Bool.{ltb-true, eq-eqb}
+use Rattle.std.proofs.lemmas.Bool.{ltb-true, eq-eqb, and_parts}
 use Rattle.std.proofs.lemmas.List.Elements.{All-contains, All-from_recursion}
 use Rattle.std.proofs.lemmas.List.Folds.{list_any_at, list_all-map}
 use Rattle.std.proofs.lemmas.List.Kept.{AllPairs-cons}
@@ -12,7 +12,6 @@ use Rattle.collector.specs.Victims.{HaveOwnIds}
 use Rattle.entry_table.specs.AreKept.{IsEntry, IsPast}
 use Rattle.entry_table.specs.Ids.{ids_of, ascend_above, is_there}
 use Rattle.entry_table.specs.Results.{most_result_bytes, file_end}
-use Rattle.entry_table.proofs.Places.{both}
 use Rattle.catalog_core.specs.IsTable.{IsTable}
 use Rattle.catalog_core.specs.Table.{Table}
 use Rattle.catalog_core.proofs.AskedResults.{found-own}
@@ -35,14 +34,14 @@ ranked t is = All-from_recursion (CanBeRanked (t.tick + 1)) t.entries (each-rank
 later-differ : (low id : ℕ) (es : List PlainEntry) → id ≤ low → ascend_above low (ids_of es) ≡ true → AllByRecursion (λ (e : PlainEntry). id ≢ e.id) es
 later-differ low id [] most up = tt
 later-differ low id (e ∷ es) most up =
-    let parts = both (nat_lt low e.id) (ascend_above e.id (ids_of es)) up in
+    let parts = and_parts (nat_lt low e.id) (ascend_above e.id (ids_of es)) up in
     let less : low < e.id = ltb-true low e.id parts.0 in
     (λ same. omega (arith, most, less, same), later-differ e.id id es (omega (arith, most, less)) parts.1)
 
 all-differ : (low : ℕ) (es : List PlainEntry) → ascend_above low (ids_of es) ≡ true → HaveOwnIds es
 all-differ low [] up = λ i j d less here. absurd (omega (arith, here))
 all-differ low (e ∷ es) up =
-    let behind = (both (nat_lt low e.id) (ascend_above e.id (ids_of es)) up).1 in
+    let behind = (and_parts (nat_lt low e.id) (ascend_above e.id (ids_of es)) up).1 in
     AllPairs-cons (λ (e f : PlainEntry). e.id ≢ f.id) e es
     (All-from_recursion (λ (f : PlainEntry). e.id ≢ f.id) es (later-differ e.id e.id es (omega arith) behind)) (all-differ e.id es behind)
 
@@ -63,7 +62,7 @@ above-low low es up = by low low es (omega arith) up
     by : (least low : ℕ) (es : List PlainEntry) → least ≤ low → ascend_above low (ids_of es) ≡ true → AllByRecursion (λ (e : PlainEntry). least < e.id) es
     by least low [] most up = tt
     by least low (e ∷ es) most up =
-        let parts = both (nat_lt low e.id) (ascend_above e.id (ids_of es)) up in
+        let parts = and_parts (nat_lt low e.id) (ascend_above e.id (ids_of es)) up in
         let less : low < e.id = ltb-true low e.id parts.0 in
         (omega (arith, most, less), by least e.id es (omega (arith, most, less)) parts.1)
 

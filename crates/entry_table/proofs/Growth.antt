@@ -1,7 +1,7 @@
 -- The kept results stay what they are: work and collections keep their ids in order and few enough.
-use Rattle.std.proofs.Common.{◌≡◌, ℕ, ◌+◌, ◌<◌, ◌≤◌, ◌&&◌, Bool, true, false, not, cond, List, [], ◌∷◌, ◌++◌, length, map, nat_lt, IsTrue, refl, ap, ◌∙◌, length-append, arith}
+use Rattle.std.proofs.Common.{◌≡◌, ℕ, ◌+◌, ◌<◌, ◌≤◌, Bool, true, false, not, cond, List, [], ◌∷◌, ◌++◌, length, map, nat_lt, IsTrue, refl, ap, ◌∙◌, length-append, arith}
 use Rattle.std.specs.List.{AllByRecursion, list_all}
-use Rattle.std.proofs.lemmas.Bool.{ltb-true, lt-ltb}
+use Rattle.std.proofs.lemmas.Bool.{ltb-true, lt-ltb, and_from, and_parts}
 use Rattle.catalog_types.specs.PlainEntry.{PlainEntry, PlainNewEntry}
 use Rattle.entry_table.specs.declared.keys.Keys.{Keys}
 use Rattle.entry_table.specs.Ids.{ids_of, ascend_above, is_among, without}
@@ -11,11 +11,6 @@ use Rattle.entry_table.specs.Work.{Kept, used, with_uses, with_use, new_entry, n
 use Rattle.entry_table.specs.Keyed.{Digests, keys_of}
 use Rattle.entry_table.specs.AreKept.{AreKept, AreAlike, IsEntry, NoTwoAreAlike}
 use Rattle.entry_table.proofs.Lists.{without-within, uses-length, keyed-length, keyed-are}
-use Rattle.entry_table.proofs.Places.{both}
-
-and-true : (b c : Bool) → b ≡ true → c ≡ true → b && c ≡ true
-and-true true c e f = f
-and-true false c e f = absurd (cc)
 
 -- ---- ids that ascend
 
@@ -23,21 +18,21 @@ and-true false c e f = absurd (cc)
 ascend-lower : (low bound : ℕ) (ids : List ℕ) → low ≤ bound → ascend_above bound ids ≡ true → ascend_above low ids ≡ true
 ascend-lower low bound [] most up = refl
 ascend-lower low bound (id ∷ ids) most up =
-    let parts = both (nat_lt bound id) (ascend_above id ids) up in
+    let parts = and_parts (nat_lt bound id) (ascend_above id ids) up in
     let less = ltb-true bound id parts.0 in
-    and-true (nat_lt low id) (ascend_above id ids) (lt-ltb low id (omega (arith, most, less))) parts.1
+    and_from (nat_lt low id) (ascend_above id ids) (lt-ltb low id (omega (arith, most, less))) parts.1
 
 -- where some are left out
 ascend-without : (ids : List ℕ) (low : ℕ) (es : List PlainEntry) → ascend_above low (ids_of es) ≡ true → ascend_above low (ids_of (without ids es)) ≡ true
 ascend-without ids low [] up = refl
 ascend-without ids low (e ∷ es) up =
-    let parts = both (nat_lt low e.id) (ascend_above e.id (ids_of es)) up in
+    let parts = and_parts (nat_lt low e.id) (ascend_above e.id (ids_of es)) up in
     let less = ltb-true low e.id parts.0 in
     by (not (is_among ids e.id)) parts.0 (ascend-without ids e.id es parts.1) (ascend-lower low e.id (ids_of (without ids es)) (omega (arith, less)) (ascend-without ids e.id es parts.1))
   where
     by : (b : Bool) → nat_lt low e.id ≡ true → ascend_above e.id (ids_of (without ids es)) ≡ true → ascend_above low (ids_of (without ids es)) ≡ true
         → ascend_above low (ids_of (cond b (e ∷ without ids es) (without ids es))) ≡ true
-    by true first rest lower = and-true (nat_lt low e.id) (ascend_above e.id (ids_of (without ids es))) first rest
+    by true first rest lower = and_from (nat_lt low e.id) (ascend_above e.id (ids_of (without ids es))) first rest
     by false first rest lower = lower
 
 -- uses don't change ids
@@ -57,15 +52,15 @@ ascend-behind : (low n : ℕ) (xs ys : List ℕ) → ascend_above low xs ≡ tru
     → ascend_above low (xs ++ ys) ≡ true
 ascend-behind low n [] ys up below less behind = behind low less
 ascend-behind low n (x ∷ xs) ys up below less behind =
-    let parts = both (nat_lt low x) (ascend_above x xs) up in
-    let lows = both (nat_lt x n) (list_all (λ y. nat_lt y n) xs) below in
-    and-true (nat_lt low x) (ascend_above x (xs ++ ys)) parts.0 (ascend-behind x n xs ys parts.1 lows.1 (ltb-true x n lows.0) behind)
+    let parts = and_parts (nat_lt low x) (ascend_above x xs) up in
+    let lows = and_parts (nat_lt x n) (list_all (λ y. nat_lt y n) xs) below in
+    and_from (nat_lt low x) (ascend_above x (xs ++ ys)) parts.0 (ascend-behind x n xs ys parts.1 lows.1 (ltb-true x n lows.0) behind)
 
 ascend-keyed : (tick id : ℕ) (keys : List Keys) (news : List PlainNewEntry) (low : ℕ) → low < id → ascend_above low (ids_of (keyed_entries tick id keys news)) ≡ true
 ascend-keyed tick id [] news low less = refl
 ascend-keyed tick id (k ∷ keys) [] low less = refl
 ascend-keyed tick id (k ∷ keys) (new ∷ news) low less =
-    and-true (nat_lt low id) (ascend_above id (ids_of (keyed_entries tick (id + 1) keys news))) (lt-ltb low id less) (ascend-keyed tick (id + 1) keys news id (omega arith))
+    and_from (nat_lt low id) (ascend_above id (ids_of (keyed_entries tick (id + 1) keys news))) (lt-ltb low id less) (ascend-keyed tick (id + 1) keys news id (omega arith))
 
 -- ---- ids below the next one
 
@@ -75,31 +70,31 @@ are_below n ids = list_all (λ id. nat_lt id n) ids
 below-more : (n m : ℕ) (ids : List ℕ) → n ≤ m → are_below n ids ≡ true → are_below m ids ≡ true
 below-more n m [] most all = refl
 below-more n m (id ∷ ids) most all =
-    let parts = both (nat_lt id n) (are_below n ids) all in
+    let parts = and_parts (nat_lt id n) (are_below n ids) all in
     let less = ltb-true id n parts.0 in
-    and-true (nat_lt id m) (are_below m ids) (lt-ltb id m (omega (arith, most, less))) (below-more n m ids most parts.1)
+    and_from (nat_lt id m) (are_below m ids) (lt-ltb id m (omega (arith, most, less))) (below-more n m ids most parts.1)
 
 below-without : (n : ℕ) (ids : List ℕ) (es : List PlainEntry) → are_below n (ids_of es) ≡ true → are_below n (ids_of (without ids es)) ≡ true
 below-without n ids [] all = refl
 below-without n ids (e ∷ es) all =
-    let parts = both (nat_lt e.id n) (are_below n (ids_of es)) all in
+    let parts = and_parts (nat_lt e.id n) (are_below n (ids_of es)) all in
     by (not (is_among ids e.id)) parts.0 (below-without n ids es parts.1)
   where
     by : (b : Bool) → nat_lt e.id n ≡ true → are_below n (ids_of (without ids es)) ≡ true → are_below n (ids_of (cond b (e ∷ without ids es) (without ids es))) ≡ true
-    by true first rest = and-true (nat_lt e.id n) (are_below n (ids_of (without ids es))) first rest
+    by true first rest = and_from (nat_lt e.id n) (are_below n (ids_of (without ids es))) first rest
     by false first rest = rest
 
 below-behind : (n : ℕ) (xs ys : List ℕ) → are_below n xs ≡ true → are_below n ys ≡ true → are_below n (xs ++ ys) ≡ true
 below-behind n [] ys front behind = behind
 below-behind n (x ∷ xs) ys front behind =
-    let parts = both (nat_lt x n) (are_below n xs) front in
-    and-true (nat_lt x n) (are_below n (xs ++ ys)) parts.0 (below-behind n xs ys parts.1 behind)
+    let parts = and_parts (nat_lt x n) (are_below n xs) front in
+    and_from (nat_lt x n) (are_below n (xs ++ ys)) parts.0 (below-behind n xs ys parts.1 behind)
 
 below-keyed : (tick id n : ℕ) (keys : List Keys) (news : List PlainNewEntry) → id + length news ≤ n → are_below n (ids_of (keyed_entries tick id keys news)) ≡ true
 below-keyed tick id n [] news most = refl
 below-keyed tick id n (k ∷ keys) [] most = refl
 below-keyed tick id n (k ∷ keys) (new ∷ news) most =
-    and-true (nat_lt id n) (are_below n (ids_of (keyed_entries tick (id + 1) keys news))) (lt-ltb id n (omega (arith, most))) (below-keyed tick (id + 1) n keys news (omega (arith, most)))
+    and_from (nat_lt id n) (are_below n (ids_of (keyed_entries tick (id + 1) keys news))) (lt-ltb id n (omega (arith, most))) (below-keyed tick (id + 1) n keys news (omega (arith, most)))
 
 ids-append : (xs ys : List PlainEntry) → ids_of (xs ++ ys) ≡ ids_of xs ++ ids_of ys
 ids-append [] ys = refl

@@ -1,6 +1,6 @@
 -- Each tree that stands at a place and counts below a root is recorded.
 use Rattle.std.proofs.Common.{◌≡◌, refl, sym, ap, subst, ◌∙◌, Bool, true, false, cond, ◌&&◌, ◌||◌, ◌==◌, List, [], ◌∷◌, ◌++◌}
-use Rattle.std.proofs.lemmas.Bool.{false≢true, eqb-true}
+use Rattle.std.proofs.lemmas.Bool.{false≢true, eqb-true, and_parts}
 use Rattle.std.proofs.lemmas.List.Elements.{Contains-append_left, Contains-append_right, Contains-push}
 use Rattle.std.specs.List.{AllByRecursion, Contains, list_any}
 use Rattle.plan_core.specs.PlainPlan.{PlainPlan}
@@ -290,17 +290,13 @@ module _ {X : Type 0} where
   each_in [] = tt
   each_in (x ∷ xs) = (Contains-append_left (x ∷ []) xs x (Contains-push [] x), wider x xs xs (each_in xs))
 
-both_true : (a b : Bool) → (a && b) ≡ true → (a ≡ true) × (b ≡ true)
-both_true true b is = (refl, is)
-both_true false b is = absurd (false≢true is)
-
 same_intervals : (a b : Cuts) → same_cuts a b ≡ true → a ≡ b
 same_intervals [] [] is = refl
 same_intervals [] (b ∷ news) is = absurd (false≢true is)
 same_intervals (a ∷ olds) [] is = absurd (false≢true is)
 same_intervals (a ∷ olds) (b ∷ news) is =
-    let front = both_true ((a.from == b.from) && (a.to == b.to)) (same_cuts olds news) is in
-    let ends = both_true (a.from == b.from) (a.to == b.to) front.0 in
+    let front = and_parts ((a.from == b.from) && (a.to == b.to)) (same_cuts olds news) is in
+    let ends = and_parts (a.from == b.from) (a.to == b.to) front.0 in
     let from = eqb-true a.from b.from ends.0 in
     let to = eqb-true a.to b.to ends.1 in
     let rest = same_intervals olds news front.1 in
@@ -326,7 +322,7 @@ module _ (extents : Extents) (results : KeptResults) (trees : List PlainRewritin
   maybe counts at standing others fits all rest = by (counts && list_any (is_made_at at) standing) refl
     where
       by : (b : Bool) → (counts && list_any (is_made_at at) standing) ≡ b → AllByRecursion (IsFoundBelow trees) (cond b (at ∷ others) others)
-      by true is = (found at standing fits all (both_true counts (list_any (is_made_at at) standing) is).1, rest)
+      by true is = (found at standing fits all (and_parts counts (list_any (is_made_at at) standing) is).1, rest)
       by false is = rest
 
   pub places_found : (ps : List Place) (xs : Standing) → Aligned extents results ps xs → AllCounted Named Here xs → AllByRecursion (IsFoundBelow trees) (made_from ps xs)

@@ -4,7 +4,7 @@ use Rattle.std.specs.List.{Contains, AllByRecursion, find}
 use Rattle.std.specs.Option.{option_map}
 use Rattle.std.proofs.lemmas.List.{length-map}
 use Rattle.std.proofs.lemmas.Option.{slice_get-map, slice_get_within, get_or_from_slice_get}
-use Rattle.std.proofs.lemmas.Bool.{ltb-true, eqb-true, eq-eqb}
+use Rattle.std.proofs.lemmas.Bool.{ltb-true, eqb-true, eq-eqb, and_parts}
 use Rattle.rows_core.specs.declared.file_ref.FileRef.{FileRef}
 use Rattle.rows_core.specs.Schema.{kinds_of}
 use Rattle.row_blob.specs.Kept.{IsKept}
@@ -29,7 +29,6 @@ use Rattle.entry_table.specs.AreKept.{AreKept}
 use Rattle.entry_table.specs.Ids.{ids_of, ascend_above}
 use Rattle.entry_table.specs.Work.{kept_with}
 use Rattle.entry_table.proofs.Growth.{all-map}
-use Rattle.entry_table.proofs.Places.{both}
 use Rattle.folder.specs.State.{Stream, Extent, State, HasExtent, Names, IsValid, stream_of, states_of, kinds_in, rows_in, extents_in, lists_in, file_bytes}
 use Rattle.folder.specs.Sound.{Care, Shown, Whole, Holds, IsSound}
 use Rattle.folder.specs.Files.{form_of, result_of, no_result, results_in, extent_rows, SpellsOnly, HoldsExtent, HoldsResult}
@@ -51,14 +50,14 @@ holds_read Shown at bytes file read holds is digest = is ∙ holds (ap digest_of
 above-all : (low : ℕ) (es : List PlainEntry) → ascend_above low (ids_of es) ≡ true → AllByRecursion (λ e. low < e.id) es
 above-all low [] up = tt
 above-all low (e ∷ es) up =
-    let parts = both (nat_lt low e.id) (ascend_above e.id (ids_of es)) up in
+    let parts = and_parts (nat_lt low e.id) (ascend_above e.id (ids_of es)) up in
     let less : low < e.id = ltb-true low e.id parts.0 in
     (less, all-map (λ (x : PlainEntry). e.id < x.id) (λ x. low < x.id) (λ x more. omega (arith, less, more)) es (above-all e.id es parts.1))
 
 find-own : (low : ℕ) (es : List PlainEntry) (x : PlainEntry) → ascend_above low (ids_of es) ≡ true → Contains es x → find (λ e. e.id == x.id) es ≡ Some x
 find-own low [] x up has = absurd (omega (arith, has.1))
 find-own low (y ∷ ys) x up has =
-    let parts = both (nat_lt low y.id) (ascend_above y.id (ids_of ys)) up in
+    let parts = and_parts (nat_lt low y.id) (ascend_above y.id (ids_of ys)) up in
     elim (Contains-cons_cases y ys x has) [
       | inl is ↦ subst (λ (z : PlainEntry). find (λ e. e.id == z.id) (y ∷ ys) ≡ Some z) is (ap (λ b. cond b (Some y) (find (λ e. e.id == y.id) ys)) (eq-eqb y.id y.id refl))
       | inr more ↦

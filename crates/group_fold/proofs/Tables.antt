@@ -7,6 +7,8 @@ use Rattle.std.proofs.lemmas.List.{map-append, take_more}
 use Rattle.std.proofs.lemmas.List.Elements.{filter-append, recursion_from_All}
 use Rattle.std.proofs.lemmas.List.Folds.{find-append, list_any-append}
 use Rattle.std.proofs.lemmas.Map.Made.{IsDistinct-from_AllPairs}
+use Rattle.std.proofs.Math.Bool.{or-false}
+use Rattle.std.proofs.lemmas.Bool.{or_parts}
 use Rattle.indexmap.specs.IndexMap.{insert_entry}
 use Rattle.indexmap.specs.Layout.{set_value_at}
 use Rattle.indexmap.proofs.MapLemmas.{Found-position, insert_entry-first}
@@ -25,10 +27,6 @@ use Rattle.plan_laws.proofs.GroupBounds.{HasNumbers}
 use Rattle.plan_laws.proofs.MergedGroups.{same_row, row_itself, joined_lists}
 use Rattle.plan_laws.proofs.ValidPlans.{all-append}
 use Rattle.group_fold.specs.Table.{groups_in}
-
-or_false : (b c : Bool) → (b || c) ≡ false → (b ≡ false) × (c ≡ false)
-or_false true c h = absurd (true≢false h)
-or_false false c h = (refl, h)
 
 none_from : {A : Type 0} (o : Option A) → false ≡ is_some o → o ≡ None
 none_from None h = refl
@@ -52,13 +50,13 @@ module _ (aggs : List Agg) where
   none_with : (key : Row) (groups : List GroupRow) → list_any (row_eq key) (group_keys groups) ≡ false → group_with key groups ≡ None
   none_with key [] h = refl
   none_with key (group ∷ groups) h =
-      let both = or_false (row_eq key group.key) (list_any (row_eq key) (group_keys groups)) h in
+      let both = or_parts (row_eq key group.key) (list_any (row_eq key) (group_keys groups)) h in
       ap (λ b. cond b (Some group) (group_with key groups)) both.0 ∙ none_with key groups both.1
 
   none_filtered : (p : GroupRow → Bool) (key : Row) (groups : List GroupRow) → list_any (row_eq key) (group_keys groups) ≡ false → list_any (row_eq key) (group_keys (filter p groups)) ≡ false
   none_filtered p key [] h = refl
   none_filtered p key (group ∷ groups) h =
-      let both = or_false (row_eq key group.key) (list_any (row_eq key) (group_keys groups)) h in
+      let both = or_parts (row_eq key group.key) (list_any (row_eq key) (group_keys groups)) h in
       by both.0 (none_filtered p key groups both.1) (p group)
     where
       by : row_eq key group.key ≡ false → list_any (row_eq key) (group_keys (filter p groups)) ≡ false → (b : Bool) → list_any (row_eq key) (group_keys (cond b (group ∷ filter p groups) (filter p groups))) ≡ false
@@ -95,7 +93,7 @@ module _ (aggs : List Agg) where
   others_stay : (g : GroupRow) (groups : List GroupRow) → list_any (row_eq g.key) (group_keys groups) ≡ false → map (λ old. joined_group aggs old (group_with old.key (g ∷ []))) groups ≡ groups
   others_stay g [] h = refl
   others_stay g (group ∷ groups) h =
-      let both = or_false (row_eq g.key group.key) (list_any (row_eq g.key) (group_keys groups)) h in
+      let both = or_parts (row_eq g.key group.key) (list_any (row_eq g.key) (group_keys groups)) h in
       ap (λ x. x ∷ map (λ old. joined_group aggs old (group_with old.key (g ∷ []))) groups) (not_joined group g (either_way group.key g.key ∙ both.0))
       ∙ ap (λ l. group ∷ l) (others_stay g groups both.1)
 
@@ -136,11 +134,7 @@ module _ (aggs : List Agg) where
         ∙ ap not (list_any-append (row_eq g.key) (group_keys (map (λ old. joined_group aggs old (group_with old.key news)) olds)) (group_keys (filter (is_new olds) news)))
         ∙ ap (λ ks. not (list_any (row_eq g.key) ks || list_any (row_eq g.key) (group_keys (filter (is_new olds) news)))) (keys_joined news olds)
         ∙ ap (λ b. not (list_any (row_eq g.key) (group_keys olds) || b)) (none_filtered (is_new olds) g.key news fresh)
-        ∙ ap not (or_nothing (list_any (row_eq g.key) (group_keys olds)))
-      where
-        or_nothing : (b : Bool) → (b || false) ≡ b
-        or_nothing true = refl
-        or_nothing false = refl
+        ∙ ap not (or-false (list_any (row_eq g.key) (group_keys olds)))
 
     pub one_more : (olds : List GroupRow) → merged_groups aggs olds (news ++ g ∷ []) ≡ merged_groups aggs (merged_groups aggs olds news) (g ∷ [])
     one_more olds =
@@ -256,7 +250,7 @@ fresh_in before key rest pairs = go before (IsDistinct-from_AllPairs row_eq-Deci
 pub appended : {V : Type 0} (es : List (Row × V)) (key : Row) (v : V) → list_any (row_eq key) (keys_of es) ≡ false → insert_entry row_eq es key v ≡ es ++ (key, v) ∷ []
 appended [] key v h = refl
 appended (e ∷ es) key v h =
-    let both = or_false (row_eq key e.0) (list_any (row_eq key) (keys_of es)) h in
+    let both = or_parts (row_eq key e.0) (list_any (row_eq key) (keys_of es)) h in
     ap (λ b. cond b ((e.0, v) ∷ es) (e ∷ insert_entry row_eq es key v)) both.0 ∙ ap (λ l. e ∷ l) (appended es key v both.1)
 
 -- ---- groups of which some were put into a table

@@ -1,6 +1,6 @@
 -- The places at which a rewriting makes a result, and the rewritings that make it.
 use Rattle.std.proofs.Common.{◌≡◌, refl, sym, ap, ◌∙◌, subst, Bool, true, false, cond, ◌&&◌, ◌||◌, ◌==◌, List, [], ◌∷◌, ◌++◌}
-use Rattle.std.proofs.lemmas.Bool.{eqb-true}
+use Rattle.std.proofs.lemmas.Bool.{eqb-true, and_parts}
 use Rattle.std.specs.Cmp.{IsTotalOrder}
 use Rattle.std.specs.List.{AllByRecursion, list_any}
 use Rattle.rows_core.specs.declared.order.Key.{Key}
@@ -189,17 +189,13 @@ module _ (extents : Extents) (results : KeptResults) where
 
   -- ---- the made places
 
-  both_true : (p q : Bool) → (p && q) ≡ true → (p ≡ true) × (q ≡ true)
-  both_true true q is = (refl, is)
-  both_true false q is = absurd (cc)
-
   cuts_are : (a b : Cuts) → same_cuts a b ≡ true → a ≡ b
   cuts_are [] [] is = refl
   cuts_are [] (b ∷ news) is = absurd (cc)
   cuts_are (a ∷ olds) [] is = absurd (cc)
   cuts_are (a ∷ olds) (b ∷ news) is =
-      let front = both_true ((a.from == b.from) && (a.to == b.to)) (same_cuts olds news) is in
-      let ends = both_true (a.from == b.from) (a.to == b.to) front.0 in
+      let front = and_parts ((a.from == b.from) && (a.to == b.to)) (same_cuts olds news) is in
+      let ends = and_parts (a.from == b.from) (a.to == b.to) front.0 in
       let from = eqb-true a.from b.from ends.0 in
       let to = eqb-true a.to b.to ends.1 in
       let rest = cuts_are olds news front.1 in
@@ -217,7 +213,7 @@ module _ (extents : Extents) (results : KeptResults) where
   maybe counts at trees others fits rest = by (counts && list_any (is_made_at at) trees) refl
     where
       by : (b : Bool) → (counts && list_any (is_made_at at) trees) ≡ b → AllByRecursion (IsMadeBy extents results) (cond b (at ∷ others) others)
-      by true is = (found at trees fits (both_true counts (list_any (is_made_at at) trees) is).1, rest)
+      by true is = (found at trees fits (and_parts counts (list_any (is_made_at at) trees) is).1, rest)
       by false is = rest
 
   pub made_ones : (ps : List Place) (xs : Standing) → Aligned ps xs → AllByRecursion (IsMadeBy extents results) (made_from ps xs)

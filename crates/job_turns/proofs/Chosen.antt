@@ -1,8 +1,9 @@
 -- Work of a rewriting that is taken anew.
 use Rattle.std.proofs.Common.{◌≡◌, refl, sym, ap, ◌∙◌, subst, ℕ, ◌==◌, ◌||◌, Bool, true, false, List, [], ◌∷◌, ◌++◌, inl, inr, arith}
 use Rattle.std.specs.List.{Contains, list_all, list_any}
-use Rattle.std.proofs.lemmas.Bool.{eqb-true, false≢true}
+use Rattle.std.proofs.lemmas.Bool.{eqb-true, false≢true, and_parts}
 use Rattle.std.proofs.lemmas.List.Folds.{list_any-append, list_any_at}
+use Rattle.std.proofs.Math.Bool.{or-true}
 use Rattle.plan_core.specs.PlainPlan.{PlainPlan, plan_of}
 use Rattle.plan_core.specs.PlanTyping.{Kinds}
 use Rattle.plan_canon.specs.Normal.{IsNormalFormOf}
@@ -19,7 +20,6 @@ use Rattle.catalog_core.specs.Programs.{IsProgram, kinds_of_streams}
 use Rattle.catalog_core.specs.Table.{Table}
 use Rattle.entry_table.specs.Ids as kept
 use Rattle.entry_table.specs.Ids.{is_among, is_there, without}
-use Rattle.entry_table.proofs.Places.{both}
 use Rattle.executor.specs.Progress.{ArePartsOf, HaveRead}
 use Rattle.folder.specs.Files.{results_in}
 use Rattle.folder.specs.State.{State, kinds_in, extents_in}
@@ -108,14 +108,10 @@ module _ (serve : TakenServe) (more : LeftServe) (t : Table) (ids : List ℕ) (p
 own : (i : ℕ) → (i == i) ≡ true
 own i = grind (arith)
 
-or-true : (b : Bool) → (b || true) ≡ true
-or-true true = refl
-or-true false = refl
-
 listed : (p : ℕ → Bool) (ids : List ℕ) (id : ℕ) → list_all p ids ≡ true → Contains ids id → p id ≡ true
 listed p [] id all has = absurd (Contains-none id has)
 listed p (x ∷ xs) id all has =
-    let parts = both (p x) (list_all p xs) all in
+    let parts = and_parts (p x) (list_all p xs) all in
     elim (Contains-cons_cases x xs id has) [
       | inl same ↦ subst (λ (i : ℕ). p i ≡ true) same parts.0
       | inr more ↦ listed p xs id parts.1 more

@@ -11,9 +11,9 @@ use Rattle.plan_canon.specs.PlanRules.{width, may_fuse, put_in, uses, uses_in, i
 use Rattle.plan_canon.specs.NormalExpr.{and_of, or_of, normal_expr, normal_exprs}
 use Rattle.plan_canon.specs.NormalPlan.{filter_of, project_last, project_of, normal_plan}
 use Rattle.plan_core.specs.Nesting.{size, sizes, expr_count, node_count, expr_nesting, greatest_nesting, nesting}
-use Rattle.plan_canon.proofs.StepTyping.{two_parts}
 use Rattle.std.specs.List.{list_all}
 use Rattle.std.specs.Prelude.{not}
+use Rattle.std.proofs.lemmas.Bool.{and_parts}
 
 some_size : (e : PlainExpr) → 1 ≤ size e
 some_size (Column i) = omega arith
@@ -167,12 +167,12 @@ one_use false (suc (suc u)) s e = absurd (two_is_more u e)
 few_loads : (i : ℕ) (es fs : List PlainExpr) → none_repeats i es fs ≡ true → loads i es (λ m. uses_in m fs) ≤ sizes es
 few_loads i [] fs e = omega arith
 few_loads i (x ∷ es) fs e =
-    let parts = two_parts (is_plain x || nat_le (uses_in i fs) 1) (none_repeats (i + 1) es fs) e in
+    let parts = and_parts (is_plain x || nat_le (uses_in i fs) 1) (none_repeats (i + 1) es fs) e in
     both_rooms _ _ _ _ (one_use (is_plain x) (uses_in i fs) (size x) parts.0) (few_loads (i + 1) es fs parts.1)
 
 pub fused_size : (es fs : List PlainExpr) → may_fuse es fs ≡ true → sizes (normal_exprs (map (put_in es) fs)) ≤ sizes fs + sizes es
 fused_size es fs e =
-    let none = (two_parts (list_all (λ e. not (may_overflow e)) es) (none_repeats 0 es fs) e).1 in
+    let none = (and_parts (list_all (λ e. not (may_overflow e)) es) (none_repeats 0 es fs) e).1 in
     four_rooms _ _ _ _ _ _ (normal_sizes (map (put_in es) fs)) (put_sizes es fs) (extras_loads es fs) (few_loads 0 es fs none)
 
 -- ---- the room on each way down

@@ -2,6 +2,7 @@
 use Rattle.std.proofs.Common.{◌≡◌, refl, sym, ap, ◌∙◌, ℕ, zero, suc, Bool, true, false, ◌&&◌, ◌||◌, not, cond, List, [], ◌∷◌, map, slice_get, Option, None, Some, unwrap_or, Result, Ok, Err}
 use Rattle.std.specs.Option.{option_map, option_and_then}
 use Rattle.std.specs.List.{list_all, AllByRecursion}
+use Rattle.std.proofs.lemmas.Bool.{or_parts}
 use Rattle.rows_core.specs.declared.kind.Kind as column
 use Rattle.rows_core.specs.declared.kind.Kind.TheVariants as column_kind
 use Rattle.rows_core.specs.declared.overflow.Overflow.{Overflow}
@@ -25,22 +26,18 @@ use Rattle.plan_canon.proofs.SameValues.{truths, choices, unless, allowed, then_
 
 -- ---- no overflow
 
-neither : (a b : Bool) → (a || b) ≡ false → (a ≡ false) × (b ≡ false)
-neither true b e = absurd cc
-neither false b e = (refl, e)
-
 pub no_overflow : (e : PlainExpr) (row : Row) → may_overflow e ≡ false → (c : Cell) × (expression_value e row ≡ Ok c)
 no_overflow (Column i) row h = (_, refl)
 no_overflow (Literal c) row h = (c, refl)
 no_overflow (Call1 op a) row h =
-    let parts = neither (overflows_at op) (may_overflow a) h in
+    let parts = or_parts (overflows_at op) (may_overflow a) h in
     let x = no_overflow a row parts.1 in (
       exact_cell (exact_value (op_at op) (x.0 ∷ [])),
       ap (λ v. v >>= λ x. meaning op (x ∷ [])) x.1 ∙ ap (λ may. cond may (cell_of (exact_value (op_at op) (x.0 ∷ []))) (Ok (exact_cell (exact_value (op_at op) (x.0 ∷ []))))) parts.0,
     )
 no_overflow (Call2 op a b) row h =
-    let whole = neither (overflows_at op || may_overflow a) (may_overflow b) h in
-    let parts = neither (overflows_at op) (may_overflow a) whole.0 in
+    let whole = or_parts (overflows_at op || may_overflow a) (may_overflow b) h in
+    let parts = or_parts (overflows_at op) (may_overflow a) whole.0 in
     let x = no_overflow a row parts.1 in
     let y = no_overflow b row whole.1 in (
       exact_cell (exact_value (op_at op) (x.0 ∷ y.0 ∷ [])),
@@ -48,7 +45,7 @@ no_overflow (Call2 op a b) row h =
           ∙ ap (λ may. cond may (cell_of (exact_value (op_at op) (x.0 ∷ y.0 ∷ []))) (Ok (exact_cell (exact_value (op_at op) (x.0 ∷ y.0 ∷ []))))) parts.0,
     )
 no_overflow (And a b) row h =
-    let args = neither (may_overflow a) (may_overflow b) h in
+    let args = or_parts (may_overflow a) (may_overflow b) h in
     let x = no_overflow a row args.0 in
     let y = no_overflow b row args.1 in
     (cond (holds x.0) y.0 (cell.Bool false), (λ i. x.1 i >>= λ c. cond (holds c) (y.1 i) (Ok (cell.Bool false))) ∙ by (holds x.0) y.0)
@@ -57,7 +54,7 @@ no_overflow (And a b) row h =
     by true y = refl
     by false y = refl
 no_overflow (Or a b) row h =
-    let args = neither (may_overflow a) (may_overflow b) h in
+    let args = or_parts (may_overflow a) (may_overflow b) h in
     let x = no_overflow a row args.0 in
     let y = no_overflow b row args.1 in
     (cond (holds x.0) (cell.Bool true) y.0, (λ i. x.1 i >>= λ c. cond (holds c) (Ok (cell.Bool true)) (y.1 i)) ∙ by (holds x.0) y.0)
@@ -66,8 +63,8 @@ no_overflow (Or a b) row h =
     by true y = refl
     by false y = refl
 no_overflow (If c a b) row h =
-    let whole = neither (may_overflow c || may_overflow a) (may_overflow b) h in
-    let parts = neither (may_overflow c) (may_overflow a) whole.0 in
+    let whole = or_parts (may_overflow c || may_overflow a) (may_overflow b) h in
+    let parts = or_parts (may_overflow c) (may_overflow a) whole.0 in
     let t = no_overflow c row parts.0 in
     let x = no_overflow a row parts.1 in
     let y = no_overflow b row whole.1 in

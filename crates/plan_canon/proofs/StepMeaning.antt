@@ -4,6 +4,7 @@ use Rattle.std.specs.List.{AllByRecursion}
 use Rattle.std.specs.Cmp.{IsTotalOrder}
 use Rattle.std.specs.Result.{IfOk}
 use Rattle.std.proofs.lemmas.List.Elements.{recursion_from_All}
+use Rattle.std.proofs.lemmas.Bool.{and_parts}
 use Rattle.rows_core.specs.declared.order.Key.{Key}
 use Rattle.rows_core.specs.declared.overflow.Overflow.{Overflow}
 use Rattle.rows_core.specs.declared.value.Value.{Value}
@@ -33,7 +34,7 @@ use Rattle.plan_canon.proofs.Reached.{inside, each_of, both_of, at_step, kept}
 use Rattle.plan_canon.proofs.SameValues.{then_some, both_some, true_is, step_value}
 use Rattle.plan_canon.proofs.TestLaws.{same_test, all_pass, one_test, of_both_parts, below_order, below_distinct}
 use Rattle.plan_canon.proofs.Fused.{all_front, kind_of_one, fused_rows}
-use Rattle.plan_canon.proofs.StepTyping.{two_parts, its_column, of_filter, of_concat, of_order, of_project, none_overflow, all_columns, typed_kinds, step_typing, step_leaves}
+use Rattle.plan_canon.proofs.StepTyping.{its_column, of_filter, of_concat, of_order, of_project, none_overflow, all_columns, typed_kinds, step_typing, step_leaves}
 
 abbrev Given : Type 0
 Given = Result Rows Overflow
@@ -92,7 +93,7 @@ columns_row before [] [] is same = refl
 columns_row before [] (f ∷ fs) is same = absurd (omega (arith, same))
 columns_row before (v ∷ after) [] is same = absurd (omega (arith, same))
 columns_row before (v ∷ after) (f ∷ fs) is same =
-    let parts = two_parts (is_column (length before) f) (are_columns_from (length before + 1) fs) is in
+    let parts = and_parts (is_column (length before) f) (are_columns_from (length before + 1) fs) is in
     let here = its_column (length before) f parts.0 in
     let longer : length (before ++ v ∷ []) ≡ length before + 1 = length-append before (v ∷ []) in
     let rest = columns_row (before ++ v ∷ []) after fs (ap (λ n. are_columns_from n fs) longer ∙ parts.1) (omega (arith, same)) in

@@ -1,12 +1,12 @@
 -- Each step keeps the leaves, the kinds and the limit on columns, keys and pairs.
-use Rattle.std.proofs.Common.{◌≡◌, refl, sym, ap, ◌∙◌, subst, ℕ, suc, ◌+◌, Bool, true, false, ◌&&◌, ◌||◌, ◌==◌, not, cond, List, [], ◌∷◌, ◌++◌, map, length, slice_get, Option, None, Some, IfSome, Ok, Err, unwrap_or, append_assoc, length-append, arith}
+use Rattle.std.proofs.Common.{◌≡◌, refl, sym, ap, ◌∙◌, subst, ℕ, suc, ◌+◌, Bool, true, false, ◌||◌, ◌==◌, not, cond, List, [], ◌∷◌, ◌++◌, map, length, slice_get, Option, None, Some, IfSome, Ok, Err, unwrap_or, append_assoc, length-append, arith}
 use Rattle.std.specs.Option.{option_map, option_and_then}
 use Rattle.std.specs.List.{list_all, find}
 use Rattle.std.specs.Prelude.{nat_le}
 use Rattle.plan_core.specs.declared.refusal.PlanRefusal.TheVariants.{TooMany}
 use Rattle.std.specs.Bool.{Decides}
 use Rattle.std.specs.Cmp.Lexicographic.{pointwise, pointwise_decides}
-use Rattle.std.proofs.lemmas.Bool.{false≢true}
+use Rattle.std.proofs.lemmas.Bool.{false≢true, or_from, or_parts, and_parts}
 use Rattle.rows_core.specs.declared.kind.Kind as column
 use Rattle.rows_core.specs.declared.kind.Kind.TheVariants as column_kind
 use Rattle.scalar_ops.specs.declared.cell.CellKind.{CellKind}
@@ -48,12 +48,8 @@ same_kind-Decides column_kind.Int column_kind.Int = (λ e. refl, λ e. refl)
 same_kind-Decides column_kind.Text column_kind.Text = (λ e. refl, λ e. refl)
 same_kind-Decides _ _ = (λ e. absurd (false≢true e), λ e. cc)
 
-pub two_parts : (a b : Bool) → (a && b) ≡ true → (a ≡ true) × (b ≡ true)
-two_parts true b e = (refl, e)
-two_parts false b e = absurd cc
-
 pub none_overflow : (es fs : List PlainExpr) → may_fuse es fs ≡ true → NoneOverflow es
-none_overflow es fs e = (two_parts (list_all (λ e. not (may_overflow e)) es) (none_repeats 0 es fs) e).0
+none_overflow es fs e = (and_parts (list_all (λ e. not (may_overflow e)) es) (none_repeats 0 es fs) e).0
 
 its_kind : (k : column.Kind) → kind_of_column (cell_kind_of k) ≡ Some k
 its_kind column_kind.Int = refl
@@ -181,7 +177,7 @@ module _ (schemas : List Kinds) where
   columns_kinds before [] (f ∷ fs) is same = absurd (omega (arith, same))
   columns_kinds before (k ∷ after) [] is same = absurd (omega (arith, same))
   columns_kinds before (k ∷ after) (f ∷ fs) is same =
-      let parts = two_parts (is_column (length before) f) (are_columns_from (length before + 1) fs) is in
+      let parts = and_parts (is_column (length before) f) (are_columns_from (length before + 1) fs) is in
       let here = its_column (length before) f parts.0 in
       let longer : length (before ++ k ∷ []) ≡ length before + 1 = length-append before (k ∷ []) in
       let rest = columns_kinds (before ++ k ∷ []) after fs (ap (λ n. are_columns_from n fs) longer ∙ parts.1) (omega (arith, same)) in
@@ -221,7 +217,7 @@ module _ (schemas : List Kinds) where
   -- all columns in order
   pub all_columns : (p : PlainPlan) (fs : List PlainExpr) (k : Kinds) → HasKinds p k → are_columns (width schemas p) fs ≡ true → (are_columns_from 0 fs ≡ true) × (length k ≡ length fs)
   all_columns p fs k h is =
-      let parts = two_parts (width schemas p == length fs) (are_columns_from 0 fs) is in
+      let parts = and_parts (width schemas p == length fs) (are_columns_from 0 fs) is in
       (parts.1, width_is p k h ∙ equal_numbers (width schemas p) (length fs) parts.0)
 
   -- a projection to all columns in order has the kinds of the plan below
@@ -292,13 +288,6 @@ module _ (schemas : List Kinds) where
 
   -- ---- the limit
 
-  neither : (a b : Bool) → (a || b) ≡ false → (a ≡ false) × (b ≡ false)
-  neither true b e = absurd cc
-  neither false b e = (refl, e)
-
-  none_of : (a b : Bool) → a ≡ false → b ≡ false → (a || b) ≡ false
-  none_of a b p q = λ i. p i || q i
-
   abbrev IsFew : PlainPlan → Type 0
   IsFew p = has_too_many schemas p ≡ false
 
@@ -322,8 +311,8 @@ module _ (schemas : List Kinds) where
     where
       by : (t : Bool) → IfSome (cond t (Some (Project p (map (put_in es) fs))) (project_none schemas (Project p es) fs)) IsFew
       by true =
-          none_of (is_above_limit (length (map (put_in es) fs))) (has_too_many schemas p) (ap is_above_limit (put_length es fs) ∙ here)
-          (neither (is_above_limit (length es)) (has_too_many schemas p) few).1
+          or_from (is_above_limit (length (map (put_in es) fs))) (has_too_many schemas p) (ap is_above_limit (put_length es fs) ∙ here)
+          (or_parts (is_above_limit (length es)) (has_too_many schemas p) few).1
       by false = none_few (are_columns (width schemas (Project p es)) fs) (Project p es) few
   project_rule_few p fs here few = none_few (are_columns (width schemas p) fs) p few
 
@@ -341,31 +330,31 @@ module _ (schemas : List Kinds) where
       (inside (λ x. expression_kind k x ≡ Some kind.Bool) (Fits k) (Filter p) (expr_step a) _ (λ x is. (to_filter p x k parts.0 is, h.1)) (step_kind k a kind.Bool parts.1)
       (both_of (λ q. HasKinds q k) IsFew (filter_rule p a) (filter_rule_kinds p a k h.0) (filter_rule_few p a h.1)))
   step_fits (Project p es) k h =
-      let few = neither (is_above_limit (length es)) (has_too_many schemas p) h.1 in
+      let few = or_parts (is_above_limit (length es)) (has_too_many schemas p) h.1 in
       let j = of_project p es k h.0 in
       inside (Fits j.0) (Fits k) (λ x. Project x es) (plan_step schemas p) _
-      (λ x is. (to_project x es j.0 k is.0 j.2 j.3, none_of (is_above_limit (length es)) (has_too_many schemas x) few.0 is.1)) (step_fits p j.0 (j.1, few.1))
+      (λ x is. (to_project x es j.0 k is.0 j.2 j.3, or_from (is_above_limit (length es)) (has_too_many schemas x) few.0 is.1)) (step_fits p j.0 (j.1, few.1))
       (inside (λ gs. all_there (map (column_kind_of j.0) gs) ≡ Some k × (length gs ≡ length es)) (Fits k) (Project p) (exprs_step es) _
       (λ gs is. (
         to_project p gs j.0 k j.1 (same_empty gs es is.1 j.2) is.0,
-        none_of (is_above_limit (length gs)) (has_too_many schemas p) (ap is_above_limit is.1 ∙ few.0) few.1,
+        or_from (is_above_limit (length gs)) (has_too_many schemas p) (ap is_above_limit is.1 ∙ few.0) few.1,
       ))
       (both_of (λ gs. all_there (map (column_kind_of j.0) gs) ≡ Some k) (λ gs. length gs ≡ length es) (exprs_step es) (columns_step j.0 es k j.3) (length_step es))
       (both_of (λ q. HasKinds q k) IsFew (project_rule schemas p es) (project_rule_kinds p es k h.0) (project_rule_few p es few.0 few.1)))
   step_fits (Distinct p) k h = inside (Fits k) (Fits k) Distinct (plan_step schemas p) None (λ x is. is) (step_fits p k h) tt
   step_fits (Group p keys aggs) k h =
-      let few = neither (is_above_limit (length keys + length aggs)) (has_too_many schemas p) h.1 in
+      let few = or_parts (is_above_limit (length keys + length aggs)) (has_too_many schemas p) h.1 in
       let j = then_some (group_kinds keys aggs) (plan_kinds schemas p) k h.0 in
       inside (Fits j.0) (Fits k) (λ x. Group x keys aggs) (plan_step schemas p) None
       (λ x is. (
         ap (option_and_then (group_kinds keys aggs)) is.0 ∙ j.2,
-        none_of (is_above_limit (length keys + length aggs)) (has_too_many schemas x) few.0 is.1,
+        or_from (is_above_limit (length keys + length aggs)) (has_too_many schemas x) few.0 is.1,
       ))
       (step_fits p j.0 (j.1, few.1)) tt
   step_fits (Join p q on) k h =
       let parts = both_some (join_kinds on) (plan_kinds schemas p) (plan_kinds schemas q) k h.0 in
-      let three = neither (is_above_limit (column_count schemas p + column_count schemas q) || is_above_limit (length on) || has_too_many schemas p) (has_too_many schemas q) h.1 in
-      let two = neither (is_above_limit (column_count schemas p + column_count schemas q) || is_above_limit (length on)) (has_too_many schemas p) three.0 in
+      let three = or_parts (is_above_limit (column_count schemas p + column_count schemas q) || is_above_limit (length on) || has_too_many schemas p) (has_too_many schemas q) h.1 in
+      let two = or_parts (is_above_limit (column_count schemas p + column_count schemas q) || is_above_limit (length on)) (has_too_many schemas p) three.0 in
       inside (Fits parts.0) (Fits k) (λ x. Join x q on) (plan_step schemas p) _
       (λ x is.
       let wide : (is_above_limit (column_count schemas x + column_count schemas q) || is_above_limit (length on)) ≡ false =
@@ -382,17 +371,17 @@ module _ (schemas : List Kinds) where
       same_count : (p x : PlainPlan) (j : Kinds) → HasKinds p j → HasKinds x j → column_count schemas x ≡ column_count schemas p
       same_count p x j hp hx = ap (λ o. length (unwrap_or o [])) (hx ∙ sym hp)
   step_fits (Concat p q) k h =
-      let few = neither (has_too_many schemas p) (has_too_many schemas q) h.1 in
+      let few = or_parts (has_too_many schemas p) (has_too_many schemas q) h.1 in
       let parts = of_concat p q k h.0 in
-      inside (Fits k) (Fits k) (λ x. Concat x q) (plan_step schemas p) _ (λ x is. (to_concat x q k is.0 parts.1, none_of (has_too_many schemas x) (has_too_many schemas q) is.1 few.1))
+      inside (Fits k) (Fits k) (λ x. Concat x q) (plan_step schemas p) _ (λ x is. (to_concat x q k is.0 parts.1, or_from (has_too_many schemas x) (has_too_many schemas q) is.1 few.1))
       (step_fits p k (parts.0, few.0))
-      (inside (Fits k) (Fits k) (Concat p) (plan_step schemas q) None (λ y is. (to_concat p y k parts.0 is.0, none_of (has_too_many schemas p) (has_too_many schemas y) few.0 is.1))
+      (inside (Fits k) (Fits k) (Concat p) (plan_step schemas q) None (λ y is. (to_concat p y k parts.0 is.0, or_from (has_too_many schemas p) (has_too_many schemas y) few.0 is.1))
       (step_fits q k (parts.1, few.1)) tt)
   step_fits (Order p keys) k h =
-      let few = neither (is_above_limit (length keys)) (has_too_many schemas p) h.1 in
+      let few = or_parts (is_above_limit (length keys)) (has_too_many schemas p) h.1 in
       let j = then_some (order_kinds keys) (plan_kinds schemas p) k h.0 in
       inside (Fits j.0) (Fits k) (λ x. Order x keys) (plan_step schemas p) None
-      (λ x is. (ap (option_and_then (order_kinds keys)) is.0 ∙ j.2, none_of (is_above_limit (length keys)) (has_too_many schemas x) few.0 is.1))
+      (λ x is. (ap (option_and_then (order_kinds keys)) is.0 ∙ j.2, or_from (is_above_limit (length keys)) (has_too_many schemas x) few.0 is.1))
       (step_fits p j.0 (j.1, few.1)) tt
 
   -- ---- the whole typing

@@ -1,11 +1,11 @@
 -- The ids of the kept results that a rewriting names, ascending and each once: they are of entries, and no more than these.
-use Rattle.std.proofs.Common.{◌≡◌, refl, sym, subst, inl, inr, ◌⊎◌, ℕ, ◌<◌, ◌≤◌, Bool, true, false, ◌&&◌, ◌||◌, ◌==◌, nat_lt, List, [], ◌∷◌, length, get_or, arith}
+use Rattle.std.proofs.Common.{◌≡◌, refl, sym, subst, inl, inr, ◌⊎◌, ℕ, ◌<◌, ◌≤◌, Bool, true, false, ◌||◌, ◌==◌, nat_lt, List, [], ◌∷◌, length, get_or, arith}
 use Rattle.std.specs.Prelude.{IsTrue}
 use Rattle.std.specs.List.{AllByRecursion, Contains, list_all}
 use Rattle.std.specs.List.Sorted.{IsStrictlySortedBy}
 use Rattle.std.specs.Ordering.{nat_cmp}
 use Rattle.std.specs.declared.cmp.Ordering.TheVariants.{Less}
-use Rattle.std.proofs.lemmas.Bool.{false≢true, eqb-true, ltb-true, lt-ltb}
+use Rattle.std.proofs.lemmas.Bool.{false≢true, eqb-true, ltb-true, lt-ltb, and_from, and_parts}
 use Rattle.std.proofs.lemmas.Bool.Decides.{nat_tests}
 use Rattle.std.proofs.lemmas.List.Elements.{All-contains, All-from_recursion, Contains-get_or, recursion_from_All}
 use Rattle.std.proofs.lemmas.List.Sums.{list_all-from_AllPass}
@@ -14,11 +14,6 @@ use Rattle.rewrite_core.specs.Files as rewriting
 use Rattle.rewrite_core.specs.Files.{FileName, ids_in}
 use Rattle.catalog_types.specs.PlainEntry.{PlainEntry}
 use Rattle.entry_table.specs.Ids.{AreIdsOf, ascend_above, ids_of, is_there}
-use Rattle.entry_table.proofs.Places.{both}
-
-and_true : (b c : Bool) → b ≡ true → c ≡ true → b && c ≡ true
-and_true true c first second = second
-and_true false c first second = absurd (false≢true first)
 
 either : (b c : Bool) → b || c ≡ true → (b ≡ true) ⊎ (c ≡ true)
 either true c is = inl refl
@@ -36,13 +31,13 @@ comes_less x y less = grind (arith, nat_tests)
 ascend_of : (low : ℕ) (ids : List ℕ) → AllByRecursion (λ id. nat_cmp low id ≡ Less) ids → IsStrictlySortedBy nat_cmp ids → ascend_above low ids ≡ true
 ascend_of low [] above rise = refl
 ascend_of low (id ∷ ids) above rise =
-    and_true (nat_lt low id) (ascend_above id ids) (is_less low id above.0) (ascend_of id ids (sorted_head nat_cmp id ids rise) (sorted_tail nat_cmp id ids rise))
+    and_from (nat_lt low id) (ascend_above id ids) (is_less low id above.0) (ascend_of id ids (sorted_head nat_cmp id ids rise) (sorted_tail nat_cmp id ids rise))
 
 -- an entry's id is above what the ids ascend above
 id_above : (low : ℕ) (es : List PlainEntry) (id : ℕ) → ascend_above low (ids_of es) ≡ true → is_there es id ≡ true → low < id
 id_above low [] id up there = absurd (false≢true there)
 id_above low (e ∷ es) id up there =
-    let parts = both (nat_lt low e.id) (ascend_above e.id (ids_of es)) up in
+    let parts = and_parts (nat_lt low e.id) (ascend_above e.id (ids_of es)) up in
     let first = ltb-true low e.id parts.0 in
     elim (either (e.id == id) (is_there es id) there) [
       | inl same ↦ (let is = eqb-true e.id id same in omega (arith, first, is))
@@ -53,23 +48,23 @@ id_above low (e ∷ es) id up there =
 behind_first : (low : ℕ) (e : PlainEntry) (es : List PlainEntry) (ids : List ℕ) → e.id ≤ low → ascend_above low ids ≡ true → list_all (is_there (e ∷ es)) ids ≡ true → list_all (is_there es) ids ≡ true
 behind_first low e es [] most up there = refl
 behind_first low e es (id ∷ ids) most up there =
-    let parts = both (nat_lt low id) (ascend_above id ids) up in
+    let parts = and_parts (nat_lt low id) (ascend_above id ids) up in
     let less = ltb-true low id parts.0 in
-    let listed = both (is_there (e ∷ es) id) (list_all (is_there (e ∷ es)) ids) there in
+    let listed = and_parts (is_there (e ∷ es) id) (list_all (is_there (e ∷ es)) ids) there in
     let behind : is_there es id ≡ true = elim (either (e.id == id) (is_there es id) listed.0) [
       | inl same ↦ (let is = eqb-true e.id id same in absurd (omega (arith, most, less, is)))
       | inr behind ↦ behind
     ] in
-    and_true (is_there es id) (list_all (is_there es) ids) behind (behind_first id e es ids (omega (arith, most, less)) parts.1 listed.1)
+    and_from (is_there es id) (list_all (is_there es) ids) behind (behind_first id e es ids (omega (arith, most, less)) parts.1 listed.1)
 
 no_more : (low : ℕ) (es : List PlainEntry) (ids : List ℕ) → ascend_above low (ids_of es) ≡ true → ascend_above low ids ≡ true → list_all (is_there es) ids ≡ true → length ids ≤ length es
 no_more low [] [] order up there = omega arith
 no_more low [] (id ∷ ids) order up there = absurd (false≢true there)
 no_more low (e ∷ es) [] order up there = omega arith
 no_more low (e ∷ es) (id ∷ ids) order up there =
-    let parts = both (nat_lt low e.id) (ascend_above e.id (ids_of es)) order in
-    let rise = both (nat_lt low id) (ascend_above id ids) up in
-    let listed = both (is_there (e ∷ es) id) (list_all (is_there (e ∷ es)) ids) there in
+    let parts = and_parts (nat_lt low e.id) (ascend_above e.id (ids_of es)) order in
+    let rise = and_parts (nat_lt low id) (ascend_above id ids) up in
+    let listed = and_parts (is_there (e ∷ es) id) (list_all (is_there (e ∷ es)) ids) there in
     elim (either (e.id == id) (is_there es id) listed.0) [
       | inl same ↦ (
           let is = eqb-true e.id id same in
@@ -79,7 +74,7 @@ no_more low (e ∷ es) (id ∷ ids) order up there =
       | inr behind ↦ (
           let less = id_above e.id es id parts.1 behind in
           let others = behind_first id e es ids (omega (arith, less)) rise.1 listed.1 in
-          let rest = no_more e.id es (id ∷ ids) parts.1 (and_true (nat_lt e.id id) (ascend_above id ids) (lt-ltb e.id id less) rise.1) (and_true (is_there es id) (list_all (is_there es) ids) behind others) in
+          let rest = no_more e.id es (id ∷ ids) parts.1 (and_from (nat_lt e.id id) (ascend_above id ids) (lt-ltb e.id id less) rise.1) (and_from (is_there es id) (list_all (is_there es) ids) behind others) in
           omega (arith, rest))
     ]
 

@@ -2,7 +2,7 @@
 use Rattle.std.proofs.Common.{◌≡◌, inl, inr, refl, sym, ap, ◌∙◌, subst, ℕ, ◌==◌, Bool, true, false, not, cond, List, [], ◌∷◌, map, Some, unwrap_or}
 use Rattle.std.specs.List.{Contains, find}
 use Rattle.std.specs.Option.{option_map}
-use Rattle.std.proofs.lemmas.Bool.{eqb-true, false≢true}
+use Rattle.std.proofs.lemmas.Bool.{eqb-true, false≢true, and_parts}
 use Rattle.std.proofs.lemmas.Map.Views.{any-filter_same}
 use Rattle.rewrite_core.specs.Entries.{Entry}
 use Rattle.rewrite_core.specs.Files.{FileName, Extent, Result}
@@ -10,14 +10,13 @@ use Rattle.rewrite_core.proofs.Looking.{Contains-first, Contains-behind, Contain
 use Rattle.catalog_types.specs.PlainEntry.{PlainEntry}
 use Rattle.cache_index.specs.Asked.{entry}
 use Rattle.entry_table.specs.Ids.{is_among, is_there, without}
-use Rattle.entry_table.proofs.Places.{both}
 use Rattle.catalog_core.specs.Named.{HasFile, no_file, file_at}
 use Rattle.catalog_core.specs.Table.{Table}
 use Rattle.plan_choice.specs.Leaving.{leaving_out}
 
 -- an id that is left is that of a kept result, and isn't among those that are left out
 left-there : (ids : List ℕ) (es : List PlainEntry) (id : ℕ) → is_there (without ids es) id ≡ true → (not (is_among ids id) ≡ true) × (is_there es id ≡ true)
-left-there ids es id there = both (not (is_among ids id)) (is_there es id) (sym (any-filter_same (λ (e : PlainEntry). e.id == id) (λ (e : PlainEntry). not (is_among ids e.id)) (not (is_among ids id)) (λ e same. ap (λ (i : ℕ). not (is_among ids i)) (eqb-true e.id id same)) es) ∙ there)
+left-there ids es id there = and_parts (not (is_among ids id)) (is_there es id) (sym (any-filter_same (λ (e : PlainEntry). e.id == id) (λ (e : PlainEntry). not (is_among ids e.id)) (not (is_among ids id)) (λ e same. ap (λ (i : ℕ). not (is_among ids i)) (eqb-true e.id id same)) es) ∙ there)
 
 -- it finds the same kept result
 find-left : (ids : List ℕ) (id : ℕ) → not (is_among ids id) ≡ true → (es : List PlainEntry) → find (λ e. e.id == id) (without ids es) ≡ find (λ e. e.id == id) es

@@ -1,6 +1,6 @@
 -- What a typed expression says of its parts.
 use Rattle.std.proofs.Common.{◌≡◌, ◌≢◌, refl, ap, subst, ◌∙◌, ℕ, zero, suc, ℤ, pos, negsuc, Bool, true, false, ◌&&◌, not, cond, List, [], ◌∷◌, map, slice_get, Option, None, Some, Ok, IsSome}
-use Rattle.std.proofs.lemmas.Bool.{false≢true}
+use Rattle.std.proofs.lemmas.Bool.{false≢true, not-false}
 use Rattle.rows_core.specs.declared.kind.Kind as column
 use Rattle.rows_core.specs.declared.value.Value.{Value}
 use Rattle.rows_core.specs.Value.{kind_of}
@@ -58,13 +58,9 @@ literal_divisor (And a b) row x y e is = absurd cc
 literal_divisor (Or a b) row x y e is = absurd cc
 literal_divisor (If c a b) row x y e is = absurd cc
 
-not_false : (b : Bool) → not b ≡ false → b ≡ true
-not_false true e = refl
-not_false false e = cc
-
 pub divides : (o : Op) (b : PlainExpr) (row : Row) (x y : Cell) → (is_division o && not (is_divisor b)) ≡ false → expression_value b row ≡ Ok y → Divides o (x ∷ y ∷ [])
-divides op.Div b row x y e is = literal_divisor b row x y (not_false _ e) is
-divides op.Mod b row x y e is = literal_divisor b row x y (not_false _ e) is
+divides op.Div b row x y e is = literal_divisor b row x y (not-false _ e) is
+divides op.Mod b row x y e is = literal_divisor b row x y (not-false _ e) is
 divides _ b row x y e is = tt
 
 -- ---- the same, at the expression and the values that a call was given

@@ -7,6 +7,7 @@ use Rattle.std.proofs.lemmas.Str.{IsUtf8-from_is_utf8, is_utf8-from_IsUtf8}
 use Rattle.std.specs.List.{list_all}
 use Rattle.std.specs.Option.{option_map, option_and_then}
 use Rattle.std.specs.Str.{is_utf8}
+use Rattle.std.proofs.lemmas.Bool.{and_parts}
 use Rattle.rows_core.specs.Name.{is_name_byte}
 use Rattle.rows_core.specs.Txt.{is_text_byte}
 use Rattle.plan_grammar.specs.declared.token.Token.{Token}
@@ -19,11 +20,6 @@ use Rattle.plan_grammar.specs.TextTokens.{is_token, with_token, tokens_step, tok
 map_some : {A B : Type 0} (f : A → B) (o : Option A) (y : B) → option_map f o ≡ Some y → (x : A) × (o ≡ Some x) × (f x ≡ y)
 map_some f None y q = absurd (cc q)
 map_some f (Some x) y q = (x, refl, cc q)
-
-two_true : (a b : Bool) → (a && b) ≡ true → (a ≡ true) × (b ≡ true)
-two_true true true e = (refl, refl)
-two_true true false e = absurd (cc e)
-two_true false b e = absurd (cc e)
 
 -- the tests are what they test
 is_token-from : (t : Token) → IsToken t → is_token t ≡ true
@@ -41,8 +37,8 @@ IsToken-from (Word word) is = tt
 IsToken-from (Number number) is = tt
 IsToken-from (Mark m) is = tt
 IsToken-from (Text text) is =
-    let p = two_true (is_utf8 text && list_all is_text_byte text) (nat_le (length text) 1000) is in
-    let q = two_true (is_utf8 text) (list_all is_text_byte text) p.0 in
+    let p = and_parts (is_utf8 text && list_all is_text_byte text) (nat_le (length text) 1000) is in
+    let q = and_parts (is_utf8 text) (list_all is_text_byte text) p.0 in
     ((IsUtf8-from_is_utf8 text q.0, q.1), grind (arith, nat_tests, p.1))
 
 -- each token has a byte

@@ -3,6 +3,7 @@ use Rattle.std.proofs.Common.{◌≡◌, ◌≢◌, refl, sym, ap, ◌∙◌, su
 use Rattle.std.specs.List.{filter, list_any, Contains, AllPairs}
 use Rattle.std.proofs.lemmas.List.Elements.{filter-append, filter_passes}
 use Rattle.std.proofs.lemmas.List.Kept.{AllPairs-cons, AllPairs-filter}
+use Rattle.std.proofs.Math.Bool.{or-true}
 use Rattle.rows_core.specs.Equality.{row_eq-Decides}
 use Rattle.rows_core.specs.Value.{row_eq}
 use Rattle.plan_core.specs.Columns.{Row, Rows}
@@ -92,13 +93,9 @@ pub is_there : (row : Row) (rows : Rows) → Contains rows row → list_any (row
 is_there row [] at = absurd (omega (arith, at.1))
 is_there row (first ∷ others) at = by (is_there row others) (front_or_behind first others row at)
   where
-    or_true : (b : Bool) → (b || true) ≡ true
-    or_true true = refl
-    or_true false = refl
-
     by : (Contains others row → list_any (row_eq row) others ≡ true) → (first ≡ row) ⊎ Contains others row → (row_eq row first || list_any (row_eq row) others) ≡ true
     by rest (inl here) = ap (λ b. b || list_any (row_eq row) others) ((row_eq-Decides row first).1 (sym here))
-    by rest (inr there) = ap (λ b. row_eq row first || b) (rest there) ∙ or_true (row_eq row first)
+    by rest (inr there) = ap (λ b. row_eq row first || b) (rest there) ∙ or-true (row_eq row first)
 
 pub same_members : (row : Row) (rows : Rows) → list_any (row_eq row) (distinct_rows rows) ≡ list_any (row_eq row) rows
 same_members row rows =

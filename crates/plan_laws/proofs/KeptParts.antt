@@ -1,7 +1,7 @@
 -- What is kept of groups and of a join is within the bounds of a file.
-use Rattle.std.proofs.Common.{◌≡◌, refl, sym, ap, ◌∙◌, subst, ℕ, ◌+◌, ◌-◌, ◌*◌, ◌^◌, ◌<◌, ◌≤◌, ℤ, pos, negsuc, Bool, true, false, not, ◌||◌, cond, List, [], ◌∷◌, ◌++◌, map, length, append-nil, Option, Some, unwrap_or, arith}
+use Rattle.std.proofs.Common.{◌≡◌, refl, sym, ap, ◌∙◌, subst, ℕ, ◌+◌, ◌-◌, ◌*◌, ◌^◌, ◌<◌, ◌≤◌, ℤ, pos, negsuc, Bool, true, false, not, cond, List, [], ◌∷◌, ◌++◌, map, length, append-nil, Option, Some, unwrap_or, arith}
 use Rattle.std.specs.List.{AllByRecursion, filter, list_any, slice_get}
-use Rattle.std.proofs.lemmas.Bool.{false≢true}
+use Rattle.std.proofs.lemmas.Bool.{not-true, or_parts, or_from}
 use Rattle.std.proofs.lemmas.Int.{ints}
 use Rattle.std.proofs.lemmas.List.{length-append, length-map, map-append}
 use Rattle.std.proofs.lemmas.List.Elements.{filter-append}
@@ -101,19 +101,12 @@ abbrev pub AreFresh : List Row → List Row → Type 0
 AreFresh before [] = Unit {0}
 AreFresh before (row ∷ rows) = (list_any (row_eq row) before ≡ false) × AreFresh (before ++ row ∷ []) rows
 
-neither : (a b : Bool) → a ≡ false → b ≡ false → (a || b) ≡ false
-neither a b e f = ap (λ x. x || b) e ∙ f
-
-parts_false : (a b : Bool) → (a || b) ≡ false → (a ≡ false) × (b ≡ false)
-parts_false true b e = absurd (false≢true (sym e))
-parts_false false b e = (refl, e)
-
 none_in_filter : (q p : Row → Bool) (rows : List Row) → list_any q rows ≡ false → list_any q (filter p rows) ≡ false
 none_in_filter q p [] none = refl
-none_in_filter q p (row ∷ rows) none = go (p row) (none_in_filter q p rows (parts_false (q row) (list_any q rows) none).1)
+none_in_filter q p (row ∷ rows) none = go (p row) (none_in_filter q p rows (or_parts (q row) (list_any q rows) none).1)
   where
     go : (b : Bool) → list_any q (filter p rows) ≡ false → list_any q (cond b (row ∷ filter p rows) (filter p rows)) ≡ false
-    go true rest = neither (q row) (list_any q (filter p rows)) (parts_false (q row) (list_any q rows) none).0 rest
+    go true rest = or_from (q row) (list_any q (filter p rows)) (or_parts (q row) (list_any q rows) none).0 rest
     go false rest = rest
 
 module _ (first : Row) where
@@ -121,11 +114,7 @@ module _ (first : Row) where
   is_other row = not (row_eq first row)
 
   not_first : (row : Row) → is_other row ≡ true → row_eq row first ≡ false
-  not_first row e = either_way row first ∙ was_false (row_eq first row) e
-    where
-      was_false : (b : Bool) → not b ≡ true → b ≡ false
-      was_false true e = absurd (false≢true e)
-      was_false false e = refl
+  not_first row e = either_way row first ∙ not-true (row_eq first row) e
 
   fresh_others : (before rows : List Row) → AreFresh before rows → AreFresh (first ∷ filter is_other before) (filter is_other rows)
   fresh_others before [] fresh = tt
@@ -137,7 +126,7 @@ module _ (first : Row) where
       go : (b : Bool) → is_other row ≡ b → AreFresh (first ∷ filter is_other (before ++ row ∷ [])) (filter is_other rows)
           → AreFresh (first ∷ filter is_other before) (cond b (row ∷ filter is_other rows) (filter is_other rows))
       go true e rest = (
-        neither (row_eq row first) (list_any (row_eq row) (filter is_other before)) (not_first row e) (none_in_filter (row_eq row) is_other before fresh.0),
+        or_from (row_eq row first) (list_any (row_eq row) (filter is_other before)) (not_first row e) (none_in_filter (row_eq row) is_other before fresh.0),
         subst (λ (l : List Row). AreFresh (first ∷ l) (filter is_other rows)) (grown true e) rest,
       )
       go false e rest =

@@ -3,6 +3,8 @@ use Rattle.std.proofs.Common.{◌≡◌, refl, sym, ap, ◌∙◌, subst, ℕ, �
 use Rattle.std.specs.List.{filter, list_any, Contains}
 use Rattle.std.proofs.lemmas.List.{map-append, map-id, append-nil, length-append}
 use Rattle.std.proofs.lemmas.List.Elements.{filter-append}
+use Rattle.std.proofs.lemmas.Bool.{not-true}
+use Rattle.std.proofs.Math.Bool.{or-true}
 use Rattle.rows_core.specs.Equality.{row_eq-Decides}
 use Rattle.rows_core.specs.Value.{row_eq}
 use Rattle.row_blob.specs.declared.kept.GroupRow.{GroupRow}
@@ -60,13 +62,9 @@ is_there : (rows : Rows) (row : Row) → Contains rows row → list_any (row_eq 
 is_there [] row h = absurd (omega (arith, h.1))
 is_there (first ∷ rows) row h = by (front_or_behind first rows row h) (is_there rows row)
   where
-    or_true : (b : Bool) → (b || true) ≡ true
-    or_true true = refl
-    or_true false = refl
-
     by : (first ≡ row) ⊎ Contains rows row → (Contains rows row → list_any (row_eq row) rows ≡ true) → (row_eq row first || list_any (row_eq row) rows) ≡ true
     by (inl same) rest = ap (λ b. b || list_any (row_eq row) rows) ((row_eq-Decides row first).1 (sym same))
-    by (inr at) rest = ap (λ b. row_eq row first || b) (rest at) ∙ or_true (row_eq row first)
+    by (inr at) rest = ap (λ b. row_eq row first || b) (rest at) ∙ or-true (row_eq row first)
 
 not_there : (keys : List ℕ) (rows : Rows) (key : Row) → list_any (row_eq key) (keys_of keys rows) ≡ false → Contains (map (columns_of keys) rows) key → ⊥
 not_there keys rows key h at = true≢false (sym (is_there (keys_of keys rows) key (has_all (map (columns_of keys) rows) key at)) ∙ h)
@@ -149,14 +147,10 @@ module _ (keys : List ℕ) (aggs : List Agg) (olds news : Rows) where
   second_part : map (kept_group keys aggs (olds ++ news)) (filter (is_none_of (keys_of keys olds)) (keys_of keys news)) ≡ filter (is_new (groups_of keys aggs olds)) (groups_of keys aggs news)
   second_part =
       map_alike (kept_group keys aggs (olds ++ news)) (kept_group keys aggs news) (filter (is_none_of (keys_of keys olds)) (keys_of keys news))
-      (λ key h. new_group keys aggs olds news key (falsely (list_any (row_eq key) (keys_of keys olds)) (was_there (is_none_of (keys_of keys olds)) (keys_of keys news) key h).1))
+      (λ key h. new_group keys aggs olds news key (not-true (list_any (row_eq key) (keys_of keys olds)) (was_there (is_none_of (keys_of keys olds)) (keys_of keys news) key h).1))
       ∙ ap (map (kept_group keys aggs news)) (filter_alike (is_none_of (keys_of keys olds)) (λ key. is_new (groups_of keys aggs olds) (kept_group keys aggs news key))
       (λ key. ap (λ ks. not (list_any (row_eq key) ks)) (sym (keys_kept keys aggs olds (keys_of keys olds)))) (keys_of keys news))
       ∙ sym (filter_of_map (kept_group keys aggs news) (is_new (groups_of keys aggs olds)) (keys_of keys news))
-    where
-      falsely : (b : Bool) → not b ≡ true → b ≡ false
-      falsely true h = absurd (true≢false (sym h))
-      falsely false h = refl
 
 pub joined_lists : (keys : List ℕ) (aggs : List Agg) (olds news : Rows) → groups_of keys aggs (olds ++ news) ≡ merged_groups aggs (groups_of keys aggs olds) (groups_of keys aggs news)
 joined_lists keys aggs olds news =

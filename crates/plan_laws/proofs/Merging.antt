@@ -8,6 +8,7 @@ use Rattle.std.specs.declared.cmp.Ordering.{Ordering}
 use Rattle.std.specs.declared.cmp.Ordering.TheVariants.{Less, Equal, Greater}
 use Rattle.std.proofs.lemmas.List.Elements.{filter-append}
 use Rattle.std.proofs.lemmas.List.Sorted.{ranks_by, IsPermutation-refl, IsPermutation-cons, IsPermutation-trans, IsPermutation-middle}
+use Rattle.std.proofs.lemmas.Bool.{not-false, not-true}
 use Rattle.itertools.specs.List.{merge_at, merge_by}
 use Rattle.itertools.proofs.ListFactLemmas.{merge_by-sorted}
 use Rattle.plan_laws.proofs.StableLists.{Ascends, ascends_from_sorted, none_below_itself, none_ties, one_list}
@@ -33,18 +34,10 @@ module _ {X : Type 0} (first : X → X → Bool) where
 
 module _ {X : Type 0} (lt first : X → X → Bool) (o : IsStrictWeakOrder lt) (is_first : (x y : X) → first x y ≡ not (lt y x)) where
   not_less : (x y : X) → first x y ≡ true → lt y x ≡ false
-  not_less x y h = by (lt y x) (sym (is_first x y) ∙ h)
-    where
-      by : (b : Bool) → not b ≡ true → b ≡ false
-      by true e = sym e
-      by false e = refl
+  not_less x y h = not-true (lt y x) (sym (is_first x y) ∙ h)
 
   less : (x y : X) → first x y ≡ false → lt y x ≡ true
-  less x y h = by (lt y x) (sym (is_first x y) ∙ h)
-    where
-      by : (b : Bool) → not b ≡ false → b ≡ true
-      by true e = refl
-      by false e = sym e
+  less x y h = not-false (lt y x) (sym (is_first x y) ∙ h)
 
   pub merge_sorted : (xs ys : List X) → IsSortedBy lt xs → IsSortedBy lt ys → IsSortedBy lt (merge_by first xs ys)
   merge_sorted = merge_by-sorted lt first not_less (λ x y h. o.one_way y x (less x y h))

@@ -9,6 +9,7 @@ use Rattle.std.specs.Str.Parse.{AllDigits}
 use Rattle.std.specs.List.{flat_map, list_all, find}
 use Rattle.std.specs.Option.{option_map}
 use Rattle.std.specs.Char.{is_ascii_digit}
+use Rattle.std.proofs.lemmas.Bool.{and_parts}
 use Rattle.rows_core.specs.Name.{IsName, is_name, is_reserved, begins_with_letter, is_name_byte}
 use Rattle.rows_core.specs.Txt.{IsTxt}
 use Rattle.plan_grammar.specs.declared.token.Token.{Token}
@@ -19,11 +20,6 @@ use Rattle.plan_grammar.specs.declared.token.Word as the_word
 use Rattle.plan_grammar.specs.declared.token.Word.TheVariants as word
 use Rattle.plan_grammar.specs.Token.{word_bytes, mark_bytes, all_words, word_with, greatest_number, fits_digit, number_behind, number_with, name_or_number, word_or, word_token, before, word_len, word_at, begins_with, begins_with_digit, mark_at, is_escaped, with_byte, text_behind, text_at, mark_token, token_at, IsToken, trimmed}
 use Rattle.plan_printer.specs.Canonical.{escaped, quoted, spelling}
-
-both_true : (a b : Bool) → (a && b) ≡ true → (a ≡ true) × (b ≡ true)
-both_true true true e = (refl, refl)
-both_true true false e = absurd (cc e)
-both_true false b e = absurd (cc e)
 
 -- a token ends at the end of the text, or before a space, a comma or a parenthesis
 abbrev is_end : ℕ → Bool
@@ -52,7 +48,7 @@ word_len-whole : (w rest : List ℕ) → list_all is_name_byte w ≡ true → En
 word_len-whole [] [] all e = refl
 word_len-whole [] (c ∷ rest) all e = by_end (λ c. word_len (c ∷ rest) ≡ 0) c e refl refl refl refl
 word_len-whole (x ∷ w) rest all e =
-    let p = both_true (is_name_byte x) (list_all is_name_byte w) all in
+    let p = and_parts (is_name_byte x) (list_all is_name_byte w) all in
     let one_more : 1 + word_len (w ++ rest) ≡ suc (length w) = omega (arith, word_len-whole w rest p.1 e) in
     ap (λ b. cond (not (not b)) (1 + word_len (w ++ rest)) 0) p.0 ∙ one_more
 
@@ -71,7 +67,7 @@ word_read : (w : List ℕ) (token : Token) (rest : List ℕ) → 0 < length w �
 unfolding token_at word_at
 word_read [] token rest some all is e = absurd (omega (arith, some))
 word_read (x ∷ w) token rest some all is e =
-    let first = (both_true (is_name_byte x) (list_all is_name_byte w) all).0 in
+    let first = (and_parts (is_name_byte x) (list_all is_name_byte w) all).0 in
     let text = x ∷ (w ++ rest) in
     let untrimmed : trimmed text ≡ text = ap (λ b. cond b (trimmed (w ++ rest)) text) (not_space x first) in
     let whole : word_len text ≡ length (x ∷ w) = word_len-whole (x ∷ w) rest all e in
@@ -105,9 +101,9 @@ name_bytes [] is = absurd (cc is)
 name_bytes (c ∷ cs) is =
     let all = list_all is_name_byte (c ∷ cs) in
     let short = nat_le (length (c ∷ cs)) 64 in
-    let p = both_true ((begins_with_letter (c ∷ cs) && all) && short) (not (is_reserved (c ∷ cs))) is in
-    let q = both_true (begins_with_letter (c ∷ cs) && all) short p.0 in
-    (omega arith, (both_true (begins_with_letter (c ∷ cs)) all q.0).1)
+    let p = and_parts ((begins_with_letter (c ∷ cs) && all) && short) (not (is_reserved (c ∷ cs))) is in
+    let q = and_parts (begins_with_letter (c ∷ cs) && all) short p.0 in
+    (omega arith, (and_parts (begins_with_letter (c ∷ cs)) all q.0).1)
 
 -- the digits of a number
 digit_bytes : (ds : List ℕ) → AllDigits 10 ds → list_all is_name_byte ds ≡ true

@@ -6,6 +6,7 @@ use Rattle.std.specs.List.{AllByRecursion, list_all}
 use Rattle.std.specs.Option.{option_map, option_and_then}
 use Rattle.std.specs.Prelude.{nat_lt, not}
 use Rattle.std.proofs.lemmas.Option.{slice_get_within}
+use Rattle.std.proofs.lemmas.Bool.{or_parts, and_parts}
 use Rattle.rows_core.specs.declared.kind.Kind.{Kind}
 use Rattle.rows_core.specs.declared.kind.Kind.TheVariants as kind
 use Rattle.rows_core.specs.declared.order.Key.{Key}
@@ -49,14 +50,6 @@ otherwise : {A : Type 0} (b : Bool) (x : Option A) (y : A) → cond b None x ≡
 otherwise true x y is = absurd cc
 otherwise false x y is = is
 
-both_true : (a b : Bool) → (a && b) ≡ true → (a ≡ true) × (b ≡ true)
-both_true true b is = (refl, is)
-both_true false b is = absurd cc
-
-neither : (a b : Bool) → (a || b) ≡ false → (a ≡ false) × (b ≡ false)
-neither true b is = absurd cc
-neither false b is = (refl, is)
-
 there_front : {A : Type 0} (x : Option A) (xs : List (Option A)) (ys : List A) → all_there (x ∷ xs) ≡ Some ys → (a : A) × (others : List A) × (x ≡ Some a) × (all_there xs ≡ Some others) × (a ∷ others ≡ ys)
 there_front None xs ys is = absurd cc
 there_front {A = A} (Some a) xs ys is = by (all_there xs) refl is
@@ -76,7 +69,7 @@ there_length f (x ∷ xs) ys is = let front = there_front (f x) (map f xs) ys is
 
 each_passes : {X : Type 0} (f : X → Bool) (P : X → Type 0) → ((x : X) → f x ≡ true → P x) → (xs : List X) → list_all f xs ≡ true → AllByRecursion P xs
 each_passes f P gives [] is = tt
-each_passes f P gives (x ∷ xs) is = let parts = both_true (f x) (list_all f xs) is in (gives x parts.0, each_passes f P gives xs parts.1)
+each_passes f P gives (x ∷ xs) is = let parts = and_parts (f x) (list_all f xs) is in (gives x parts.0, each_passes f P gives xs parts.1)
 
 is_less : (a b : ℕ) → nat_lt a b ≡ true → a < b
 is_less a b is = grind arith
@@ -90,7 +83,7 @@ same_length : (xs ys : List CellKind) → pointwise same_cell_kind xs ys ≡ tru
 same_length [] [] is = refl
 same_length [] (y ∷ ys) is = absurd cc
 same_length (x ∷ xs) [] is = absurd cc
-same_length (x ∷ xs) (y ∷ ys) is = omega (arith, same_length xs ys (both_true (same_cell_kind x y) (pointwise same_cell_kind xs ys) is).1)
+same_length (x ∷ xs) (y ∷ ys) is = omega (arith, same_length xs ys (and_parts (same_cell_kind x y) (pointwise same_cell_kind xs ys) is).1)
 
 arguments : (args : List CellKind) (k : CellKind) (row : Option OpRow) → option_and_then (λ r. cond (pointwise same_cell_kind args (kinds_of_args r.args)) (Some r.result) None) row ≡ Some k
     → length (unwrap_or (option_map (λ r. kinds_of_args r.args) row) []) ≡ length args
@@ -204,9 +197,9 @@ module _ (schemas : List Kinds) where
   join_parts : (left right : PlainPlan) (on : List (ℕ × ℕ)) → has_too_many schemas (Join left right on) ≡ false
       → (is_above_limit (column_count schemas left + column_count schemas right) ≡ false) × (is_above_limit (length on) ≡ false) × (has_too_many schemas left ≡ false) × (has_too_many schemas right ≡ false)
   join_parts left right on is =
-      let three = neither (is_above_limit (column_count schemas left + column_count schemas right) || is_above_limit (length on) || has_too_many schemas left) (has_too_many schemas right) is in
-      let two = neither (is_above_limit (column_count schemas left + column_count schemas right) || is_above_limit (length on)) (has_too_many schemas left) three.0 in
-      let one = neither (is_above_limit (column_count schemas left + column_count schemas right)) (is_above_limit (length on)) two.0 in
+      let three = or_parts (is_above_limit (column_count schemas left + column_count schemas right) || is_above_limit (length on) || has_too_many schemas left) (has_too_many schemas right) is in
+      let two = or_parts (is_above_limit (column_count schemas left + column_count schemas right) || is_above_limit (length on)) (has_too_many schemas left) three.0 in
+      let one = or_parts (is_above_limit (column_count schemas left + column_count schemas right)) (is_above_limit (length on)) two.0 in
       (one.0, one.1, two.1, three.1)
 
   few_columns : (p : PlainPlan) (kinds : Kinds) → FitsTyping p kinds → IsFew kinds
@@ -216,7 +209,7 @@ module _ (schemas : List Kinds) where
       subst IsFew (tested (is_truth (expression_kind below.0 test)) below.0 kinds below.2).1 (few_columns child below.0 (below.1, fits.1))
   few_columns (Project child columns) kinds fits =
       let below = and_then (project_kinds columns) (plan_kinds schemas child) kinds fits.0 in
-      let few = neither (is_above_limit (length columns)) (has_too_many schemas child) fits.1 in
+      let few = or_parts (is_above_limit (length columns)) (has_too_many schemas child) fits.1 in
       omega (
         arith,
         within_limit (length columns) few.0,
@@ -225,7 +218,7 @@ module _ (schemas : List Kinds) where
   few_columns (Distinct child) kinds fits = few_columns child kinds fits
   few_columns (Group child keys aggs) kinds fits =
       let below = and_then (group_kinds keys aggs) (plan_kinds schemas child) kinds fits.0 in
-      let few = neither (is_above_limit (length keys + length aggs)) (has_too_many schemas child) fits.1 in
+      let few = or_parts (is_above_limit (length keys + length aggs)) (has_too_many schemas child) fits.1 in
       let parts = group_parts below.0 keys aggs kinds below.2 in
       omega (
         arith,
@@ -248,11 +241,11 @@ module _ (schemas : List Kinds) where
       )
   few_columns (Concat left right) kinds fits =
       let below = both_some concat_kinds (plan_kinds schemas left) (plan_kinds schemas right) kinds fits.0 in
-      let few = neither (has_too_many schemas left) (has_too_many schemas right) fits.1 in
+      let few = or_parts (has_too_many schemas left) (has_too_many schemas right) fits.1 in
       subst IsFew (tested (pointwise same_kind below.0 below.1) below.0 kinds below.4).1 (few_columns left below.0 (below.2, few.0))
   few_columns (Order child keys) kinds fits =
       let below = and_then (order_kinds keys) (plan_kinds schemas child) kinds fits.0 in
-      let few = neither (is_above_limit (length keys)) (has_too_many schemas child) fits.1 in
+      let few = or_parts (is_above_limit (length keys)) (has_too_many schemas child) fits.1 in
       subst IsFew (ordered below.0 keys kinds below.2).1 (few_columns child below.0 (below.1, few.1))
 
   -- the streams of its leaves are numbers of four bytes
@@ -269,7 +262,7 @@ module _ (schemas : List Kinds) where
       )
   plan_spelled (Project child columns) kinds fits numbers cells =
       let below = and_then (project_kinds columns) (plan_kinds schemas child) kinds fits.0 in
-      let few = neither (is_above_limit (length columns)) (has_too_many schemas child) fits.1 in (
+      let few = or_parts (is_above_limit (length columns)) (has_too_many schemas child) fits.1 in (
         plan_spelled child below.0 (below.1, few.1) numbers cells.0,
         (
           omega (arith, within_limit (length columns) few.0),
@@ -279,7 +272,7 @@ module _ (schemas : List Kinds) where
   plan_spelled (Distinct child) kinds fits numbers cells = plan_spelled child kinds fits numbers cells
   plan_spelled (Group child keys aggs) kinds fits numbers cells =
       let below = and_then (group_kinds keys aggs) (plan_kinds schemas child) kinds fits.0 in
-      let few = neither (is_above_limit (length keys + length aggs)) (has_too_many schemas child) fits.1 in
+      let few = or_parts (is_above_limit (length keys + length aggs)) (has_too_many schemas child) fits.1 in
       let parts = group_parts below.0 keys aggs kinds below.2 in
       let narrow = few_columns child below.0 (below.1, few.1) in (
         plan_spelled child below.0 (below.1, few.1) numbers cells,
@@ -307,12 +300,12 @@ module _ (schemas : List Kinds) where
       )
   plan_spelled (Concat left right) kinds fits numbers cells =
       let below = both_some concat_kinds (plan_kinds schemas left) (plan_kinds schemas right) kinds fits.0 in
-      let few = neither (has_too_many schemas left) (has_too_many schemas right) fits.1 in
+      let few = or_parts (has_too_many schemas left) (has_too_many schemas right) fits.1 in
       let streams = of_both_lists IsColumn (leaves left) (leaves right) numbers in
       (plan_spelled left below.0 (below.2, few.0) streams.0 cells.0, plan_spelled right below.1 (below.3, few.1) streams.1 cells.1)
   plan_spelled (Order child keys) kinds fits numbers cells =
       let below = and_then (order_kinds keys) (plan_kinds schemas child) kinds fits.0 in
-      let few = neither (is_above_limit (length keys)) (has_too_many schemas child) fits.1 in
+      let few = or_parts (is_above_limit (length keys)) (has_too_many schemas child) fits.1 in
       let narrow = few_columns child below.0 (below.1, few.1) in (
         plan_spelled child below.0 (below.1, few.1) numbers cells,
         (

@@ -1,5 +1,5 @@
 -- What an append records fits the table.
-use Rattle.std.proofs.Common.{◌≡◌, ℕ, ◌+◌, ◌<◌, ◌≤◌, Bool, true, false, nat_lt, nat_le, ◌||◌, if◌then◌else◌, List, [], ◌∷◌, ◌++◌, length, map, slice_get, unwrap_or, get_or, Option, None, Some, IfSome, IfOk, Result, Ok, Err, refl, sym, ap, ◌∙◌, subst, inl, inr, arith}
+use Rattle.std.proofs.Common.{◌≡◌, ℕ, ◌+◌, ◌<◌, ◌≤◌, Bool, true, false, nat_lt, nat_le, if◌then◌else◌, List, [], ◌∷◌, ◌++◌, length, map, slice_get, unwrap_or, get_or, Option, None, Some, IfSome, IfOk, Result, Ok, Err, refl, sym, ap, ◌∙◌, subst, inl, inr, arith}
 use Rattle.std.specs.Int.{w32, to_be_bytes}
 use Rattle.std.specs.List.{flat_map, list_any, AllByRecursion}
 use Rattle.std.specs.Option.{option_map}
@@ -7,6 +7,7 @@ use Rattle.std.proofs.lemmas.Bool.Decides.{nat_tests}
 use Rattle.std.proofs.lemmas.List.{length-append, length-map}
 use Rattle.std.proofs.lemmas.List.Elements.{All-from_recursion, All-get_or}
 use Rattle.std.proofs.lemmas.Option.{slice_get_cases}
+use Rattle.std.proofs.lemmas.Bool.{or_parts}
 use Rattle.rows_core.specs.declared.kind.Kind.{Kind}
 use Rattle.rows_core.specs.declared.value.Value.{Value}
 use Rattle.rows_core.specs.declared.value.Value.TheVariants.{Int, Text}
@@ -55,10 +56,6 @@ rows_bytes kinds (row ∷ rows) some loose =
 
 -- ---- rows that lines spell, without a long text, are rows of their file
 
-or_false : (a b : Bool) → (a || b) ≡ false → (a ≡ false) × (b ≡ false)
-or_false true b e = absurd (cc)
-or_false false b e = (refl, e)
-
 is_value : (value : Value) → line.IsLoose value → is_long value ≡ false → IsValue (kind_of value) value
 is_value (Int number) loose short = loose
 is_value (Text text) loose short = (loose, (let bound : nat_lt 1000 (length text) ≡ false = short in grind (arith, nat_tests)))
@@ -66,13 +63,13 @@ is_value (Text text) loose short = (loose, (let bound : nat_lt 1000 (length text
 is_row : (row : List Value) → AllByRecursion line.IsLoose row → list_any is_long row ≡ false → IsRow (map kind_of row) row
 is_row [] loose short = tt
 is_row (value ∷ row) loose short =
-    let both = or_false (is_long value) (list_any is_long row) short in
+    let both = or_parts (is_long value) (list_any is_long row) short in
     (is_value value loose.0 both.0, is_row row loose.1 both.1)
 
 are_rows : (kinds : List Kind) (before rows : List (List Value)) → AllByRecursion (line.IsLooseRow kinds) rows → have_long rows ≡ false → AreInOrder (λ before. IsRow kinds) before rows
 are_rows kinds before [] loose short = tt
 are_rows kinds before (row ∷ rows) loose short =
-    let both = or_false (list_any is_long row) (have_long rows) short in
+    let both = or_parts (list_any is_long row) (have_long rows) short in
     (subst (λ k. IsRow k row) loose.0.0 (is_row row loose.0.1 both.0), are_rows kinds (before ++ row ∷ []) rows loose.1 both.1)
 
 -- ---- appending passes no limit

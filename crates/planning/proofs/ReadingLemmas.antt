@@ -4,6 +4,7 @@ use Rattle.std.specs.List.{list_any, AllByRecursion}
 use Rattle.std.proofs.lemmas.Bool.Decides.{nat_tests}
 use Rattle.std.proofs.lemmas.List.{take_more, take-append-drop, map-append}
 use Rattle.std.proofs.lemmas.List.Folds.{list_any-append}
+use Rattle.std.proofs.Math.Bool.{or-false}
 use Rattle.rows_core.specs.declared.kind.Kind.{Kind}
 use Rattle.rows_core.specs.declared.value.Value.{Value}
 use Rattle.rows_core.specs.declared.value.Value.TheVariants.{Int, Text}
@@ -40,10 +41,6 @@ Spell-push kinds lines rows line row spell loose is = record {
   loose = loose-push kinds rows row spell.loose loose;
   spelled = ap (λ l. l ++ line ∷ []) spell.spelled ∙ ap (λ l. map row_spelling rows ++ l ∷ []) is ∙ sym (map-append row_spelling rows (row ∷ []));
 }
-
-or-false : (b : Bool) → (b || false) ≡ b
-or-false true = refl
-or-false false = refl
 
 have_long-push : (rows : List (List Value)) (row : List Value) → have_long (rows ++ row ∷ []) ≡ (have_long rows || list_any is_long row)
 have_long-push rows row = list_any-append (list_any is_long) rows (row ∷ []) ∙ ap (λ b. have_long rows || b) (or-false (list_any is_long row))

@@ -3,7 +3,7 @@ use Rattle.std.proofs.Common.{◌≡◌, ℕ, suc, ◌^◌, ◌≤◌, Bool, fal
 use Rattle.std.specs.Prelude.{nat_le}
 use Rattle.std.specs.Int.{w64, w128, to_be_bytes}
 use Rattle.std.specs.List.{list_any, flat_map}
-use Rattle.std.proofs.lemmas.Bool.{ltb-false, le-ltb, leb-false, lt-leb}
+use Rattle.std.proofs.lemmas.Bool.{ltb-false, le-ltb, leb-false, lt-leb, or_parts}
 use Rattle.rows_core.specs.declared.kind.Kind as kind
 use Rattle.row_blob.specs.declared.kept.Acc.{Acc}
 use Rattle.row_blob.specs.declared.kept.Acc.TheVariants as acc
@@ -19,7 +19,7 @@ use Rattle.rows_core.specs.Value.{row_eq}
 use Rattle.row_blob.specs.Kept.{keys_of, last_left, AreEach, IsCount, IsSum, IsAcc, IsNextGroup, IsNextTagged}
 use Rattle.byte_formats.proofs.Readers.{IsBytes, bind_ok, guard_ok, ok_is, HasFront, IsReader}
 use Rattle.row_blob.proofs.Readers.{each_reader}
-use Rattle.byte_formats.proofs.Fields.{wide64, number_reader, bounded_reader, or_parts}
+use Rattle.byte_formats.proofs.Fields.{wide64, number_reader, bounded_reader}
 use Rattle.row_blob.proofs.RowLaws.{value_reader, row_reader}
 
 pub count_reader : IsReader count_at (to_be_bytes w64) IsCount

@@ -5,6 +5,7 @@ use Rattle.std.proofs.lemmas.List.{take_more}
 use Rattle.std.proofs.lemmas.List.Elements.{All-contains_itself, All-weaker, recursion_from_All}
 use Rattle.std.proofs.lemmas.List.Folds.{list_any-append}
 use Rattle.std.proofs.lemmas.Map.Made.{IsDistinct-from_AllPairs}
+use Rattle.std.proofs.Math.Bool.{or-true, or-false}
 use Rattle.indexmap.specs.IndexSet.{insert_key, insert_all}
 use Rattle.rows_core.specs.contracts.row.RowPartialEq.TheImpl as derived
 use Rattle.rows_core.specs.Equality.{row_eq-Decides, same_row-Decides}
@@ -13,14 +14,6 @@ use Rattle.plan_core.specs.Columns.{Row, Rows}
 use Rattle.plan_core.specs.Distinct.{distinct_rows}
 use Rattle.plan_laws.specs.GrowthOfRows.{has_row, new_rows}
 use Rattle.plan_laws.proofs.FirstOfEqual.{differ, either_way, is_there, one_more, same_members, same_test}
-
-or_false : (b : Bool) → (b || false) ≡ b
-or_false true = refl
-or_false false = refl
-
-or_true : (b : Bool) → (b || true) ≡ true
-or_true true = refl
-or_true false = refl
 
 -- `==` of rows
 abbrev pub derived_eq : Row → Row → Bool
@@ -54,7 +47,7 @@ set_of_rows rows = ap (λ (eq : Row → Row → Bool). insert_all eq [] rows) is
 -- ---- the rows that a set has
 
 any_last : {X : Type 0} (p : X → Bool) (xs : List X) (x : X) → list_any p (xs ++ x ∷ []) ≡ (list_any p xs || p x)
-any_last p xs x = list_any-append p xs (x ∷ []) ∙ ap (λ b. list_any p xs || b) (or_false (p x))
+any_last p xs x = list_any-append p xs (x ∷ []) ∙ ap (λ b. list_any p xs || b) (or-false (p x))
 
 -- one of the lent rows is equal to this one
 abbrev pub lends : List (Bor Row) → Row → Bool
@@ -74,8 +67,8 @@ lends_one_more : (keys : List (Bor Row)) (key : Bor Row) (row : Row) → lends (
 lends_one_more keys key row = by (list_any (same key) keys) refl
   where
     there : list_any (same key) keys ≡ true → (b : Bool) → row_eq row key.now ≡ b → lends keys row ≡ (lends keys row || b)
-    there has true e = let has_it : lends keys row ≡ true = ap (λ r. list_any (λ k. row_eq r k.now) keys) ((row_eq-Decides row key.now).0 e) ∙ has in has_it ∙ sym (or_true (lends keys row))
-    there has false e = sym (or_false (lends keys row))
+    there has true e = let has_it : lends keys row ≡ true = ap (λ r. list_any (λ k. row_eq r k.now) keys) ((row_eq-Decides row key.now).0 e) ∙ has in has_it ∙ sym (or-true (lends keys row))
+    there has false e = sym (or-false (lends keys row))
 
     by : (b : Bool) → list_any (same key) keys ≡ b → lends (cond b keys (keys ++ key ∷ [])) row ≡ (lends keys row || row_eq row key.now)
     by true e = there e (row_eq row key.now) refl
@@ -101,7 +94,7 @@ module _ (set rows : Rows) (i : ℕ) (row : Row) (within : i < length rows) (is 
     where
       by : (b : Bool) → row_eq other row ≡ b → has_row (take i rows) other ≡ (has_row (take i rows) other || row_eq other row)
       by true e = absurd (true≢false (sym has ∙ ap (has_row set) ((row_eq-Decides other row).0 e) ∙ absent))
-      by false e = sym (ap (λ b. has_row (take i rows) other || b) e ∙ or_false (has_row (take i rows) other))
+      by false e = sym (ap (λ b. has_row (take i rows) other || b) e ∙ or-false (has_row (take i rows) other))
 
 -- ---- the rows that are left
 
@@ -126,7 +119,7 @@ is_absent keys row = not (has_row keys row)
 
 absent_still : (keys : Rows) (row other : Row) → row_eq row other ≡ false → is_absent (keys ++ row ∷ []) other ≡ is_absent keys other
 absent_still keys row other apart =
-    ap not (any_last (row_eq other) keys row ∙ ap (λ b. has_row keys other || b) (either_way other row ∙ apart) ∙ or_false (has_row keys other))
+    ap not (any_last (row_eq other) keys row ∙ ap (λ b. has_row keys other || b) (either_way other row ∙ apart) ∙ or-false (has_row keys other))
 
 same_absent : (keys : Rows) (row : Row) (others : Rows) → AllByRecursion (λ other. row_eq row other ≡ false) others → filter (is_absent (keys ++ row ∷ [])) others ≡ filter (is_absent keys) others
 same_absent keys row [] apart = refl

@@ -1,6 +1,6 @@
 -- Each operation has at most one row of the table for any kinds: lemmas, which the crates above cite.
 use Rattle.std.proofs.Common.{◌≡◌, refl, sym, ap, subst, ◌∙◌, ℕ, zero, suc, ◌+◌, Bool, true, false, ◌&&◌, ◌==◌, List, [], ◌∷◌, slice_get, Option, None, Some, arith}
-use Rattle.std.proofs.lemmas.Bool.{false≢true, eqb-true}
+use Rattle.std.proofs.lemmas.Bool.{false≢true, eqb-true, and_from, and_parts}
 use Rattle.std.specs.Bool.{Decides}
 use Rattle.std.specs.Option.{IsSomeAnd}
 use Rattle.std.specs.List.{position, list_all}
@@ -41,24 +41,17 @@ same_op-Decides op.Starts op.Starts = (λ e. refl, λ e. refl)
 same_op-Decides op.Not op.Not = (λ e. refl, λ e. refl)
 same_op-Decides _ _ = (λ e. absurd (false≢true e), λ e. cc)
 
-pub and_parts : (a b : Bool) → (a && b) ≡ true → (a ≡ true) × (b ≡ true)
-and_parts true b e = (refl, e)
-and_parts false b e = absurd (false≢true e)
-
 pub list_all-get : {A : Type 0} (p : A → Bool) (xs : List A) (i : ℕ) (x : A) → list_all p xs ≡ true → slice_get xs i ≡ Some x → p x ≡ true
 list_all-get p [] i x all e = absurd cc
 list_all-get p (y ∷ ys) zero x all e = let same : y ≡ x = cc in subst (λ z. p z ≡ true) same (and_parts (p y) (list_all p ys) all).0
 list_all-get p (y ∷ ys) (suc i) x all e = list_all-get p ys i x (and_parts (p y) (list_all p ys) all).1 e
-
-both_true : (a b : Bool) → a ≡ true → b ≡ true → (a && b) ≡ true
-both_true a b e f = ap (λ x. x && b) e ∙ f
 
 pub is_row_for-Decides : (o : Op) (kinds : List CellKind) (row : OpRow) → Decides (is_row_for o kinds row) (IsRowFor o kinds row)
 is_row_for-Decides o kinds row =
     let by_op = same_op-Decides row.op o in
     let by_kinds = pointwise_decides same_cell_kind-Decides (kinds_of_args row.args) kinds in (
       λ e. let parts = and_parts (same_op row.op o) (pointwise same_cell_kind (kinds_of_args row.args) kinds) e in (by_op.0 parts.0, by_kinds.0 parts.1),
-      λ f. both_true (same_op row.op o) (pointwise same_cell_kind (kinds_of_args row.args) kinds) (by_op.1 f.0) (by_kinds.1 f.1),
+      λ f. and_from (same_op row.op o) (pointwise same_cell_kind (kinds_of_args row.args) kinds) (by_op.1 f.0) (by_kinds.1 f.1),
     )
 
 -- ---- the table's own rows

@@ -4,7 +4,7 @@ use Rattle.std.proofs.Common.{◌≡◌, ◌^◌, ◌<◌, ◌≤◌, refl, sym,
 use Rattle.std.specs.Prelude.{unwrap_or, int_lt, ◌-◌, ◌&&◌, drop}
 use Rattle.std.specs.List.{list_all}
 use Rattle.std.specs.Option.{option_map}
-use Rattle.std.proofs.lemmas.Bool.{false≢true}
+use Rattle.std.proofs.lemmas.Bool.{false≢true, not-true, and_parts}
 use Rattle.std.proofs.lemmas.Int.{ints}
 use Rattle.std.proofs.Math.Bool.{beq}
 use Rattle.std.specs.Cmp.{booleans_Decides}
@@ -23,7 +23,7 @@ use Rattle.scalar_ops.specs.Division.{floor_mod, IsRest}
 use Rattle.scalar_ops.specs.Meaning.{Exact, Whole, Truth, exact_value, fits_i64, overflow, cell_of, exact_cell, row_at, op_at, overflows_at, meaning, Divides, MayOverflow, SaysSo}
 use Rattle.scalar_ops.proofs.FitsI64.{fits_i64-true, fits_i64-fits}
 use Rattle.scalar_ops.specs.Table.{one, two, stated_rows}
-use Rattle.scalar_ops.proofs.RowLaws.{and_parts, list_all-get}
+use Rattle.scalar_ops.proofs.RowLaws.{list_all-get}
 use Rattle.scalar_ops.proofs.Rounding.{floor_mod-IsRest}
 
 -- ---- operations that don't overflow
@@ -131,10 +131,6 @@ never row calm may =
 
 abbrev is_silent : OpRow → Bool
 is_silent row = not row.overflows && not (can_overflow row.op)
-
-not-true : (b : Bool) → not b ≡ true → b ≡ false
-not-true true e = absurd (false≢true e)
-not-true false e = refl
 
 silent : (row : OpRow) → is_silent row ≡ true → SaysSo row
 silent row e =

@@ -1,16 +1,16 @@
 -- The kept results that a state has and the one after work hasn't are those that the work drops.
 use Rattle.std.proofs.Common.{◌≡◌, ◌∙◌, refl, sym, ap, subst, ℕ, ◌+◌, ◌<◌, ◌==◌, ◌&&◌, ◌||◌, nat_lt, Bool, true, false, not, cond, List, [], ◌∷◌, ◌++◌, Option, inl, inr, arith}
 use Rattle.std.specs.List.{Contains, filter, list_all}
-use Rattle.std.proofs.lemmas.Bool.{eqb-true, ltb-true}
+use Rattle.std.proofs.lemmas.Bool.{eqb-true, ltb-true, and_parts}
 use Rattle.std.proofs.lemmas.List.Folds.{list_any-append}
 use Rattle.std.proofs.lemmas.Map.Views.{any-filter_same}
+use Rattle.std.proofs.Math.Bool.{not-not, and-true, or-false}
 use Rattle.plan_laws.proofs.Members.{at_front, behind, front_or_behind, none_in_nothing}
 use Rattle.catalog_types.specs.PlainEntry.{PlainEntry, PlainNewEntry}
 use Rattle.catalog_types.specs.declared.program.Program.{Program}
 use Rattle.entry_table.specs.Ids.{ids_of, is_among, is_there, without}
 use Rattle.entry_table.specs.Keyed.{Digests}
 use Rattle.entry_table.specs.Work.{new_entries, with_uses}
-use Rattle.entry_table.proofs.Places.{both}
 use Rattle.catalog_core.specs.IsTable.{IsTable}
 use Rattle.catalog_core.specs.Results.{digests_of}
 use Rattle.folder.specs.Next.{with_work}
@@ -32,24 +32,12 @@ none_that : {X : Type 0} (p : X → Bool) (xs : List X) → ((x : X) → Contain
 none_that p [] none = refl
 none_that p (x ∷ xs) none = (λ i. cond (none x (at_front x xs) i) (x ∷ filter p xs) (filter p xs)) ∙ none_that p xs (λ y has. none y (behind x xs y has))
 
-or-false : (b : Bool) → (b || false) ≡ b
-or-false true = refl
-or-false false = refl
-
-and-true : (b : Bool) → (b && true) ≡ b
-and-true true = refl
-and-true false = refl
-
-not-not : (b : Bool) → not (not b) ≡ b
-not-not true = refl
-not-not false = refl
-
 -- ---- the ids after work
 
 below : (n : ℕ) (es : List PlainEntry) → list_all (λ id. nat_lt id n) (ids_of es) ≡ true → (e : PlainEntry) → Contains es e → e.id < n
 below n [] all e has = absurd (none_in_nothing e has)
 below n (x ∷ es) all e has =
-    let parts = both (nat_lt x.id n) (list_all (λ id. nat_lt id n) (ids_of es)) all in
+    let parts = and_parts (nat_lt x.id n) (list_all (λ id. nat_lt id n) (ids_of es)) all in
     elim (front_or_behind x es e has) [
       | inl is ↦ subst (λ (y : PlainEntry). y.id < n) is (ltb-true x.id n parts.0)
       | inr more ↦ below n es parts.1 e more

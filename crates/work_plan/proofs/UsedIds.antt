@@ -1,24 +1,19 @@
 -- Ids of entries are below the next one, and those that ascend are as few as the entries.
-use Rattle.std.proofs.Common.{◌≡◌, refl, sym, subst, ℕ, ◌<◌, ◌≤◌, ◌&&◌, ◌||◌, ◌==◌, nat_lt, Bool, true, false, List, [], ◌∷◌, length, le_refl, arith}
+use Rattle.std.proofs.Common.{◌≡◌, refl, sym, subst, ℕ, ◌<◌, ◌≤◌, ◌||◌, ◌==◌, nat_lt, Bool, true, false, List, [], ◌∷◌, length, le_refl, arith}
 use Rattle.std.specs.List.{AllByRecursion, list_all}
-use Rattle.std.proofs.lemmas.Bool.{eqb-true, ltb-true, lt-ltb}
+use Rattle.std.proofs.lemmas.Bool.{eqb-true, ltb-true, lt-ltb, and_from, and_parts}
 use Rattle.catalog_types.specs.PlainEntry.{PlainEntry}
 use Rattle.entry_table.specs.Ids.{ids_of, ascend_above, is_there, are_apart}
-use Rattle.entry_table.proofs.Places.{both}
-
-both-true : (b c : Bool) → b ≡ true → c ≡ true → b && c ≡ true
-both-true true c e f = f
-both-true false c e f = absurd (cc)
 
 -- ---- they are below the next one
 
 id-below : (n id : ℕ) (es : List PlainEntry) → list_all (λ id. nat_lt id n) (ids_of es) ≡ true → is_there es id ≡ true → id < n
 id-below n id [] low there = absurd (cc)
-id-below n id (e ∷ es) low there = by (e.id == id) refl there (id-below n id es (both (nat_lt e.id n) (list_all (λ id. nat_lt id n) (ids_of es)) low).1)
+id-below n id (e ∷ es) low there = by (e.id == id) refl there (id-below n id es (and_parts (nat_lt e.id n) (list_all (λ id. nat_lt id n) (ids_of es)) low).1)
   where
     by : (b : Bool) → (e.id == id) ≡ b → b || is_there es id ≡ true → (is_there es id ≡ true → id < n) → id < n
     by true same there rest =
-        let first : e.id < n = ltb-true e.id n (both (nat_lt e.id n) (list_all (λ id. nat_lt id n) (ids_of es)) low).0 in
+        let first : e.id < n = ltb-true e.id n (and_parts (nat_lt e.id n) (list_all (λ id. nat_lt id n) (ids_of es)) low).0 in
         let at : e.id ≡ id = eqb-true e.id id same in
         omega (arith, first, at)
     by false other there rest = rest there
@@ -26,22 +21,22 @@ id-below n id (e ∷ es) low there = by (e.id == id) refl there (id-below n id e
 pub ids-below : (n : ℕ) (es : List PlainEntry) (ids : List ℕ) → list_all (λ id. nat_lt id n) (ids_of es) ≡ true → list_all (is_there es) ids ≡ true → AllByRecursion (λ id. id < n) ids
 ids-below n es [] low there = tt
 ids-below n es (id ∷ ids) low there =
-    let parts = both (is_there es id) (list_all (is_there es) ids) there in
+    let parts = and_parts (is_there es id) (list_all (is_there es) ids) there in
     (id-below n id es low parts.0, ids-below n es ids low parts.1)
 
 -- ---- they are few
 
 id-above : (low id : ℕ) (es : List PlainEntry) → ascend_above low (ids_of es) ≡ true → is_there es id ≡ true → low < id
 id-above low id [] up there = absurd (cc)
-id-above low id (e ∷ es) up there = by (e.id == id) refl there (id-above e.id id es (both (nat_lt low e.id) (ascend_above e.id (ids_of es)) up).1)
+id-above low id (e ∷ es) up there = by (e.id == id) refl there (id-above e.id id es (and_parts (nat_lt low e.id) (ascend_above e.id (ids_of es)) up).1)
   where
     by : (b : Bool) → (e.id == id) ≡ b → b || is_there es id ≡ true → (is_there es id ≡ true → e.id < id) → low < id
     by true same there rest =
-        let first : low < e.id = ltb-true low e.id (both (nat_lt low e.id) (ascend_above e.id (ids_of es)) up).0 in
+        let first : low < e.id = ltb-true low e.id (and_parts (nat_lt low e.id) (ascend_above e.id (ids_of es)) up).0 in
         let at : e.id ≡ id = eqb-true e.id id same in
         omega (arith, first, at)
     by false other there rest =
-        let first : low < e.id = ltb-true low e.id (both (nat_lt low e.id) (ascend_above e.id (ids_of es)) up).0 in
+        let first : low < e.id = ltb-true low e.id (and_parts (nat_lt low e.id) (ascend_above e.id (ids_of es)) up).0 in
         let more : e.id < id = rest there in
         omega (arith, first, more)
 
@@ -50,14 +45,14 @@ later : (low : ℕ) (e : PlainEntry) (es : List PlainEntry) (ids : List ℕ) →
     → list_all (is_there (e ∷ es)) ids ≡ true → list_all (is_there es) ids ≡ true
 later low e es [] most up there = refl
 later low e es (id ∷ ids) most up there =
-    let ups = both (nat_lt low id) (ascend_above id ids) up in
-    let theres = both (is_there (e ∷ es) id) (list_all (is_there (e ∷ es)) ids) there in
+    let ups = and_parts (nat_lt low id) (ascend_above id ids) up in
+    let theres = and_parts (is_there (e ∷ es) id) (list_all (is_there (e ∷ es)) ids) there in
     let less : low < id = ltb-true low id ups.0 in
-    both-true (is_there es id) (list_all (is_there es) ids) (by (e.id == id) refl theres.0) (later id e es ids (omega (arith, most, less)) ups.1 theres.1)
+    and_from (is_there es id) (list_all (is_there es) ids) (by (e.id == id) refl theres.0) (later id e es ids (omega (arith, most, less)) ups.1 theres.1)
   where
     by : (b : Bool) → (e.id == id) ≡ b → b || is_there es id ≡ true → is_there es id ≡ true
     by true same there =
-        let less : low < id = ltb-true low id (both (nat_lt low id) (ascend_above id ids) up).0 in
+        let less : low < id = ltb-true low id (and_parts (nat_lt low id) (ascend_above id ids) up).0 in
         let at : e.id ≡ id = eqb-true e.id id same in
         absurd (omega (arith, most, less, at))
     by false other there = there
@@ -65,18 +60,18 @@ later low e es (id ∷ ids) most up there =
 pub ids-few : (low : ℕ) (es : List PlainEntry) (ids : List ℕ) → ascend_above low (ids_of es) ≡ true → ascend_above low ids ≡ true
     → list_all (is_there es) ids ≡ true → length ids ≤ length es
 ids-few low es [] ups up there = omega arith
-ids-few low [] (id ∷ ids) ups up there = absurd (let none : false ≡ true = (both false (list_all (is_there []) ids) there).0 in cc)
+ids-few low [] (id ∷ ids) ups up there = absurd (let none : false ≡ true = (and_parts false (list_all (is_there []) ids) there).0 in cc)
 ids-few low (e ∷ es) (id ∷ ids) ups up there =
-    by (e.id == id) refl (both (is_there (e ∷ es) id) (list_all (is_there (e ∷ es)) ids) there).0 (ids-few e.id es ids) (ids-few e.id es (id ∷ ids))
+    by (e.id == id) refl (and_parts (is_there (e ∷ es) id) (list_all (is_there (e ∷ es)) ids) there).0 (ids-few e.id es ids) (ids-few e.id es (id ∷ ids))
   where
     behind : ascend_above e.id (ids_of es) ≡ true
-    behind = (both (nat_lt low e.id) (ascend_above e.id (ids_of es)) ups).1
+    behind = (and_parts (nat_lt low e.id) (ascend_above e.id (ids_of es)) ups).1
 
     rest-up : ascend_above id ids ≡ true
-    rest-up = (both (nat_lt low id) (ascend_above id ids) up).1
+    rest-up = (and_parts (nat_lt low id) (ascend_above id ids) up).1
 
     rest-there : list_all (is_there (e ∷ es)) ids ≡ true
-    rest-there = (both (is_there (e ∷ es) id) (list_all (is_there (e ∷ es)) ids) there).1
+    rest-there = (and_parts (is_there (e ∷ es) id) (list_all (is_there (e ∷ es)) ids) there).1
 
     by : (b : Bool) → (e.id == id) ≡ b → b || is_there es id ≡ true
         → (ascend_above e.id (ids_of es) ≡ true → ascend_above e.id ids ≡ true → list_all (is_there es) ids ≡ true → length ids ≤ length es)
@@ -89,7 +84,7 @@ ids-few low (e ∷ es) (id ∷ ids) ups up there =
         omega (arith, most)
     by false other here shorter longer =
         let above : e.id < id = id-above e.id id es behind here in
-        let upper : ascend_above e.id (id ∷ ids) ≡ true = both-true (nat_lt e.id id) (ascend_above id ids) (lt-ltb e.id id above) rest-up in
+        let upper : ascend_above e.id (id ∷ ids) ≡ true = and_from (nat_lt e.id id) (ascend_above id ids) (lt-ltb e.id id above) rest-up in
         let most = longer behind upper (later e.id e es (id ∷ ids) (le_refl e.id) upper there) in
         omega (arith, most)
 

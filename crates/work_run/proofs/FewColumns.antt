@@ -1,6 +1,6 @@
 -- A plan with a typing has at most 32 columns, and so many values each of its rows.
 use Rattle.std.proofs.Common.{◌≡◌, ◌+◌, ◌≤◌, ℕ, Bool, true, false, cond, ◌||◌, List, [], ◌∷◌, ◌++◌, length, map, Option, None, Some, Ok, Err, IsOk, refl, sym, ap, subst, unwrap_or, slice_get, length-append, arith}
-use Rattle.std.proofs.lemmas.Bool.{false≢true}
+use Rattle.std.proofs.lemmas.Bool.{false≢true, or_parts}
 use Rattle.std.proofs.lemmas.Bool.Decides.{nat_tests}
 use Rattle.std.proofs.lemmas.List.{length-map}
 use Rattle.std.specs.List.{AllByRecursion, list_all}
@@ -22,10 +22,6 @@ use Rattle.work_run.specs.Ends.{HaveFewValues}
 few : (n : ℕ) → is_above_limit n ≡ false → n ≤ 32
 few n h = grind (arith, nat_tests)
 
-neither : (a b : Bool) → (a || b) ≡ false → (a ≡ false) × (b ≡ false)
-neither true b e = absurd (cc)
-neither false b e = (refl, e)
-
 all_there-length : {A : Type 0} (xs : List (Option A)) (ys : List A) → all_there xs ≡ Some ys → length ys ≡ length xs
 all_there-length [] ys e = let same : [] ≡ ys = cc in ap length (sym same)
 all_there-length (x ∷ xs) ys e =
@@ -45,7 +41,7 @@ module _ (schemas : List Kinds) where
   few_kinds (Project child columns) k e h =
       let j = and_then (project_kinds columns) (plan_kinds schemas child) k e in
       let all = all_there-length (map (column_kind_of j.0) columns) k (otherwise (is_empty columns) _ k j.2) in
-      omega (arith, few (length columns) (neither (is_above_limit (length columns)) (has_too_many schemas child) h).0, all, length-map columns (column_kind_of j.0))
+      omega (arith, few (length columns) (or_parts (is_above_limit (length columns)) (has_too_many schemas child) h).0, all, length-map columns (column_kind_of j.0))
   few_kinds (Distinct child) k e h = few_kinds child k e h
   few_kinds (Group child keys aggs) k e h =
       let j = and_then (group_kinds keys aggs) (plan_kinds schemas child) k e in
@@ -53,7 +49,7 @@ module _ (schemas : List Kinds) where
       let same : both.0 ++ both.1 ≡ k = let is = both.4 in cc in
       omega (
         arith,
-        few (length keys + length aggs) (neither (is_above_limit (length keys + length aggs)) (has_too_many schemas child) h).0,
+        few (length keys + length aggs) (or_parts (is_above_limit (length keys + length aggs)) (has_too_many schemas child) h).0,
         ap length same,
         length-append both.0 both.1,
         all_there-length (map (slice_get j.0) keys) both.0 both.2,
@@ -64,17 +60,17 @@ module _ (schemas : List Kinds) where
   few_kinds (Join left right on) k e h =
       let both = both_some (join_kinds on) (plan_kinds schemas left) (plan_kinds schemas right) k e in
       let columns = is_above_limit (column_count schemas left + column_count schemas right) in
-      let three = neither (columns || is_above_limit (length on) || has_too_many schemas left) (has_too_many schemas right) h in
-      let two = neither (columns || is_above_limit (length on)) (has_too_many schemas left) three.0 in
-      let one = neither columns (is_above_limit (length on)) two.0 in
+      let three = or_parts (columns || is_above_limit (length on) || has_too_many schemas left) (has_too_many schemas right) h in
+      let two = or_parts (columns || is_above_limit (length on)) (has_too_many schemas left) three.0 in
+      let one = or_parts columns (is_above_limit (length on)) two.0 in
       omega (arith, few (column_count schemas left + column_count schemas right) one.0, counted left both.0 both.2, counted right both.1 both.3, ap length (join_kinds_are on both.0 both.1 k both.4), length-append both.0 both.1)
   few_kinds (Concat left right) k e h =
       let both = both_some concat_kinds (plan_kinds schemas left) (plan_kinds schemas right) k e in
-      omega (arith, few_kinds left both.0 both.2 (neither (has_too_many schemas left) (has_too_many schemas right) h).0, ap length (concat_kinds_are both.0 both.1 k both.4).0)
+      omega (arith, few_kinds left both.0 both.2 (or_parts (has_too_many schemas left) (has_too_many schemas right) h).0, ap length (concat_kinds_are both.0 both.1 k both.4).0)
   few_kinds (Order child keys) k e h =
       let j = and_then (order_kinds keys) (plan_kinds schemas child) k e in
       let same : j.0 ≡ k = (tested (list_all _ keys) j.0 k (otherwise (is_empty keys) _ k j.2)).1 in
-      omega (arith, few_kinds child j.0 j.1 (neither (is_above_limit (length keys)) (has_too_many schemas child) h).1, ap length same)
+      omega (arith, few_kinds child j.0 j.1 (or_parts (is_above_limit (length keys)) (has_too_many schemas child) h).1, ap length same)
 
 -- it isn't refused for its columns
 not_many : (absent : Option ℕ) (found : Option Kinds) (many : Bool) → IsOk (present_or absent (typed_or found (λ kinds. cond many (Err TooMany) (Ok kinds)))) → many ≡ false

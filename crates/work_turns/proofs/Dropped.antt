@@ -1,31 +1,19 @@
 -- The ids of entries that are among others.
 use Rattle.std.proofs.Common.{◌≡◌, refl, sym, ap, ◌∙◌, ℕ, ◌<◌, ◌≤◌, ◌==◌, ◌&&◌, ◌||◌, nat_lt, Bool, true, false, not, cond, List, [], ◌∷◌, ◌++◌, ◌+◌, length, map, take, get_or, arith}
 use Rattle.std.specs.List.{filter, list_all}
-use Rattle.std.proofs.lemmas.Bool.{eqb-true, ltb-true, lt-ltb}
+use Rattle.std.proofs.lemmas.Bool.{eqb-true, ltb-true, lt-ltb, not-true, and_from, and_parts}
 use Rattle.std.proofs.lemmas.List.{map-append}
 use Rattle.std.proofs.lemmas.List.Elements.{filter_more}
 use Rattle.std.proofs.lemmas.Map.Views.{any-filter_same}
+use Rattle.std.proofs.Math.Bool.{and-true, or-true, and-false}
 use Rattle.catalog_types.specs.PlainEntry.{PlainEntry}
 use Rattle.entry_table.specs.Ids.{AreIdsOf, ids_of, ascend_above, are_apart, is_among, is_there, without}
-use Rattle.entry_table.proofs.Places.{both}
 use Rattle.work_turns.specs.Ends.{entries_among, those_among}
-
-no-and : (b : Bool) → b && false ≡ false
-no-and true = refl
-no-and false = refl
-
-or-true : (b : Bool) → b || true ≡ true
-or-true true = refl
-or-true false = refl
-
-both-true : (b c : Bool) → b ≡ true → c ≡ true → b && c ≡ true
-both-true true c e f = f
-both-true false c e f = absurd (cc)
 
 -- ---- which they are
 
 pub among-those : (ids : List ℕ) (es : List PlainEntry) (id : ℕ) → is_among (those_among ids es) id ≡ (is_among ids id && is_there es id)
-among-those ids [] id = sym (no-and (is_among ids id))
+among-those ids [] id = sym (and-false (is_among ids id))
 among-those ids (e ∷ es) id = by (is_among ids e.id) (e.id == id) refl refl (among-those ids es id)
   where
     by : (b c : Bool) → is_among ids e.id ≡ b → (e.id == id) ≡ c → is_among (those_among ids es) id ≡ (is_among ids id && is_there es id)
@@ -56,8 +44,8 @@ among-more of ids es i e low is =
 there-more : (e : PlainEntry) (es : List PlainEntry) (ids : List ℕ) → list_all (is_there es) ids ≡ true → list_all (is_there (e ∷ es)) ids ≡ true
 there-more e es [] there = refl
 there-more e es (id ∷ ids) there =
-    let parts = both (is_there es id) (list_all (is_there es) ids) there in
-    both-true (is_there (e ∷ es) id) (list_all (is_there (e ∷ es)) ids) (ap (λ b. (e.id == id) || b) parts.0 ∙ or-true (e.id == id)) (there-more e es ids parts.1)
+    let parts = and_parts (is_there es id) (list_all (is_there es) ids) there in
+    and_from (is_there (e ∷ es) id) (list_all (is_there (e ∷ es)) ids) (ap (λ b. (e.id == id) || b) parts.0 ∙ or-true (e.id == id)) (there-more e es ids parts.1)
 
 own-id : (e : PlainEntry) → (e.id == e.id) ≡ true
 own-id e = grind (arith)
@@ -70,7 +58,7 @@ there-those ids [] = refl
 there-those ids (e ∷ es) = by (is_among ids e.id) (there-more e es (those_among ids es) (there-those ids es))
   where
     by : (b : Bool) → list_all (is_there (e ∷ es)) (those_among ids es) ≡ true → list_all (is_there (e ∷ es)) (ids_of (cond b (e ∷ filter (λ e. is_among ids e.id) es) (filter (λ e. is_among ids e.id) es))) ≡ true
-    by true rest = both-true (is_there (e ∷ es) e.id) (list_all (is_there (e ∷ es)) (those_among ids es)) (there-first e es) rest
+    by true rest = and_from (is_there (e ∷ es) e.id) (list_all (is_there (e ∷ es)) (those_among ids es)) (there-first e es) rest
     by false rest = rest
 
 -- ---- they ascend
@@ -78,21 +66,21 @@ there-those ids (e ∷ es) = by (is_among ids e.id) (there-more e es (those_amon
 lower : (low bound : ℕ) (ids : List ℕ) → low ≤ bound → ascend_above bound ids ≡ true → ascend_above low ids ≡ true
 lower low bound [] most up = refl
 lower low bound (id ∷ ids) most up =
-    let parts = both (nat_lt bound id) (ascend_above id ids) up in
+    let parts = and_parts (nat_lt bound id) (ascend_above id ids) up in
     let less = ltb-true bound id parts.0 in
-    both-true (nat_lt low id) (ascend_above id ids) (lt-ltb low id (omega (arith, most, less))) parts.1
+    and_from (nat_lt low id) (ascend_above id ids) (lt-ltb low id (omega (arith, most, less))) parts.1
 
 ascend-those : (ids : List ℕ) (low : ℕ) (es : List PlainEntry) → ascend_above low (ids_of es) ≡ true → ascend_above low (those_among ids es) ≡ true
 ascend-those ids low [] up = refl
 ascend-those ids low (e ∷ es) up =
-    let parts = both (nat_lt low e.id) (ascend_above e.id (ids_of es)) up in
+    let parts = and_parts (nat_lt low e.id) (ascend_above e.id (ids_of es)) up in
     let less = ltb-true low e.id parts.0 in
     let rest = ascend-those ids e.id es parts.1 in
     by (is_among ids e.id) parts.0 rest (lower low e.id (those_among ids es) (omega (arith, less)) rest)
   where
     by : (b : Bool) → nat_lt low e.id ≡ true → ascend_above e.id (those_among ids es) ≡ true → ascend_above low (those_among ids es) ≡ true
         → ascend_above low (ids_of (cond b (e ∷ filter (λ e. is_among ids e.id) es) (filter (λ e. is_among ids e.id) es))) ≡ true
-    by true first rest all = both-true (nat_lt low e.id) (ascend_above e.id (those_among ids es)) first rest
+    by true first rest all = and_from (nat_lt low e.id) (ascend_above e.id (those_among ids es)) first rest
     by false first rest all = all
 
 pub are-ids : (ids : List ℕ) (es : List PlainEntry) → ascend_above 0 (ids_of es) ≡ true → AreIdsOf es (those_among ids es)
@@ -104,18 +92,14 @@ agree : (d ids : List ℕ) (es : List PlainEntry) → ((id : ℕ) → is_among d
     → filter (λ (e : PlainEntry). f (is_among d e.id)) xs ≡ filter (λ (e : PlainEntry). f (is_among ids e.id)) xs
 agree d ids es among f [] there = refl
 agree d ids es among f (x ∷ xs) there =
-    let parts = both (is_there es x.id) (list_all (is_there es) (ids_of xs)) there in
+    let parts = and_parts (is_there es x.id) (list_all (is_there es) (ids_of xs)) there in
     let same : is_among d x.id ≡ is_among ids x.id = among x.id ∙ ap (λ b. is_among ids x.id && b) parts.0 ∙ and-true (is_among ids x.id) in
     let rest = agree d ids es among f xs parts.1 in
     λ i. cond (f (same i)) (x ∷ rest i) (rest i)
-  where
-    and-true : (b : Bool) → b && true ≡ b
-    and-true true = refl
-    and-true false = refl
 
 all-there : (es : List PlainEntry) → list_all (is_there es) (ids_of es) ≡ true
 all-there [] = refl
-all-there (e ∷ es) = both-true (is_there (e ∷ es) e.id) (list_all (is_there (e ∷ es)) (ids_of es)) (there-first e es) (there-more e es (ids_of es) (all-there es))
+all-there (e ∷ es) = and_from (is_there (e ∷ es) e.id) (list_all (is_there (e ∷ es)) (ids_of es)) (there-first e es) (there-more e es (ids_of es) (all-there es))
 
 pub without-those : (ids : List ℕ) (es : List PlainEntry) → without (those_among ids es) es ≡ without ids es
 without-those ids es = agree (those_among ids es) ids es (among-those ids es) not es (all-there es)
@@ -126,13 +110,13 @@ among-twice ids es = agree (those_among ids es) ids es (among-those ids es) (λ 
 -- ---- ids of the entries that are left are apart from them
 
 left-there : (ids : List ℕ) (es : List PlainEntry) (id : ℕ) → is_there (without ids es) id ≡ true → (not (is_among ids id) ≡ true) × (is_there es id ≡ true)
-left-there ids es id there = both (not (is_among ids id)) (is_there es id) (sym (any-filter_same (λ (e : PlainEntry). e.id == id) (λ (e : PlainEntry). not (is_among ids e.id)) (not (is_among ids id)) (λ e same. ap (λ (i : ℕ). not (is_among ids i)) (eqb-true e.id id same)) es) ∙ there)
+left-there ids es id there = and_parts (not (is_among ids id)) (is_there es id) (sym (any-filter_same (λ (e : PlainEntry). e.id == id) (λ (e : PlainEntry). not (is_among ids e.id)) (not (is_among ids id)) (λ e same. ap (λ (i : ℕ). not (is_among ids i)) (eqb-true e.id id same)) es) ∙ there)
 
 all-left-there : (ids : List ℕ) (es : List PlainEntry) (used : List ℕ) → list_all (is_there (without ids es)) used ≡ true → list_all (is_there es) used ≡ true
 all-left-there ids es [] there = refl
 all-left-there ids es (id ∷ used) there =
-    let parts = both (is_there (without ids es) id) (list_all (is_there (without ids es)) used) there in
-    both-true (is_there es id) (list_all (is_there es) used) (left-there ids es id parts.0).1 (all-left-there ids es used parts.1)
+    let parts = and_parts (is_there (without ids es) id) (list_all (is_there (without ids es)) used) there in
+    and_from (is_there es id) (list_all (is_there es) used) (left-there ids es id parts.0).1 (all-left-there ids es used parts.1)
 
 pub are-among-all : (ids : List ℕ) (es : List PlainEntry) (used : List ℕ) → AreIdsOf (without ids es) used → AreIdsOf es used
 are-among-all ids es used is = record { ascend = is.ascend; there = all-left-there ids es used is.there }
@@ -140,14 +124,10 @@ are-among-all ids es used is = record { ascend = is.ascend; there = all-left-the
 apart : (ids : List ℕ) (es : List PlainEntry) (used : List ℕ) → list_all (is_there (without ids es)) used ≡ true → are_apart used (those_among ids es) ≡ true
 apart ids es [] there = refl
 apart ids es (id ∷ used) there =
-    let parts = both (is_there (without ids es) id) (list_all (is_there (without ids es)) used) there in
-    let isnt : is_among ids id ≡ false = none (is_among ids id) (left-there ids es id parts.0).0 in
-    both-true (not (is_among (those_among ids es) id)) (are_apart used (those_among ids es))
+    let parts = and_parts (is_there (without ids es) id) (list_all (is_there (without ids es)) used) there in
+    let isnt : is_among ids id ≡ false = not-true (is_among ids id) (left-there ids es id parts.0).0 in
+    and_from (not (is_among (those_among ids es) id)) (are_apart used (those_among ids es))
     (ap not (among-those ids es id ∙ ap (λ b. b && is_there es id) isnt)) (apart ids es used parts.1)
-  where
-    none : (b : Bool) → not b ≡ true → b ≡ false
-    none true e = absurd (cc)
-    none false e = refl
 
 pub are-apart : (ids : List ℕ) (es : List PlainEntry) (used : List ℕ) → AreIdsOf (without ids es) used → are_apart used (those_among ids es) ≡ true
 are-apart ids es used is = apart ids es used is.there
