@@ -7,7 +7,7 @@ ghost use Rattle.byte_formats.specs.Format.{byte_that, is_name_len, isnt_reserve
 
 use crate::items::items_at;
 use crate::unread::Unread;
-use rows_core::{Name, NameRefusal};
+use rows_core::{Name, NameRefusal, is_name_byte};
 use std::alloc::Global;
 
 /// A name behind its length.
@@ -81,10 +81,4 @@ fn name_byte_at(bytes: &[u8]) -> Result<(u8, &[u8]), Unread>
         return Err(Unread::Left(bytes.len()));
     }
     Ok((*byte, rest))
-}
-
-fn is_name_byte(byte: u8) -> bool
-    ensures { result ≡ is_name_byte byte }
-{
-    byte.is_ascii_lowercase() || byte.is_ascii_digit() || byte == b'_'
 }

@@ -15,11 +15,21 @@ ghost use Rattle.catalog_types.specs.declared.program.Program.{Program};
 ghost use Rattle.catalog_types.specs.declared.snapshot.Snapshot.{Snapshot};
 ghost use Rattle.catalog_types.specs.declared.snapshot.StreamState.{StreamState};
 ghost use Rattle.cache_index.specs.Asked.{asked};
+ghost use Rattle.catalog_core.specs.Catalogs.{table_of};
 ghost use Rattle.catalog_core.specs.IsTable.{IsTable};
 ghost use Rattle.catalog_core.specs.Named.{lengths_of, HasFile, file_at, machine_at};
 ghost use Rattle.catalog_core.specs.Programs.{extents_at, AreCuts};
 ghost use Rattle.catalog_core.specs.Table.{Table, empty_table, most_ticks, Fits, FitsProgram, after};
 ghost use Rattle.catalog_core.specs.Table.{with_programs, with_stored, with_tick, keyed, told_with};
+
+use crate::catalog::Catalog;
+
+/// What a catalogue holds is a table, which its readers say. A function that does nothing, whose contract is the law.
+pub fn know_table(catalog: &Catalog)
+    ensures { IsTable (table_of catalog.now) }
+{
+    let _ = catalog.streams();
+}
 
 /// What is true of every table is true of the first one, and a change that fits keeps it.
 pub fn tables_stay_tables()

@@ -22,8 +22,9 @@ pub mod stream;
 pub use catalog::Catalog;
 pub use laws::{
     checkpoints_tell_tables, cuts_of_tables, files_of_tables, idle_work, kept_results_of_tables,
-    tables_stay_tables,
+    know_table, tables_stay_tables,
 };
+pub use programs::is_below;
 pub use refusal::CatalogRefusal;
 pub use stored::StoredPlan;
 pub use stream::CatalogStream;

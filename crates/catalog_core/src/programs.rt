@@ -85,7 +85,7 @@ fn count_below(programs: &[Program], name: &Name) -> usize
 }
 
 /// Whether the first name is below the other in the byte order.
-pub(crate) fn is_below(name: &Name, other: &Name) -> bool
+pub fn is_below(name: &Name, other: &Name) -> bool
     ensures { result ≡ is_below name.now other.now }
 {
     name.bytes().cmp(&other.bytes()).is_lt()

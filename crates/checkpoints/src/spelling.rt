@@ -3,10 +3,9 @@ ghost use Rattle.std.specs.Prelude.{◌≡◌, ◌<◌, IfOk, length};
 ghost use Rattle.catalog_types.specs.declared.change.Change.TheVariants.{Checkpoint};
 ghost use Rattle.record_codec.specs.Spelling.{change_spelling};
 ghost use Rattle.catalog_core.specs.Catalogs.{table_of};
-ghost use Rattle.catalog_core.specs.IsTable.{IsTable};
 ghost use Rattle.checkpoints.specs.Spelled.{IsSpelledTable};
 
-use catalog_core::Catalog;
+use catalog_core::{Catalog, know_table};
 use catalog_types::Change;
 use record_codec::spell_change;
 use rows_core::Memory;
@@ -30,11 +29,4 @@ fn checkpoint_of(alloc: Global, catalog: &Catalog) -> Result<Change, Memory>
 {
     let whole = catalog.snapshot(alloc)?;
     Ok(Change::Checkpoint { whole })
-}
-
-// What a catalogue holds is a table, which its readers say.
-fn know_table(catalog: &Catalog)
-    ensures { IsTable (table_of catalog.now) }
-{
-    let _ = catalog.streams();
 }

@@ -30,7 +30,7 @@ pub(crate) fn are_apart(ids: &[u32], others: &[u32]) -> bool
 }
 
 /// Whether it is one of the ids.
-pub(crate) fn is_among(ids: &[u32], id: u32) -> bool
+pub fn is_among(ids: &[u32], id: u32) -> bool
     ensures { result ≡ is_among ids.now id }
 {
     ids.contains(&id)

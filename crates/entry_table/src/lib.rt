@@ -9,5 +9,6 @@ mod results;
 mod table;
 mod uses;
 
+pub use ids::is_among;
 pub use keys::{Chains, Keys};
 pub use table::EntryTable;

@@ -3,7 +3,6 @@ ghost use Rattle.std.specs.Prelude.{◌≡◌, ◌++◌, ◌∷◌, [], ℕ, Lis
 ghost use Rattle.std.specs.List.{list_any};
 ghost use Rattle.plan_core.specs.PlainPlan.{PlainPlan};
 ghost use Rattle.catalog_core.specs.Catalogs.{table_of};
-ghost use Rattle.catalog_core.specs.IsTable.{IsTable};
 ghost use Rattle.catalog_core.specs.Programs.{IsProgram, kinds_of_streams};
 ghost use Rattle.entry_table.specs.Ids.{is_among};
 ghost use Rattle.rewrite_core.specs.PlainRewriting.{rewriting_of};
@@ -14,7 +13,7 @@ ghost use Rattle.job_turns.specs.Jobs.{Suits, IsJob, IsFresh, IsOpened, IsChosen
 ghost use Rattle.job_turns.specs.Steps.{Notes};
 
 use crate::job::JobWork;
-use catalog_core::Catalog;
+use catalog_core::{Catalog, know_table};
 use catalog_types::Program;
 use executor::prepare;
 use plan_choice::{
@@ -209,11 +208,4 @@ pub(crate) fn joined(alloc: Global, front: &[u32], back: &[u32]) -> Result<Vec<u
     ids.extend_from_slice(front)?;
     ids.extend_from_slice(back)?;
     Ok(ids)
-}
-
-// What a catalogue holds is a table, which its readers say.
-pub(crate) fn know_table(catalog: &Catalog)
-    ensures { IsTable (table_of catalog.now) }
-{
-    let _ = catalog.streams();
 }

@@ -20,9 +20,9 @@ ghost use Rattle.job_turns.specs.Ends.{ComesAtLast, IsReadFor};
 ghost use Rattle.job_turns.specs.Jobs.{IsJob};
 ghost use Rattle.job_turns.specs.Turns.{Reads, Halts};
 
-use crate::choosing::{joined, know_table};
+use crate::choosing::joined;
 use crate::job::JobWork;
-use catalog_core::{Catalog, kept_results_of_tables};
+use catalog_core::{Catalog, kept_results_of_tables, know_table};
 use executor::{Outcome, RunRefusal, finish};
 use outside_traits::Store;
 use plan_choice::{results_are_left_out, serving_rewritings, taken_rewritings};

@@ -12,9 +12,8 @@ ghost use Rattle.job_turns.specs.Jobs.{IsJob};
 ghost use Rattle.job_turns.specs.Steps.{IsAsBefore, IsStep, IsNotLost, NotesNext, given_of};
 ghost use Rattle.job_turns.specs.Turns.{Reads, Halts, IsTurnEnd};
 
-use crate::choosing::know_table;
 use crate::job::{JobStep, JobWork};
-use catalog_core::{Catalog, kept_results_of_tables};
+use catalog_core::{Catalog, kept_results_of_tables, know_table};
 use executor::read_next;
 use folder::{files_of_states, left_stores};
 use kept_files::ReadRefusal;

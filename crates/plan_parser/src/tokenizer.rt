@@ -2,7 +2,6 @@
 ghost use Rattle.std.specs.Prelude.{◌≡◌, ◌<◌, length, List, ℕ, take, drop, position, IfOk, IfSome};
 ghost use Rattle.std.specs.Prelude.{IfNone, Some, IsTrue, false};
 ghost use Rattle.std.specs.Option.{option_map};
-ghost use Rattle.rows_core.specs.Name.{is_name_byte};
 ghost use Rattle.rows_core.specs.Txt.{IsTxt};
 ghost use Rattle.plan_grammar.specs.declared.token.Token.{Token};
 ghost use Rattle.plan_grammar.specs.Token.{with_digit, number_behind, number_with, name_or_number};
@@ -12,7 +11,7 @@ ghost use Rattle.plan_grammar.specs.Token.{with_byte, text_end, text_behind, tex
 ghost use Rattle.plan_grammar.specs.Token.{IsToken, trimmed, AreTokens};
 
 use plan_grammar::{Mark, Token, Word};
-use rows_core::{Memory, Name, NameRefusal, Seq, Txt, TxtRefusal};
+use rows_core::{Memory, Name, NameRefusal, Seq, Txt, TxtRefusal, is_name_byte};
 use std::alloc::Global;
 
 /// The greatest number without a sign.
@@ -103,12 +102,6 @@ fn word_end(text: &[u8]) -> Option<usize>
     ensures bound { IfSome result (λ at. at < length text.now) }
 {
     text.iter().position(|byte| !is_name_byte(*byte))
-}
-
-fn is_name_byte(byte: u8) -> bool
-    ensures { result ≡ is_name_byte byte }
-{
-    byte.is_ascii_lowercase() || byte.is_ascii_digit() || byte == b'_'
 }
 
 /// The word at the front.

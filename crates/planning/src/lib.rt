@@ -6,7 +6,6 @@ pub mod accepting;
 pub mod append_plan;
 mod appending;
 pub mod closing;
-mod columns;
 mod extents;
 pub mod fetching;
 pub mod making;

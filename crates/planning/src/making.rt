@@ -9,12 +9,11 @@ ghost use Rattle.record_codec.specs.Spelling.{change_spelling, HasChangeSpelling
 ghost use Rattle.planning.specs.Making.{making, adding};
 ghost use Rattle.planning.specs.Recorded.{IsRecordOf};
 
-use crate::columns::has_repeat;
 use crate::recording::{Recording, recording_of};
 use catalog_core::Catalog;
 use catalog_types::Change;
 use record_codec::small_changes;
-use rows_core::{Column, Name, Seq};
+use rows_core::{Column, Name, Seq, has_repeat};
 use script_text::{LimitKind, Refusal};
 use std::alloc::Global;
 

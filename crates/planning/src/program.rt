@@ -3,14 +3,14 @@ ghost use Rattle.std.specs.Prelude.{◌≡◌, ◌<◌, ◌≤◌, Ok, Err, IfOk
 ghost use Rattle.plan_grammar.specs.Spelled.{SpellsText};
 ghost use Rattle.plan_printer.specs.Canonical.{canonical_text};
 ghost use Rattle.catalog_core.specs.Catalogs.{table_of};
-ghost use Rattle.catalog_core.specs.Programs.{most_text_bytes, with_program, is_below, below, above};
+ghost use Rattle.catalog_core.specs.Programs.{most_text_bytes, with_program, below, above};
 ghost use Rattle.catalog_core.specs.Streams.{states_of};
 ghost use Rattle.catalog_core.specs.Table.{most_ticks, most_programs};
 ghost use Rattle.script_text.specs.declared.answer.Refusal.TheVariants.{Limit};
 ghost use Rattle.planning.specs.Running.{Run, storing, whole_cut};
 
 use crate::extents::extents_at;
-use catalog_core::{Catalog, CatalogStream};
+use catalog_core::{Catalog, CatalogStream, is_below};
 use catalog_types::Program;
 use plan_grammar::NamedPlan;
 use plan_printer::print_plan;
@@ -125,10 +125,4 @@ fn count_above(programs: &[Program], name: &Name) -> usize
         .iter()
         .filter(|program| is_below(name, &program.name))
         .count()
-}
-
-fn is_below(name: &Name, other: &Name) -> bool
-    ensures { result ≡ is_below name.now other.now }
-{
-    name.bytes().cmp(&other.bytes()).is_lt()
 }

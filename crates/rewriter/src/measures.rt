@@ -8,6 +8,7 @@ ghost use Rattle.rewrite_core.specs.PlainRewriting.{rewriting_of, delta_of, grow
 ghost use Rattle.rewriter.specs.InStreams.{IsInStreams, IsWayInStreams, IsDeltaInStreams};
 ghost use Rattle.rewriter.specs.Reads.{reads_of, way_reads, delta_reads};
 
+use crate::sums::file_len;
 use estimator::{Sizes, new_bytes, whole_bytes};
 use plan_core::Plan;
 use rewrite_core::{Delta, DeltaWay, Hit, Parts, Rewriting, Way};
@@ -29,13 +30,6 @@ pub fn reads<Z: Sizes>(r: &Rewriting, sizes: &Z) -> u64
     ensures { result ≡ capped (reads_of (Z.lengths sizes.now) (rewriting_of r.now)) }
 {
     reads_of(r, sizes)
-}
-
-// The length of a kept result's file.
-fn file_len(hit: &Hit) -> u64
-    ensures { result ≡ capped hit.now.len }
-{
-    hit.len
 }
 
 #[cycle(cost)]

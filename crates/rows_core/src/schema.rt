@@ -145,7 +145,8 @@ pub fn copy_columns(alloc: Global, columns: &[Column]) -> Result<Vec<Column>, Me
     Ok(copies)
 }
 
-fn has_repeat(columns: &[Column]) -> bool
+/// Whether two columns have one name.
+pub fn has_repeat(columns: &[Column]) -> bool
     ensures { result ≡ has_repeat columns.now }
 {
     let mut rest = columns;

@@ -6,8 +6,6 @@ ghost use Rattle.outside_traits.specs.View.{View, Counts};
 ghost use Rattle.outside_traits.specs.Calls.{Rises, MayRaiseReads};
 ghost use Rattle.outside_traits.specs.Runs.{Narrows};
 ghost use Rattle.plan_grammar.specs.Counts.{IsWithinLimits};
-ghost use Rattle.catalog_core.specs.Catalogs.{table_of};
-ghost use Rattle.catalog_core.specs.IsTable.{IsTable};
 ghost use Rattle.folder.specs.Folders.{table_in, FolderStands};
 ghost use Rattle.folder.specs.Sound.{Care};
 ghost use Rattle.script_text.specs.Answer.{IsNarrow};
@@ -22,7 +20,7 @@ ghost use Rattle.session.specs.Taken.{TakesAsTold, TakesFor};
 
 use crate::session::Session;
 use crate::work::{close_work, opened, read_file};
-use catalog_core::Catalog;
+use catalog_core::know_table;
 use folder::left_stores;
 use job_table::OpenJob;
 use job_turns::{JobWork, job_work_stays};
@@ -203,11 +201,4 @@ pub(crate) fn held_ids(alloc: Global, jobs: &[OpenJob<JobWork>]) -> Result<Vec<u
         held.extend_from_slice(&opened.job.work.used)?;
     }
     Ok(held)
-}
-
-/// What a catalogue holds is a table, which its readers say.
-pub(crate) fn know_table(catalog: &Catalog)
-    ensures { IsTable (table_of catalog.now) }
-{
-    let _ = catalog.streams();
 }

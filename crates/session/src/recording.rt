@@ -23,9 +23,8 @@ ghost use Rattle.folder_session.specs.Working.{IsPlannedOver};
 ghost use Rattle.session.specs.Jobs.{OpenJobs, AreHeldOver, AreLeftBehind};
 ghost use Rattle.session.specs.Work.{IsEnded, IsRecorded, IsSameWhereRefused};
 
-use crate::jobs::know_table;
 use crate::session::Session;
-use catalog_core::Catalog;
+use catalog_core::{Catalog, know_table};
 use job_table::OpenJob;
 use job_turns::{JobWork, job_work_stays};
 use outside_traits::{Failed, Store};

@@ -22,7 +22,8 @@ ghost use Rattle.session.specs.Causes.{HasByteCause};
 ghost use Rattle.session.specs.Machine.{Machine, without_jobs};
 ghost use Rattle.session.specs.Taken.{TakesAsTold, TakesFor};
 
-use crate::jobs::{held_ids, know_table};
+use crate::jobs::held_ids;
+use catalog_core::know_table;
 use folder::left_stores;
 use folder_session::{FolderSession, LoadRefusal};
 use job_table::JobTable;

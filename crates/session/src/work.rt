@@ -22,8 +22,7 @@ ghost use Rattle.job_turns.specs.Jobs.{IsJob};
 ghost use Rattle.job_turns.specs.Turns.{Reads};
 ghost use Rattle.session.specs.Work.{IsOpened, StepsOn, ReadsOn, IsWithin, IsNotClosed};
 
-use crate::jobs::know_table;
-use catalog_core::Catalog;
+use catalog_core::{Catalog, know_table};
 use executor::RunRefusal;
 use folder_session::{NormalChoice, chosen, refusal_of};
 use job_turns::{JobWork, open_job};

@@ -10,7 +10,6 @@ ghost use Rattle.entry_table.specs.Ids.{AreIdsOf, are_apart, without};
 ghost use Rattle.catalog_types.specs.declared.change.Change.TheVariants as change;
 ghost use Rattle.catalog_types.specs.declared.program.Program.{Program};
 ghost use Rattle.catalog_core.specs.Catalogs.{table_of};
-ghost use Rattle.catalog_core.specs.IsTable.{IsTable};
 ghost use Rattle.catalog_core.specs.Table.{most_ticks, FitsProgram};
 ghost use Rattle.work_plan.specs.Fitting.{IsFit};
 ghost use Rattle.work_plan.specs.Planning.{IsWorkPlan};
@@ -18,7 +17,7 @@ ghost use Rattle.work_plan.specs.Planning.{IsWorkPlan};
 use crate::ids::ids_from;
 use crate::parting::taken_apart;
 use admission::{NewResult, admit, admitted_results_may_be_kept};
-use catalog_core::Catalog;
+use catalog_core::{Catalog, know_table};
 use catalog_types::{Change, NewEntry, Program};
 use executor::KeptPlace;
 use plan_binder::bind_laws;
@@ -106,13 +105,6 @@ fn change_of(
         dropped: Seq::new(dropped),
         kept: Seq::new(entries),
     }
-}
-
-// What a catalogue holds is a table, which its readers say.
-fn know_table(catalog: &Catalog)
-    ensures { IsTable (table_of catalog.now) }
-{
-    let _ = catalog.streams();
 }
 
 // The name of a program is a name, which its type says.

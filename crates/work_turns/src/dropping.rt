@@ -1,9 +1,9 @@
 //! The kept results that work drops.
 ghost use Rattle.std.specs.Prelude.{◌≡◌, IfOk};
-ghost use Rattle.entry_table.specs.Ids.{is_among};
 ghost use Rattle.work_turns.specs.Ends.{files_among, those_among};
 
 use catalog_types::Entry;
+use entry_table::is_among;
 use rows_core::Memory;
 use std::alloc::Global;
 
@@ -34,11 +34,4 @@ pub(crate) fn dropped_results(
         }
     }
     Ok(Dropped { ids, files })
-}
-
-// Whether it is one of the ids.
-fn is_among(ids: &[u32], id: u32) -> bool
-    ensures { result ≡ is_among ids.now id }
-{
-    ids.contains(&id)
 }

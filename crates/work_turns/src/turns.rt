@@ -10,7 +10,6 @@ ghost use Rattle.rewrite_core.specs.Files.{files_of};
 ghost use Rattle.rewrite_core.specs.PlainRewriting.{rewriting_of};
 ghost use Rattle.growth_laws.specs.Pieces.{pieces_of};
 ghost use Rattle.catalog_core.specs.Catalogs.{table_of};
-ghost use Rattle.catalog_core.specs.IsTable.{IsTable};
 ghost use Rattle.catalog_core.specs.Named.{file_at, bytes_named};
 ghost use Rattle.catalog_core.specs.Programs.{kinds_of_streams, AreCuts};
 ghost use Rattle.executor.specs.Running.{TookAtMost};
@@ -24,7 +23,7 @@ ghost use Rattle.work_run.specs.Ends.{IsRefusedWork, CountsRead, sources_of};
 ghost use Rattle.work_turns.specs.Ends.{IsToldLast};
 ghost use Rattle.work_turns.specs.Turns.{IsChosenOf, EndsTurn, IsTold, IsLastTurn, TookInTurns, HasCauseInTurns};
 
-use catalog_core::{Catalog, kept_results_of_tables};
+use catalog_core::{Catalog, kept_results_of_tables, know_table};
 use executor::{LostResult, Outcome, RunRefusal, run};
 use folder::{files_of_states, left_stores};
 use outside_traits::Store;
@@ -211,11 +210,4 @@ fn choose_again(
 {
     lost.push(id)?;
     choose_without(alloc, catalog, normal, cuts, lost)
-}
-
-// What a catalogue holds is a table, which its readers say.
-pub(crate) fn know_table(catalog: &Catalog)
-    ensures { IsTable (table_of catalog.now) }
-{
-    let _ = catalog.streams();
 }

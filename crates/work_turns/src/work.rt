@@ -13,8 +13,8 @@ ghost use Rattle.work_turns.specs.Ends.{ComesInTurns, IsToldLast, files_among, t
 ghost use Rattle.work_turns.specs.Turns.{IsChosenOf, IsLastTurn};
 
 use crate::dropping::{Dropped, dropped_results};
-use crate::turns::{LastTurn, Turn, know_table};
-use catalog_core::{Catalog, kept_results_of_tables};
+use crate::turns::{LastTurn, Turn};
+use catalog_core::{Catalog, kept_results_of_tables, know_table};
 use catalog_types::Program;
 use executor::Outcome;
 use plan_choice::{Choice, results_are_left_out, serving_rewritings, taken_rewritings};
