@@ -13,11 +13,11 @@ with_front front r = r >>= λ x. Ok (front ++ x.0, x.1)
 abbrev pub HasRead : {A : Type 0} → (List ℕ → Read A) → ℕ → ℕ → List A → List ℕ → List ℕ → Type 0
 HasRead read count index front rest bytes = with_front front (items_at read (count - index) rest) ≡ items_at read count bytes
 
-with_none : {A : Type 0} (r : Read (List A)) → with_front [] r ≡ r
+pub with_none : {A : Type 0} (r : Read (List A)) → with_front [] r ≡ r
 with_none (Ok x) = refl
 with_none (Err left) = refl
 
-with_one : {A : Type 0} (front : List A) (a : A) (r : Read (List A)) → with_front front (r >>= λ x. Ok (a ∷ x.0, x.1)) ≡ with_front (front ++ a ∷ []) r
+pub with_one : {A : Type 0} (front : List A) (a : A) (r : Read (List A)) → with_front front (r >>= λ x. Ok (a ∷ x.0, x.1)) ≡ with_front (front ++ a ∷ []) r
 with_one front a (Ok x) = ap (λ (l : List _). Ok (l, x.1)) (sym (append_assoc front (a ∷ []) x.0))
 with_one front a (Err left) = refl
 

@@ -4,7 +4,7 @@ use Rattle.std.specs.Prelude.{bytes_eq}
 use Rattle.std.specs.Char.{is_ascii_lowercase}
 use Rattle.std.specs.List.{list_all, list_any}
 use Rattle.std.proofs.lemmas.Bool.{and_parts, and_from, or_from, cases_Bool, cases_lt}
-use Rattle.std.proofs.lemmas.List.{append-nil, length-append}
+use Rattle.std.proofs.lemmas.List.{append-nil, length-append, nil_from_length}
 use Rattle.std.proofs.lemmas.List.Folds.{list_all-append}
 use Rattle.std.proofs.lemmas.Slice.Eq.{bytes_eq-Decides}
 use Rattle.rows_core.specs.Name.{IsName, begins_with_letter, is_name_byte, is_reserved, reserved_words}
@@ -91,10 +91,6 @@ filled n k front more few are len =
     (list_all-append is_name_byte front (zs (suc k)) ∙ and_from (list_all is_name_byte front) (list_all is_name_byte (zs (suc k))) all.0 (all-zs (suc k)))
     (subst (λ (l : List ℕ). not (is_reserved l) ≡ true) (sym (ap (λ (l : List ℕ). front ++ l) (zs-last k) ∙ sym (append_assoc front (zs k) (122 ∷ [])))) (own_with_z (front ++ zs k)))
 
-no_more : (xs : List ℕ) → length xs ≡ 0 → xs ≡ []
-no_more [] e = refl
-no_more (x ∷ xs) e = absurd (omega arith)
-
 record Behind (n : ℕ) (front : List ℕ) : Type 0 where
   whole : List ℕ
   more : List ℕ
@@ -113,7 +109,7 @@ behind_len n front some few wide begins =
           let len : length front + suc k ≡ n = omega arith in
           record { whole = front ++ zs (suc k); more = zs (suc k); is = filled n k front g.more few are len; len = length-append front (zs (suc k)) ∙ ap (λ (m : ℕ). length front + m) (length-zs (suc k)) ∙ len; parts = refl }
       | inr le ↦
-          let none : g.more ≡ [] = no_more g.more (omega arith) in
+          let none : g.more ≡ [] = nil_from_length g.more (omega arith) in
           let same : g.value ≡ front = g.spelled ∙ ap (λ (l : List ℕ). front ++ l) none ∙ append-nil front in
           let fits = g.fits in
           record {

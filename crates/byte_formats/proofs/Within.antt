@@ -2,17 +2,13 @@
 use Rattle.std.proofs.Common.{◌≡◌, ℕ, suc, ◌+◌, ◌^◌, ◌<◌, ◌≤◌, ◌⊎◌, inl, inr, Bool, true, false, leb, cond, List, [], ◌∷◌, ◌++◌, length, take, drop, Result, Ok, Err, refl, sym, ap, subst, ◌∙◌, append_assoc, arith}
 use Rattle.std.specs.Int.{w32, to_be_bytes}
 use Rattle.std.proofs.lemmas.Bool.{cases_Bool, leb-true, le-leb, leb-false}
-use Rattle.std.proofs.lemmas.List.{append-nil, length-append, length-take, length-drop, take-append-drop, take_at, drop_at}
+use Rattle.std.proofs.lemmas.List.{append-nil, length-append, length-take, length-drop, take-append-drop, take_at, drop_at, nil_from_length}
 use Rattle.byte_formats.proofs.Readers.{IsBytes-take, IsBytes, ok_is}
 use Rattle.byte_formats.specs.Reading.{Read}
 use Rattle.byte_formats.specs.Format.{Format, u32, ◌▷◌, all_of, settled, exactly, measured}
 use Rattle.byte_formats.proofs.Exact.{Takes, Stops, Exact, both_exact}
 use Rattle.byte_formats.proofs.Laws.{made_exact, u32_exact}
 use Rattle.byte_formats.proofs.Whole.{is_found, is_read, stops_whole}
-
-empty : (xs : List ℕ) → length xs ≡ 0 → xs ≡ []
-empty [] e = refl
-empty (x ∷ xs) e = absurd (omega arith)
 
 module _ {A : Type 0} (format : Format A) (exact : Exact format) (n : ℕ) where
   abbrev whole : List ℕ → Result A ℕ
@@ -77,7 +73,7 @@ module _ {A : Type 0} (format : Format A) (exact : Exact format) (n : ℕ) where
   too_short bytes a left wide e short size =
       let f = is_found format exact (take n bytes) a (IsBytes-take n bytes wide) e in
       let none : length (drop n bytes) ≡ 0 = let m = length-drop n bytes in omega arith in
-      let all : bytes ≡ format.spell a = sym (take-append-drop n bytes) ∙ ap (λ (l : List ℕ). take n bytes ++ l) (empty (drop n bytes) none) ∙ append-nil (take n bytes) ∙ f.1 in
+      let all : bytes ≡ format.spell a = sym (take-append-drop n bytes) ∙ ap (λ (l : List ℕ). take n bytes ++ l) (nil_from_length (drop n bytes) none) ∙ append-nil (take n bytes) ∙ f.1 in
       record {
         front = bytes;
         back = [];

@@ -7,7 +7,7 @@ use Rattle.std.specs.List.Sorted.{IsBinarySearchResult, IsSearchInRange}
 use Rattle.std.specs.Ordering.{nat_cmp, ordering_index}
 use Rattle.std.specs.declared.cmp.Ordering.TheVariants.{Less, Equal, Greater}
 use Rattle.std.specs.Result.{result_ok}
-use Rattle.std.proofs.lemmas.Bool.{ltb-true, cases_lt, and_parts}
+use Rattle.std.proofs.lemmas.Bool.{ltb-true, cases_lt, and_parts, eq-eqb}
 use Rattle.std.proofs.lemmas.Bool.Decides.{nat_tests}
 use Rattle.std.proofs.lemmas.List.Sums.{position_or_len_is}
 use Rattle.std.proofs.lemmas.List.Folds.{find_at}
@@ -40,9 +40,6 @@ cmp-less x y e = grind (arith, nat_tests)
 
 cmp-greater : (x y : ℕ) → nat_cmp x y ≡ Greater → (x == y) ≡ false
 cmp-greater x y e = grind (arith, nat_tests)
-
-eq-true : (x y : ℕ) → x ≡ y → (x == y) ≡ true
-eq-true x y e = grind (arith, nat_tests)
 
 less-other : (x y z : ℕ) → x < y → y ≡ z → (x == z) ≡ false
 less-other x y z less e = grind (arith, nat_tests)
@@ -79,7 +76,7 @@ place-is (e ∷ es) id (Ok i) up low found =
     let is : (get_or (e ∷ es) i e).id ≡ id = cmp-equal _ _ (found e) in
     sym (there i _ (position_or_len_is (λ (x : PlainEntry). x.id == id) (e ∷ es) i e (omega (arith, low))
     (λ k before. less-other _ _ _ (rises 0 (e ∷ es) k i e up before low) is)
-    (λ _. eq-true _ _ is)) (length (e ∷ es)) low)
+    (λ _. eq-eqb _ _ is)) (length (e ∷ es)) low)
 place-is [] id (Err i) up low found = refl
 place-is (e ∷ es) id (Err i) up low found =
     let parts = found (λ a b d order here. index-rises _ _ id (not-below (e ∷ es) up a b d order here)) in

@@ -19,7 +19,7 @@ use Rattle.cache_index.specs.Index.{ids_of_program}
 use Rattle.cache_index.specs.Lists.{same_digest}
 use Rattle.cache_index.proofs.Digests.{same_digest-Decides}
 
-all-map : {A : Type 0} (P Q : A → Type 0) → ((x : A) → P x → Q x) → (xs : List A) → AllByRecursion P xs → AllByRecursion Q xs
+pub all-map : {A : Type 0} (P Q : A → Type 0) → ((x : A) → P x → Q x) → (xs : List A) → AllByRecursion P xs → AllByRecursion Q xs
 all-map P Q f [] all = tt
 all-map P Q f (x ∷ xs) all = (f x all.0, all-map P Q f xs all.1)
 

@@ -50,7 +50,7 @@ above-each low (e ∷ es) x up has =
       | inr more ↦ (let rest = above-each e.id es x parts.1 more in omega (arith, less, rest))
     ]
 
-find-own : (low : ℕ) (es : List PlainEntry) (x : PlainEntry) → ascend_above low (ids_of es) ≡ true → Contains es x → find (λ e. e.id == x.id) es ≡ Some x
+pub find-own : (low : ℕ) (es : List PlainEntry) (x : PlainEntry) → ascend_above low (ids_of es) ≡ true → Contains es x → find (λ e. e.id == x.id) es ≡ Some x
 find-own low [] x up has = absurd (Contains-none x has)
 find-own low (y ∷ ys) x up has =
     let parts = and_parts (nat_lt low y.id) (ascend_above y.id (ids_of ys)) up in

@@ -9,7 +9,7 @@ use Rattle.entry_table.proofs.Lists.{without-within}
 use Rattle.catalog_core.specs.IsTable.{IsTable}
 use Rattle.catalog_core.specs.Table.{Table, table_with, most_ticks, Fits, FitsProgram, after, with_programs, with_stored, with_tick}
 
-all-stay : (es : List PlainEntry) → without [] es ≡ es
+pub all-stay : (es : List PlainEntry) → without [] es ≡ es
 all-stay [] = refl
 all-stay (e ∷ es) = ap (λ (xs : List PlainEntry). e ∷ xs) (all-stay es)
 

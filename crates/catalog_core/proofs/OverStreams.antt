@@ -10,13 +10,14 @@ use Rattle.plan_core.specs.PlanTyping.{Kinds, plan_typing}
 use Rattle.catalog_types.specs.PlainEntry.{PlainEntry, PlainNewEntry}
 use Rattle.catalog_types.specs.declared.extent.Extent.{Extent}
 use Rattle.catalog_types.specs.declared.snapshot.StreamState.{StreamState}
+use Rattle.cache_index.proofs.Searching.{all-map}
 use Rattle.entry_table.specs.AreKept.{AreKept, IsPast}
 use Rattle.entry_table.specs.Ids.{without}
 use Rattle.entry_table.specs.Keyed.{Digests, keys_of}
 use Rattle.entry_table.specs.Work.{with_use, with_uses, new_entries}
 use Rattle.entry_table.specs.Work as work
 use Rattle.entry_table.proofs.Files.{files-fit}
-use Rattle.entry_table.proofs.Growth.{all-map, all-append, all-without, all-used, work-keeps, worked-is, collection-keeps}
+use Rattle.entry_table.proofs.Growth.{all-append, all-without, all-used, work-keeps, worked-is, collection-keeps}
 use Rattle.entry_table.proofs.KeyedEntries.{keyed-work, keyed-collection}
 use Rattle.entry_table.proofs.Past.{past-work, past-collection}
 use Rattle.catalog_core.specs.Programs.{kinds_of_streams, extents_at, AreCuts}

@@ -12,11 +12,11 @@ use Rattle.std.proofs.lemmas.Map.Keys.{IsDistinct-cons, IsDistinct-IsPermutation
 use Rattle.catalog_types.specs.PlainEntry.{PlainEntry, PlainNewEntry}
 use Rattle.catalog_types.specs.declared.extent.Extent.{Extent}
 use Rattle.catalog_types.specs.declared.snapshot.StreamState.{StreamState}
+use Rattle.cache_index.proofs.Searching.{all-map}
 use Rattle.entry_table.specs.Ids.{is_among, without}
 use Rattle.entry_table.specs.Keyed.{Digests}
 use Rattle.entry_table.specs.Results.{HaveNextFiles}
 use Rattle.entry_table.specs.Work.{used, with_use, with_uses, new_entries}
-use Rattle.entry_table.proofs.Growth.{all-map}
 use Rattle.rewrite_core.proofs.Looking.{Contains-cons_cases, Contains-none}
 use Rattle.catalog_core.specs.IsTable.{IsTable}
 use Rattle.catalog_core.specs.OwnFiles.{extent_files, result_files, files_in, HaveOwnFiles, IsGiven}

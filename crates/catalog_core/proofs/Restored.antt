@@ -5,7 +5,7 @@ use Rattle.catalog_types.specs.PlainEntry.{PlainEntry}
 use Rattle.catalog_types.specs.declared.program.Program.{Program}
 use Rattle.catalog_types.specs.declared.snapshot.Snapshot.{Snapshot}
 use Rattle.catalog_types.specs.declared.snapshot.StreamState.{StreamState}
-use Rattle.entry_table.proofs.Growth.{all-map}
+use Rattle.cache_index.proofs.Searching.{all-map}
 use Rattle.entry_table.proofs.KeyedEntries.{keyed-made}
 use Rattle.entry_table.specs.AreKept.{AreKept, IsPast}
 use Rattle.entry_table.specs.Keyed.{Digests, with_keys}

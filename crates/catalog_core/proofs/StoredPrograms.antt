@@ -12,7 +12,7 @@ use Rattle.plan_binder.specs.Binding.{binding}
 use Rattle.catalog_types.specs.declared.extent.Extent.{Extent}
 use Rattle.catalog_types.specs.declared.program.Program.{Program}
 use Rattle.catalog_types.specs.declared.snapshot.StreamState.{StreamState}
-use Rattle.entry_table.proofs.Growth.{all-map}
+use Rattle.cache_index.proofs.Searching.{all-map}
 use Rattle.catalog_core.specs.Programs.{names_of, columns_of, kinds_of_streams, extents_at, below, above, is_below, with_program, AreCuts, IsProgram, IsStored, program_named}
 use Rattle.catalog_core.specs.Table.{updated, with_extent}
 use Rattle.catalog_core.proofs.Bindings.{bound-still}
@@ -55,7 +55,7 @@ names-added : (streams : List StreamState) (s : StreamState) → names_of (strea
 names-added [] s = refl
 names-added (x ∷ xs) s = ap (λ (names : List (List ℕ)). x.name ∷ names) (names-added xs s)
 
-as-many : (streams : List StreamState) → length (names_of streams) ≡ length (columns_of streams)
+pub as-many : (streams : List StreamState) → length (names_of streams) ≡ length (columns_of streams)
 as-many [] = refl
 as-many (x ∷ xs) = ap suc (as-many xs)
 
@@ -88,7 +88,7 @@ stored-append streams place extent programs all =
 
 -- ---- a program more
 
-all-filtered : (P : Program → Type 0) (test : Program → Bool) (programs : List Program) → AllByRecursion P programs → AllByRecursion P (filter test programs)
+pub all-filtered : (P : Program → Type 0) (test : Program → Bool) (programs : List Program) → AllByRecursion P programs → AllByRecursion P (filter test programs)
 all-filtered P test [] all = tt
 all-filtered P test (x ∷ xs) all = by (test x) all.0 (all-filtered P test xs all.1)
   where
@@ -121,7 +121,7 @@ stored-named streams (x ∷ xs) name program found all = by (bytes_eq x.name nam
 
 -- ---- what can't be otherwise
 
-le-stable : (m n : ℕ) → ¬ (¬ (m ≤ n)) → m ≤ n
+pub le-stable : (m n : ℕ) → ¬ (¬ (m ≤ n)) → m ≤ n
 le-stable m n twice = by (nat_le m n) refl
   where
     by : (b : Bool) → nat_le m n ≡ b → m ≤ n

@@ -56,7 +56,7 @@ there_still (x ∷ xs) ys zero low = refl
 there_still (x ∷ xs) ys (suc i) low = there_still xs ys i (omega (arith, low))
 
 -- none of these is past the end
-present : (n : ℕ) (streams : List ℕ) → find (λ stream. nat_le n stream) streams ≡ None → AllByRecursion (λ stream. stream < n) streams
+pub present : (n : ℕ) (streams : List ℕ) → find (λ stream. nat_le n stream) streams ≡ None → AllByRecursion (λ stream. stream < n) streams
 present n [] none = tt
 present n (s ∷ streams) none = by (nat_le n s) refl none (present n streams)
   where

@@ -1,9 +1,8 @@
 -- The programs of a table are read as plans, and the streams of its kept results are there.
 use Prim.Native.Nat.{suc}
-use Rattle.std.proofs.Common.{◌≡◌, refl, sym, ap, ◌∙◌, ℕ, ◌<◌, Bool, true, false, cond, nat_le, List, [], ◌∷◌, length, map, Option, None, Some, Result, Ok, Err, IsOk, arith}
-use Rattle.std.proofs.lemmas.Bool.Decides.{nat_tests}
+use Rattle.std.proofs.Common.{◌≡◌, refl, sym, ap, ◌∙◌, ℕ, cond, List, [], ◌∷◌, length, map, Option, None, Some, Result, Ok, Err, IsOk, arith}
 use Rattle.std.proofs.lemmas.List.{length-map}
-use Rattle.std.specs.List.{AllByRecursion, find}
+use Rattle.std.specs.List.{AllByRecursion}
 use Rattle.std.specs.Str.{IsUtf8}
 use Rattle.plan_core.specs.PlainPlan.{PlainPlan, leaves}
 use Rattle.plan_core.specs.PlanTyping.{Kinds, absent_stream, typed_or, present_or, plan_kinds, has_too_many, plan_typing}
@@ -24,6 +23,7 @@ use Rattle.catalog_core.specs.IsTable.{IsTable}
 use Rattle.catalog_core.specs.Programs.{kinds_of_streams, IsProgram, IsStored}
 use Rattle.catalog_core.specs.Results.{IsEntryOver}
 use Rattle.catalog_core.specs.Table.{Table}
+use Rattle.catalog_core.proofs.Typings.{present}
 use Rattle.catalog_line.specs.Readable.{IsReadable, HasStreams}
 use Rattle.catalog_line.proofs.Utf8Texts.{tokens-utf8}
 
@@ -56,15 +56,6 @@ readable-utf8 program is = by (tokens_in program.text) refl is.1
 
 -- ---- kept results
 
-none-absent : (n : ℕ) (places : List ℕ) → find (λ place. nat_le n place) places ≡ None → AllByRecursion (λ place. place < n) places
-none-absent n [] e = tt
-none-absent n (place ∷ places) e = by (nat_le n place) refl e (none-absent n places)
-  where
-    by : (b : Bool) → nat_le n place ≡ b → cond b (Some place) (find (λ place. nat_le n place) places) ≡ None
-        → (find (λ place. nat_le n place) places ≡ None → AllByRecursion (λ place. place < n) places) → AllByRecursion (λ place. place < n) (place ∷ places)
-    by true is e others = absurd (cc e)
-    by false is e others = (grind (arith, nat_tests, is), others e)
-
 typed-none_absent : (schemas : List Kinds) (plan : PlainPlan) → IsOk (plan_typing schemas plan) → absent_stream schemas plan ≡ None
 typed-none_absent schemas plan typed = by (absent_stream schemas plan) typed
   where
@@ -75,7 +66,7 @@ typed-none_absent schemas plan typed = by (absent_stream schemas plan) typed
 entry-has_streams : (streams : List StreamState) (e : PlainEntry) → IsEntryOver streams e → HasStreams streams e
 entry-has_streams streams e over =
     let many : length (kinds_of_streams streams) ≡ length streams = length-map streams _ in
-    rw (← many) (none-absent (length (kinds_of_streams streams)) (leaves e.plan) (typed-none_absent (kinds_of_streams streams) e.plan over.typed))
+    rw (← many) (present (length (kinds_of_streams streams)) (leaves e.plan) (typed-none_absent (kinds_of_streams streams) e.plan over.typed))
 
 pub entries-have_streams : (t : Table) → IsTable t → AllByRecursion (HasStreams t.streams) t.entries
 entries-have_streams t is = all-weaker (IsEntryOver t.streams) (HasStreams t.streams) (entry-has_streams t.streams) t.entries is.over

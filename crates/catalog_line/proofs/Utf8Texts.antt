@@ -19,10 +19,7 @@ use Rattle.plan_grammar.specs.declared.token.Token.TheVariants.{Text, Mark}
 use Rattle.plan_grammar.specs.declared.token.Mark as the_mark
 use Rattle.plan_grammar.specs.declared.token.Mark.TheVariants as mark
 use Rattle.plan_grammar.specs.Token.{ends_word, word_len, word_token, word_at, begins_with, begins_with_digit, with_equal, single_mark, mark_at, is_escaped, with_byte, text_behind, text_at, mark_token, token_at, IsToken, trimmed, AreTokens}
-
-map_some : {A B : Type 0} (f : A → B) (o : Option A) (y : B) → option_map f o ≡ Some y → (x : A) × (o ≡ Some x) × (f x ≡ y)
-map_some f None y q = absurd (cc q)
-map_some f (Some x) y q = (x, refl, cc q)
+use Rattle.plan_grammar.proofs.TextTokenLaws.{map_some}
 
 -- ---- a text is put together, and cut, at an ASCII byte
 

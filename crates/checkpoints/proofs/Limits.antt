@@ -1,12 +1,11 @@
 -- The checkpoint of a table is within the limits of a change, and so is short.
-use Rattle.std.proofs.Common.{◌≡◌, refl, sym, subst, ℕ, ◌<◌, ◌≤◌, Bool, true, false, nat_le, List, [], ◌∷◌, length, arith}
-use Rattle.std.proofs.lemmas.Bool.Decides.{nat_tests}
+use Rattle.std.proofs.Common.{◌≡◌, refl, sym, subst, ℕ, ◌<◌, List, [], ◌∷◌, length, arith}
 use Rattle.std.proofs.lemmas.List.Sums.{sum_by-cons}
 use Rattle.catalog_types.specs.declared.change.Change.TheVariants.{Checkpoint}
 use Rattle.catalog_types.specs.declared.program.Program.{Program}
 use Rattle.catalog_types.specs.declared.snapshot.StreamState.{StreamState}
-use Rattle.entry_table.specs.AreKept.{IsEntry}
 use Rattle.entry_table.proofs.Growth.{all-map}
+use Rattle.entry_table.specs.AreKept.{IsEntry}
 use Rattle.record_codec.specs.Limits.{HasShortText, KeepsShortPlan, IsWithinLimits}
 use Rattle.record_codec.specs.Limits as codec
 use Rattle.record_codec.specs.Spelling.{change_spelling}
@@ -14,6 +13,7 @@ use Rattle.record_codec.proofs.Lengths.{some_bytes, within_limits_len}
 use Rattle.catalog_core.specs.IsTable.{IsTable}
 use Rattle.catalog_core.specs.Programs.{most_text_bytes, IsStored}
 use Rattle.catalog_core.specs.Table.{Table, extent_count}
+use Rattle.catalog_core.proofs.StoredPrograms.{le-stable}
 use Rattle.checkpoints.specs.Spelled.{IsSpelledTable}
 use Rattle.checkpoints.proofs.Whole.{whole-spelled}
 
@@ -23,14 +23,6 @@ extents-same (s ∷ streams) =
     let rest = extents-same streams in
     let sum = sum_by-cons (λ (s : StreamState). length s.extents) s streams in
     omega (arith, rest, sum)
-
--- what can't be otherwise
-le-stable : (m n : ℕ) → ¬ (¬ (m ≤ n)) → m ≤ n
-le-stable m n twice = by (nat_le m n) refl
-  where
-    by : (b : Bool) → nat_le m n ≡ b → m ≤ n
-    by true e = grind (arith, nat_tests)
-    by false e = absurd (twice (λ most. grind (arith, nat_tests)))
 
 short-text : (streams : List StreamState) (program : Program) → IsStored streams program → HasShortText program
 short-text streams program stored = le-stable (length program.text) most_text_bytes (λ long. stored (λ is. long is.short))

@@ -1,5 +1,5 @@
 -- Each change that has a spelling keeps a table spelled.
-use Rattle.std.proofs.Common.{ℕ, zero, suc, ◌+◌, ◌<◌, Bool, true, false, cond, filter, List, [], ◌∷◌, ◌++◌, length, Option, None, Some, length-append, arith}
+use Rattle.std.proofs.Common.{ℕ, zero, suc, ◌+◌, ◌<◌, List, [], ◌∷◌, ◌++◌, length, Option, None, Some, length-append, arith}
 use Rattle.std.specs.List.{AllByRecursion}
 use Rattle.catalog_types.specs.PlainEntry.{PlainEntry, PlainNewEntry}
 use Rattle.catalog_types.specs.declared.change.Change.{Change}
@@ -16,6 +16,7 @@ use Rattle.catalog_core.specs.IsTable.{IsTable}
 use Rattle.catalog_core.specs.Programs.{extents_at, below, above, is_below}
 use Rattle.catalog_core.specs.Results.{digests_of}
 use Rattle.catalog_core.specs.Table.{Table, most_extents, new_stream, with_extent, updated, with_stored, Fits, after}
+use Rattle.catalog_core.proofs.StoredPrograms.{all-filtered}
 use Rattle.checkpoints.specs.Spelled.{IsSpelledEntry, IsSpelledTable}
 use Rattle.checkpoints.proofs.Restored.{restored-spelled}
 
@@ -38,14 +39,6 @@ extent-at (s ∷ streams) zero extent has few spelled = (extent-more s extent ha
 extent-at (s ∷ streams) (suc n) extent has few spelled = (spelled.0, extent-at streams n extent has few spelled.1)
 
 -- ---- programs
-
-all-filtered : (P : Program → Type 0) (test : Program → Bool) (programs : List Program) → AllByRecursion P programs → AllByRecursion P (filter test programs)
-all-filtered P test [] all = tt
-all-filtered P test (p ∷ programs) all = by (test p) (all-filtered P test programs all.1)
-  where
-    by : (b : Bool) → AllByRecursion P (filter test programs) → AllByRecursion P (cond b (p ∷ filter test programs) (filter test programs))
-    by true rest = (all.0, rest)
-    by false rest = rest
 
 stored-spelled : (program : Option Program) (programs : List Program) → HasProgramIfSpelling program → AllByRecursion HasProgramSpelling programs → AllByRecursion HasProgramSpelling (with_stored program programs)
 stored-spelled None programs has spelled = spelled

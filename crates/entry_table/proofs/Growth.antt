@@ -3,6 +3,7 @@ use Rattle.std.proofs.Common.{◌≡◌, ℕ, ◌+◌, ◌<◌, ◌≤◌, Bool,
 use Rattle.std.specs.List.{AllByRecursion, list_all}
 use Rattle.std.proofs.lemmas.Bool.{ltb-true, lt-ltb, and_from, and_parts}
 use Rattle.catalog_types.specs.PlainEntry.{PlainEntry, PlainNewEntry}
+pub use Rattle.cache_index.proofs.Searching.{all-map}
 use Rattle.entry_table.specs.declared.keys.Keys.{Keys}
 use Rattle.entry_table.specs.Ids.{ids_of, ascend_above, is_among, without}
 use Rattle.entry_table.specs.Keying.{keyed_entries}
@@ -15,7 +16,7 @@ use Rattle.entry_table.proofs.Lists.{without-within, uses-length, keyed-length, 
 -- ---- ids that ascend
 
 -- above a lower bound too
-ascend-lower : (low bound : ℕ) (ids : List ℕ) → low ≤ bound → ascend_above bound ids ≡ true → ascend_above low ids ≡ true
+pub ascend-lower : (low bound : ℕ) (ids : List ℕ) → low ≤ bound → ascend_above bound ids ≡ true → ascend_above low ids ≡ true
 ascend-lower low bound [] most up = refl
 ascend-lower low bound (id ∷ ids) most up =
     let parts = and_parts (nat_lt bound id) (ascend_above id ids) up in
@@ -101,10 +102,6 @@ ids-append [] ys = refl
 ids-append (x ∷ xs) ys = ap (λ (ids : List ℕ). x.id ∷ ids) (ids-append xs ys)
 
 -- ---- entries one by one
-
-pub all-map : {A : Type 0} (P Q : A → Type 0) → ((x : A) → P x → Q x) → (xs : List A) → AllByRecursion P xs → AllByRecursion Q xs
-all-map P Q f [] all = tt
-all-map P Q f (x ∷ xs) all = (f x all.0, all-map P Q f xs all.1)
 
 pub all-both : {A : Type 0} (P Q : A → Type 0) (xs : List A) → AllByRecursion P xs → AllByRecursion Q xs → AllByRecursion (λ x. P x × Q x) xs
 all-both P Q [] all others = tt

@@ -6,7 +6,7 @@ use Rattle.entry_table.specs.AreKept.{IsPast}
 use Rattle.entry_table.specs.Ids.{without}
 use Rattle.entry_table.specs.Keyed.{Digests}
 use Rattle.entry_table.specs.Work.{Kept, with_use, with_uses, new_entries, after_work, after_collection}
-use Rattle.entry_table.proofs.Growth.{all-map, all-append, all-without, all-used}
+use Rattle.entry_table.proofs.Growth.{all-append, all-without, all-used, all-map}
 
 past-later : (before tick : ℕ) → before ≤ tick → (e : PlainEntry) → IsPast before e → IsPast tick e
 past-later before tick later e past = (past.0, omega (arith, past.1, later))

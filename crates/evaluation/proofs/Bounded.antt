@@ -15,21 +15,21 @@ use Rattle.plan_laws.specs.KeptForm.{kept_form, tagged_from}
 use Rattle.plan_laws.specs.ValidRows.{IsValidRow, AreValidRows, AreValidLists}
 use Rattle.plan_laws.proofs.GroupBounds.{groups_of_valid_rows, averages_of_valid_rows}
 use Rattle.plan_laws.proofs.ValidPlans.{all-append, all-take, all-drop}
+use Rattle.plan_laws.proofs.TypedParts.{there}
 use Rattle.estimator.specs.Cuts.{Cuts}
 use Rattle.growth_laws.specs.Lists.{Extents, extents_of, lists_at}
 use Rattle.growth_laws.proofs.AddedRows.{gave_first}
 use Rattle.result_ops.specs.Bounds.{limit, IsBounded}
-use Rattle.result_ops.proofs.FitInputs.{there}
+use Rattle.rewriting_pieces.proofs.Typings.{some_first}
 use Rattle.evaluation.specs.Laws.{GivesValid}
 use Rattle.evaluation.specs.Passing.{IsTyped}
-use Rattle.evaluation.proofs.PlanParts.{first_there}
 use Rattle.evaluation.proofs.Steps.{from_ok}
 
 module _ (law : GivesValid) where
   pub bounded : (plan : PlainPlan) (lists : List Rows) (form : Kept) → IsTyped plan → HasValidLiterals plan → AreValidLists lists → machine_time plan lists ≤ limit → kept_form plan lists ≡ Ok form → IsBounded plan form
   bounded (Group child keys aggs) lists form typed literals valid time is =
       let r = gave_first (plan_meaning child lists) (λ rows. Ok (kept.Groups (groups_of keys aggs rows))) form is in
-      let k = there (plan_kinds typed.0 child) (first_there (group_kinds keys aggs) (plan_kinds typed.0 child) typed.1) in
+      let k = there (plan_kinds typed.0 child) (some_first (group_kinds keys aggs) (plan_kinds typed.0 child) typed.1) in
       let below : machine_time child lists < 2 ^ 63 = omega (arith, time) in
       let rows_valid : AreValidRows r.0 = subst (λ m. IfOk m AreValidRows) r.1 (law typed.0 child k.0 lists k.1 literals valid below) in
       let count : rows_given child lists ≡ length r.0 = ap row_count r.1 in

@@ -6,10 +6,11 @@ use Rattle.plan_core.specs.PlanTyping.{Kinds}
 use Rattle.estimator.specs.Cuts.{Cuts, added_cuts}
 use Rattle.rewrite_core.specs.declared.rewriting.Hit.{Hit}
 use Rattle.rewrite_core.specs.declared.rewriting.Parts as parts
-use Rattle.rewrite_core.specs.PlainRewriting.{Node, PlainWay, Scan, Change, PlainDeltaWay, grown_way}
+use Rattle.rewrite_core.specs.PlainRewriting.{Node, PlainWay, Change, PlainDeltaWay, grown_way}
 use Rattle.growth_laws.specs.KeptResults.{KeptResults}
 use Rattle.growth_laws.specs.Lists.{Extents}
 use Rattle.growth_laws.specs.Pieces.{Piece, Entry, Gathered, is_gathered, is_chain_delta, pieces_of, pieces_in, pieces_of_delta, pieces_in_delta}
+use Rattle.growth_laws.proofs.PieceFiles.{scan_is_gathered}
 use Rattle.evaluation.specs.Loading.{Loads, HoldAll, AreFit}
 use Rattle.evaluation.specs.Parts.{pieces_behind}
 
@@ -36,16 +37,6 @@ module _ (extents : Extents) (results : KeptResults) (loads : Loads) where
   hold_four a b c d rest all = subst (λ ps. HoldAll extents results ps loads) (four a b c d rest) all
 
 -- ---- of a tree
-
-pub scan_gathered : (p : PlainPlan) (c : Cuts) → is_gathered (Node p c Scan) ≡ true
-scan_gathered (plan.Scan stream) c = refl
-scan_gathered (plan.Filter child test) c = refl
-scan_gathered (plan.Project child columns) c = refl
-scan_gathered (plan.Distinct child) c = refl
-scan_gathered (plan.Group child keys aggs) c = refl
-scan_gathered (plan.Join left right on) c = refl
-scan_gathered (plan.Concat left right) c = refl
-scan_gathered (plan.Order child keys) c = refl
 
 module _ (p : PlainPlan) (c : Cuts) (way : PlainWay) where
   pub gathered_pieces : is_gathered (Node p c way) ≡ true → pieces_of (Node p c way) ≡ Gathered p c ∷ []

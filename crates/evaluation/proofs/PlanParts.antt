@@ -1,13 +1,12 @@
 -- What holds of the inputs of a plan.
-use Rattle.std.proofs.Common.{◌≡◌, refl, ◌⊎◌, inl, inr, List, IsSome, Option, None, Some}
-use Rattle.std.specs.Option.{option_and_then}
-use Rattle.plan_core.specs.ExpressionKind.{of_both}
+use Rattle.std.proofs.Common.{◌≡◌, ◌⊎◌, inl, inr, List, IsSome}
 use Rattle.plan_core.specs.PlainPlan.{PlainPlan, Scan, Filter, Project, Distinct, Group, Join, Concat, Order}
 use Rattle.plan_core.specs.PlanTyping.{Kinds, plan_kinds, filter_kinds, project_kinds, group_kinds, join_kinds, concat_kinds, order_kinds}
 use Rattle.estimator.specs.Cuts.{Cuts}
 use Rattle.rewrite_core.specs.IsRewriting.{OfOne, OfTwo, OfSides, OfTail, OfDeltaTail, OfDistinctChild, lefts, rights}
 use Rattle.growth_laws.proofs.TreeOwners.{from_one, from_two}
 use Rattle.result_ops.specs.Fitting.{OfPassed, OfGrown}
+use Rattle.rewriting_pieces.proofs.Typings.{some_first, some_both}
 
 -- ---- of each input
 
@@ -125,33 +124,23 @@ module _ (P : PlainPlan → Cuts → Cuts → Type 0) (old new : Cuts) where
 
 -- ---- the inputs of a plan that has a typing have one
 
-pub first_there : {A B : Type 0} (f : A → Option B) (o : Option A) → IsSome (option_and_then f o) → IsSome o
-first_there f (Some x) is = refl
-first_there f None is = is
-
-pub both_there : {A B C : Type 0} (f : A → B → Option C) (o : Option A) (p : Option B) → IsSome (of_both f o p) → IsSome o × IsSome p
-both_there f (Some x) (Some y) is = (refl, refl)
-both_there f (Some x) None is = absurd (cc)
-both_there f None (Some y) is = absurd (cc)
-both_there f None None is = absurd (cc)
-
 module _ (schemas : List Kinds) where
   abbrev pub IsTypedOver : PlainPlan → Type 0
   IsTypedOver plan = IsSome (plan_kinds schemas plan)
 
   pub typed_one : (P : PlainPlan → Type 0) (plan : PlainPlan) → IsTypedOver plan → OfOne P plan → OfOne (λ input. P input × IsTypedOver input) plan
-  typed_one P (Filter child test) typed is = (is, first_there (filter_kinds test) (plan_kinds schemas child) typed)
-  typed_one P (Project child columns) typed is = (is, first_there (project_kinds columns) (plan_kinds schemas child) typed)
+  typed_one P (Filter child test) typed is = (is, some_first (filter_kinds test) (plan_kinds schemas child) typed)
+  typed_one P (Project child columns) typed is = (is, some_first (project_kinds columns) (plan_kinds schemas child) typed)
   typed_one P (Distinct child) typed is = (is, typed)
-  typed_one P (Group child keys aggs) typed is = (is, first_there (group_kinds keys aggs) (plan_kinds schemas child) typed)
-  typed_one P (Order child keys) typed is = (is, first_there (order_kinds keys) (plan_kinds schemas child) typed)
+  typed_one P (Group child keys aggs) typed is = (is, some_first (group_kinds keys aggs) (plan_kinds schemas child) typed)
+  typed_one P (Order child keys) typed is = (is, some_first (order_kinds keys) (plan_kinds schemas child) typed)
   typed_one P (Scan stream) typed is = absurd is
   typed_one P (Join left right on) typed is = absurd is
   typed_one P (Concat left right) typed is = absurd is
 
   pub typed_two : (P : PlainPlan → PlainPlan → Type 0) (plan : PlainPlan) → IsTypedOver plan → OfTwo P plan → OfTwo (λ left right. P left right × IsTypedOver left × IsTypedOver right) plan
-  typed_two P (Join left right on) typed is = let both = both_there (join_kinds on) (plan_kinds schemas left) (plan_kinds schemas right) typed in (is, both.0, both.1)
-  typed_two P (Concat left right) typed is = let both = both_there concat_kinds (plan_kinds schemas left) (plan_kinds schemas right) typed in (is, both.0, both.1)
+  typed_two P (Join left right on) typed is = let both = some_both (join_kinds on) (plan_kinds schemas left) (plan_kinds schemas right) typed in (is, both.0, both.1)
+  typed_two P (Concat left right) typed is = let both = some_both concat_kinds (plan_kinds schemas left) (plan_kinds schemas right) typed in (is, both.0, both.1)
   typed_two P (Filter child test) typed is = absurd is
   typed_two P (Project child columns) typed is = absurd is
   typed_two P (Distinct child) typed is = absurd is

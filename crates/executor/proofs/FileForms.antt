@@ -1,8 +1,7 @@
 -- What a file of a typed plan's result holds is fit, where its groups have averages in i64.
-use Rattle.std.proofs.Common.{◌≡◌, refl, sym, ap, ◌∙◌, subst, ℕ, ◌-◌, ◌≤◌, false, ◌||◌, List, [], ◌∷◌, ◌++◌, map, length, All, IsSome, Option, None, Some, unwrap_or, slice_get, arith}
+use Rattle.std.proofs.Common.{◌≡◌, refl, sym, ap, ◌∙◌, subst, ℕ, ◌-◌, ◌≤◌, false, ◌||◌, List, [], ◌∷◌, ◌++◌, map, All, IsSome, Option, None, Some, unwrap_or, slice_get, arith}
 use Rattle.std.specs.List.{AllByRecursion}
 use Rattle.std.proofs.lemmas.Bool.{le-ltb}
-use Rattle.std.proofs.lemmas.List.{length-append}
 use Rattle.std.proofs.lemmas.List.Elements.{All-from_recursion}
 use Rattle.rows_core.specs.declared.kind.Kind.{Kind}
 use Rattle.rows_core.specs.declared.kind.Kind.TheVariants as kind
@@ -20,24 +19,26 @@ use Rattle.row_blob.specs.declared.shape.Shape.TheVariants as shape
 use Rattle.std.specs.Option.{IfSome}
 use Rattle.result_ops.specs.declared.made.Made.{Made}
 use Rattle.executor.specs.Reads.{IsOfForm}
-use Rattle.row_blob.specs.Kept.{IsValue, IsRow, AreEach, IsAcc, AreInOrder, IsNextGroup, IsNextTagged, IsKept, last_left, left_or_zero}
+use Rattle.row_blob.specs.Kept.{IsValue, IsRow, AreEach, IsAcc, AreInOrder, IsNextGroup, IsNextTagged, IsKept, last_left}
 use Rattle.plan_core.specs.declared.agg.Agg.{Agg}
 use Rattle.plan_core.specs.declared.agg.Agg.TheVariants as agg
 use Rattle.plan_core.specs.Columns.{Row, Rows}
 use Rattle.plan_core.specs.PlainPlan.{PlainPlan, Scan, Filter, Project, Distinct, Group, Join, Concat, Order}
-use Rattle.plan_core.specs.PlanTyping.{Kinds, plan_kinds, all_there, agg_kind, number_kind, is_empty, group_kinds, join_kinds}
+use Rattle.plan_core.specs.PlanTyping.{Kinds, plan_kinds, all_there, agg_kind, is_empty, group_kinds, join_kinds}
 use Rattle.plan_core.specs.TypedRows.{HaveKinds}
+use Rattle.plan_core.proofs.ValueKinds.{unless_some}
 use Rattle.plan_laws.specs.GrowthOfJoins.{is_earlier}
 use Rattle.plan_laws.specs.PlanShape.{kinds_given, kind_at, acc_kind_of, plan_shape}
-use Rattle.plan_laws.proofs.Answers.{both_some, otherwise, there_front}
-use Rattle.plan_laws.proofs.KeptParts.{kinds_there}
+use Rattle.plan_laws.proofs.Answers.{both_some, there_front}
+use Rattle.plan_laws.proofs.KeptParts.{kinds_there, last_of}
 use Rattle.plan_laws.proofs.StableLists.{Ascends, sorted_from_ascends}
-use Rattle.plan_laws.proofs.TypedOperators.{HasKinds, join_kinds_are}
+use Rattle.plan_laws.proofs.TypedOperators.{HasKinds, join_kinds_are, number_only}
 use Rattle.plan_laws.proofs.TypedPlans.{and_then}
+use Rattle.plan_laws.proofs.KeptBounds.{given_as}
+use Rattle.plan_laws.proofs.TypedParts.{there}
 use Rattle.growth_laws.specs.Making.{IsFormOf}
 use Rattle.result_ops.specs.Bounds.{IsBounded}
 use Rattle.result_ops.specs.Fitting.{kind_of_acc, kinds_of_group, IsFit, StandsInOrder}
-use Rattle.result_ops.proofs.FitInputs.{there, given_kinds}
 
 -- ---- rows
 
@@ -68,18 +69,13 @@ rows_kinds kinds rows is =
 column_kind : (kinds : Kinds) (column : ℕ) (k : Kind) (v : Value) → slice_get kinds column ≡ Some k → IsValue (kind_at kinds column) v → kind_of v ≡ k
 column_kind kinds column k v there is = value_kind (kind_at kinds column) v is ∙ ap (λ o. unwrap_or o kind.Int) there
 
-number_is : (o : Option Kind) (k : Kind) → number_kind o ≡ Some k → kind.Int ≡ k
-number_is None k is = absurd (cc)
-number_is (Some kind.Int) k is = cc
-number_is (Some kind.Text) k is = absurd (cc)
-
 count_kind : (kinds : Kinds) (k : Kind) → agg_kind kinds agg.Count ≡ Some k → kind.Int ≡ k
 count_kind kinds k is = let h : Some kind.Int ≡ Some k = is in cc
 
 acc_kind : (kinds : Kinds) (a : Agg) (k : Kind) (x : Acc) → agg_kind kinds a ≡ Some k → IsAcc (acc_kind_of kinds a) x → kind_of_acc x ≡ k
 acc_kind kinds agg.Count k (acc.Count n) there is = count_kind kinds k there
-acc_kind kinds (agg.Sum c) k (acc.Sum s) there is = number_is (slice_get kinds c) k there
-acc_kind kinds (agg.Avg c) k (acc.Avg s n) there is = number_is (slice_get kinds c) k there
+acc_kind kinds (agg.Sum c) k (acc.Sum s) there is = number_only (slice_get kinds c) k there
+acc_kind kinds (agg.Avg c) k (acc.Avg s n) there is = number_only (slice_get kinds c) k there
 acc_kind kinds (agg.Min c) k (acc.Pick v) there is = column_kind kinds c k v there is
 acc_kind kinds (agg.Max c) k (acc.Pick v) there is = column_kind kinds c k v there is
 acc_kind kinds (agg.First c) k (acc.Pick v) there is = column_kind kinds c k v there is
@@ -106,10 +102,10 @@ module _ (schemas : List Kinds) (child : PlainPlan) (keys : List ℕ) (aggs : Li
   columns : (k : Kinds) × (a : Kinds) × (all_there (map (slice_get input.0) keys) ≡ Some k) × (all_there (map (agg_kind input.0) aggs) ≡ Some a) × (Some (k ++ a) ≡ Some whole.0)
   columns =
       both_some (λ key_kinds agg_kinds. Some (key_kinds ++ agg_kinds)) (all_there (map (slice_get input.0) keys)) (all_there (map (agg_kind input.0) aggs)) whole.0
-      (otherwise (is_empty keys || is_empty aggs) _ whole.0 input.2)
+      (unless_some (is_empty keys || is_empty aggs) _ whole.0 input.2)
 
   same : input.0 ≡ kinds_given schemas child
-  same = sym (given_kinds schemas child input.0 input.1)
+  same = sym (given_as schemas child input.0 input.1)
 
   group_kinds_are : (group : GroupRow) → IsRow (map (kind_at (kinds_given schemas child)) keys) group.key
       → AreEach IsAcc (map (acc_kind_of (kinds_given schemas child)) aggs) group.accs → kinds_of_group group ≡ kinds_given schemas (Group child keys aggs)
@@ -123,7 +119,7 @@ module _ (schemas : List Kinds) (child : PlainPlan) (keys : List ℕ) (aggs : Li
       let of_accs : map kind_of_acc group.accs ≡ columns.1 = acc_kinds (kinds_given schemas child) aggs columns.1 group.accs aggs_there accs in
       let all : columns.0 ++ columns.1 ≡ whole.0 = let h = columns.4 in cc in
       ap (λ l. l ++ map kind_of_acc group.accs) of_key ∙ ap (λ l. columns.0 ++ l) of_accs ∙ all
-      ∙ sym (given_kinds schemas (Group child keys aggs) whole.0 whole.1)
+      ∙ sym (given_as schemas (Group child keys aggs) whole.0 whole.1)
 
   pub groups_kinds : (groups : List GroupRow) → IsKept (plan_shape schemas (Group child keys aggs)) (kept.Groups groups)
       → All (λ group. kinds_of_group group ≡ kinds_given schemas (Group child keys aggs)) groups
@@ -133,15 +129,6 @@ module _ (schemas : List Kinds) (child : PlainPlan) (keys : List ℕ) (aggs : Li
       (λ group. kinds_of_group group ≡ kinds_given schemas (Group child keys aggs)) (λ before group next. group_kinds_are group next.0 next.1) [] groups is.1)
 
 -- ---- joins
-
-last_there : (rows : List TaggedRow) (row : TaggedRow) → slice_get (rows ++ row ∷ []) (length rows) ≡ Some row
-last_there [] row = refl
-last_there (first ∷ rows) row = last_there rows row
-
-last_of : (rows : List TaggedRow) (row : TaggedRow) → last_left (rows ++ row ∷ []) ≡ row.left
-last_of rows row =
-    let at : length (rows ++ row ∷ []) - 1 ≡ length rows = omega (arith, length-append rows (row ∷ [])) in
-    ap (λ n. left_or_zero (slice_get (rows ++ row ∷ []) n)) at ∙ ap left_or_zero (last_there rows row)
 
 module _ (lefts : ℕ) (kinds : Kinds) where
   none_below : (low : TaggedRow) (before rows : List TaggedRow) → low.left ≤ last_left before → AreInOrder (IsNextTagged lefts kinds) before rows
@@ -168,9 +155,9 @@ joined_kinds : (schemas : List Kinds) (left right : PlainPlan) (on : List (ℕ �
 joined_kinds schemas left right on typed =
     let whole = there (plan_kinds schemas (Join left right on)) typed in
     let both = both_some (join_kinds on) (plan_kinds schemas left) (plan_kinds schemas right) whole.0 whole.1 in
-    ap (λ k. k ++ kinds_given schemas right) (given_kinds schemas left both.0 both.2)
-    ∙ ap (λ k. both.0 ++ k) (given_kinds schemas right both.1 both.3) ∙ join_kinds_are on both.0 both.1 whole.0 both.4
-    ∙ sym (given_kinds schemas (Join left right on) whole.0 whole.1)
+    ap (λ k. k ++ kinds_given schemas right) (given_as schemas left both.0 both.2)
+    ∙ ap (λ k. both.0 ++ k) (given_as schemas right both.1 both.3) ∙ join_kinds_are on both.0 both.1 whole.0 both.4
+    ∙ sym (given_as schemas (Join left right on) whole.0 whole.1)
 
 -- ---- every plan
 

@@ -7,6 +7,7 @@ use Rattle.row_blob.specs.Kept.{AreEach}
 use Rattle.plan_core.specs.PlainPlan.{PlainPlan, plan_of}
 use Rattle.plan_laws.proofs.ValidPlans.{all-append}
 use Rattle.estimator.specs.Cuts.{Cuts}
+use Rattle.rewrite_core.proofs.Looking.{Contains-first, Contains-behind}
 use Rattle.growth_laws.specs.MadePlaces.{Place, place}
 use Rattle.made_places.specs.Picking.{place_of, places_said}
 use Rattle.made_places.specs.declared.place.Place as code
@@ -15,10 +16,9 @@ use Rattle.evaluation.specs.declared.recording.MadePlace.{MadePlace}
 use Rattle.executor.specs.Outcomes.{IsMadeAt, IsAnyMadeAt, FindsAt, KeepsAt, KeepEach, PutsKept, IsKeptFrom}
 use Rattle.executor.specs.declared.outcome.KeptPlace.{KeptPlace}
 use Rattle.executor.proofs.Joined.{each_more}
-use Rattle.executor.proofs.RestShapes.{contains_here, contains_more}
 
 pub finds_more : (m : MadePlace) (mades : List MadePlace) (at : Place) (found : Option MadePlace) → (IsMadeAt at m → ⊥) → FindsAt mades at found → FindsAt (m ∷ mades) at found
-finds_more m mades at (Some made) not is = (contains_more m mades made is.0, is.1)
+finds_more m mades at (Some made) not is = (Contains-behind m mades made is.0, is.1)
 finds_more m mades at None not is = λ (made : MadePlace) (among : Contains (m ∷ mades) made) (made_at : IsMadeAt at made).
     elim (Contains-append_cases (m ∷ []) mades made among) [
       | inl first ↦
@@ -74,8 +74,8 @@ module _ (mades : List MadePlace) where
   said_among before p rest all whole = subst (λ (l : List code.Place). Contains (places_said l) (place_of p)) whole (among before)
     where
       among : (qs : List code.Place) → Contains (places_said (qs ++ p ∷ rest)) (place_of p)
-      among [] = contains_here (place_of p) (places_said rest)
-      among (q ∷ qs) = contains_more (place_of q) (places_said (qs ++ p ∷ rest)) (place_of p) (among qs)
+      among [] = Contains-first (place_of p) (places_said rest)
+      among (q ∷ qs) = Contains-behind (place_of q) (places_said (qs ++ p ∷ rest)) (place_of p) (among qs)
 
   pub from_more : (places : List Place) (at : Place) (before after : List KeptPlace) → Contains places at → AllByRecursion (IsKeptFrom places) before → PutsKept mades at before after
       → AllByRecursion (IsKeptFrom places) after

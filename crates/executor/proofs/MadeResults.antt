@@ -11,6 +11,7 @@ use Rattle.plan_core.specs.PlainPlan as plan
 use Rattle.estimator.specs.Cuts.{Cuts}
 use Rattle.rewrite_core.specs.IsRewriting.{lefts, rights}
 use Rattle.rewrite_core.specs.PlainRewriting.{PlainRewriting, Node}
+use Rattle.rewrite_core.proofs.Looking.{Contains-first, Contains-behind}
 use Rattle.growth_laws.specs.Growth.{IsMade}
 use Rattle.growth_laws.specs.KeptResults.{KeptResults}
 use Rattle.growth_laws.specs.Lists.{Extents, plan_lists}
@@ -25,7 +26,6 @@ use Rattle.evaluation.specs.declared.recording.MadePlace.{MadePlace}
 use Rattle.evaluation.proofs.RecordedParts.{all_below}
 use Rattle.executor.specs.Outcomes.{IsMadeAt, IsAnyMadeAt, IsResultAt, IsKeptOf, KeepsAt, IsKeptAt}
 use Rattle.executor.specs.declared.outcome.KeptPlace.{KeptPlace}
-use Rattle.executor.proofs.RestShapes.{contains_here, contains_more}
 
 -- ---- a made place counts below a root, or is the root
 
@@ -84,24 +84,24 @@ module _ (extents : Extents) (results : KeptResults) where
 
   more_found : (m : MadePlace) (found : List MadePlace) (trees : List PlainRewriting) → AllByRecursion (IsOfTree found) trees → AllByRecursion (IsOfTree (m ∷ found)) trees
   more_found m found [] all = tt
-  more_found m found (tree ∷ trees) all = ((all.0.0, contains_more m found all.0.0 all.0.1, all.0.2, all.0.3), more_found m found trees all.1)
+  more_found m found (tree ∷ trees) all = ((all.0.0, Contains-behind m found all.0.0 all.0.1, all.0.2, all.0.3), more_found m found trees all.1)
 
   of_tree : (trees : List PlainRewriting) (found : List MadePlace) → AreMade extents results trees found
       → AllByRecursion (IsOfTree found) trees
   of_tree [] [] are = tt
   of_tree [] (m ∷ found) are = absurd are
   of_tree (tree ∷ trees) [] are = absurd are
-  of_tree (tree ∷ trees) (m ∷ found) are = ((m, contains_here m found, are.0.0, are.0.1), more_found m found trees (of_tree trees found are.1))
+  of_tree (tree ∷ trees) (m ∷ found) are = ((m, Contains-first m found, are.0.0, are.0.1), more_found m found trees (of_tree trees found are.1))
 
   module _ (p : PlainPlan) (c : Cuts) (own : MadePlace) (found : List MadePlace) (here : IsMadeAt (place p c) own) where
     module _ (r : PlainRewriting) (of_plan : plan_at r ≡ p) (of_cuts : cuts_at r ≡ c) (are : AreMade extents results (recorded_below r) found) where
       below : (at : Place) (tree : PlainRewriting) → Contains (recorded_below r) tree → plan_at tree ≡ at.plan → cuts_at tree ≡ at.cuts → IsAnyMadeAt (own ∷ found) at
       below at tree is of_tree_plan of_tree_cuts =
           let one = All-contains (IsOfTree found) (recorded_below r) tree (All-from_recursion (IsOfTree found) (recorded_below r) (of_tree (recorded_below r) found are)) is in
-          (one.0, contains_more own found one.0 one.1, (one.2 ∙ of_tree_plan, one.3 ∙ of_tree_cuts))
+          (one.0, Contains-behind own found one.0 one.1, (one.2 ∙ of_tree_plan, one.3 ∙ of_tree_cuts))
 
       at_root : (at : Place) → p ≡ at.plan → c ≡ at.cuts → IsAnyMadeAt (own ∷ found) at
-      at_root at same_plan same_cuts = (own, contains_here own found, (here.0 ∙ same_plan, here.1 ∙ same_cuts))
+      at_root at same_plan same_cuts = (own, Contains-first own found, (here.0 ∙ same_plan, here.1 ∙ same_cuts))
 
       itself : (b : Bool) (at : Place) (tree : PlainRewriting) → Contains (if_recorded b r) tree → plan_at tree ≡ at.plan → cuts_at tree ≡ at.cuts → IsAnyMadeAt (own ∷ found) at
       itself true at tree is of_tree_plan of_tree_cuts =

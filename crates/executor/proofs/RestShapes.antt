@@ -1,12 +1,13 @@
 -- The next file of a job's parts, and the shape of what it should hold.
 use Rattle.std.proofs.Common.{◌≡◌, refl, sym, ap, ◌∙◌, subst, ℕ, ◌-◌, inl, inr, List, [], ◌∷◌, ◌++◌, Some, None}
 use Rattle.std.specs.List.{Contains}
-use Rattle.std.proofs.lemmas.List.Elements.{Contains-push, Contains-append_left, Contains-append_right}
+use Rattle.std.proofs.lemmas.List.Elements.{Contains-append_right}
 use Rattle.row_blob.specs.declared.shape.Shape.{Shape}
 use Rattle.plan_core.specs.PlanTyping.{Kinds}
 use Rattle.plan_core.specs.PlainPlan.{Scan, plan_of}
 use Rattle.plan_laws.specs.PlanShape.{plan_shape}
 use Rattle.rewrite_core.specs.Files.{FileName, Extent, Result}
+use Rattle.rewrite_core.proofs.Looking.{Contains-first, Contains-behind}
 use Rattle.growth_laws.specs.Pieces.{Piece, Entry, Gathered}
 use Rattle.executor.specs.Progress.{files_left, left_in, next_shape, IsNextPart, IsPartOf, ArePartsOf}
 use Rattle.executor.specs.Running.{IsShapeOf}
@@ -14,26 +15,20 @@ use Rattle.executor.specs.declared.part.Part.{Part}
 use Rattle.executor.specs.declared.part.Part.TheVariants as part
 use Rattle.executor.proofs.PartSteps.{first_extent}
 
-pub contains_here : {A : Type 0} (x : A) (xs : List A) → Contains (x ∷ xs) x
-contains_here x xs = Contains-append_left (x ∷ []) xs x (Contains-push [] x)
-
-pub contains_more : {A : Type 0} (x : A) (xs : List A) (y : A) → Contains xs y → Contains (x ∷ xs) y
-contains_more x xs y is = Contains-append_right (x ∷ []) xs y is
-
 pub contains_middle : {A : Type 0} (xs : List A) (y : A) (ys : List A) → Contains (xs ++ y ∷ ys) y
-contains_middle xs y ys = Contains-append_right xs (y ∷ ys) y (contains_here y ys)
+contains_middle xs y ys = Contains-append_right xs (y ∷ ys) y (Contains-first y ys)
 
 module _ (schemas : List Kinds) where
   among_more : (piece : Piece) (pieces : List Piece) (name : FileName) (shape : Shape) → IsShapeOf schemas pieces name shape → IsShapeOf schemas (piece ∷ pieces) name shape
   among_more piece pieces (Extent stream number) shape is = is
-  among_more piece pieces (Result id) shape is = (is.0, contains_more piece pieces (Entry is.0 id) is.1, is.2)
+  among_more piece pieces (Result id) shape is = (is.0, Contains-behind piece pieces (Entry is.0 id) is.1, is.2)
 
   shape_here : (piece : Piece) (pieces : List Piece) (p : Part) (name : FileName) (others : List FileName) → IsPartOf schemas piece p → files_left p ≡ name ∷ others
       → IsShapeOf schemas (piece ∷ pieces) name (next_shape schemas p)
   shape_here (Entry plan id) pieces (part.Entry boxed id' (Some l)) name others is left = absurd (cc)
   shape_here (Entry plan id) pieces (part.Entry boxed id' None) name others is left =
       let named : Result id' ≡ name = cc in
-      let there : Contains (Entry plan id ∷ pieces) (Entry plan id') = subst (λ (n : ℕ). Contains (Entry plan id ∷ pieces) (Entry plan n)) (sym is.1) (contains_here (Entry plan id) pieces) in
+      let there : Contains (Entry plan id ∷ pieces) (Entry plan id') = subst (λ (n : ℕ). Contains (Entry plan id ∷ pieces) (Entry plan n)) (sym is.1) (Contains-first (Entry plan id) pieces) in
       subst (λ (n : FileName). IsShapeOf schemas (Entry plan id ∷ pieces) n (plan_shape schemas (plan_of boxed.value))) named (plan, there, ap (plan_shape schemas) is.0)
   shape_here (Entry plan id) pieces (part.Gathered gathering stream next end) name others is left = absurd is
   shape_here (Gathered plan cuts) pieces (part.Entry boxed id' l) name others is left = absurd is

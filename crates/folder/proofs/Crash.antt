@@ -11,16 +11,15 @@ use Rattle.journal_store.specs.Readings.{generation_file, is_journal_file, IsJou
 use Rattle.journal_store.specs.Journals.{Keeps}
 use Rattle.journal_store.specs.Making.{AreStable}
 use Rattle.journal_store.specs.declared.journal.Journal.{Journal}
+use Rattle.journal_store.proofs.Checkpointing.{root_not_log}
+use Rattle.journal_store.proofs.MakingLemmas.{log_is_journal}
 use Rattle.folder.specs.State.{State, IsValid, table}
 use Rattle.folder.specs.Replay.{IsBodyOf, MayBeMade, Replays, due_in}
 use Rattle.folder.specs.Sound.{Care, HoldsAll, Speaks, IsSound}
 use Rattle.folder.specs.Left.{Near, IsSoundForOneOf, IsLeft, IsLeftWith, Everything, Since, StaysSound}
 use Rattle.folder.specs.Standing.{Stands, Means, IsNext}
 use Rattle.folder.proofs.Replays.{Replays-push}
-use Rattle.folder.proofs.Frames.{log_is_journal, named_is_no_journal, sound_beside, holds_beside, stands_same}
-
-root_is_no_generation : (g : ℕ) → 0 ≢ generation_file g
-root_is_no_generation g is = let e : 0 ≡ 4294967296 + g = is in absurd (omega (arith, e))
+use Rattle.folder.proofs.Frames.{named_is_no_journal, sound_beside, holds_beside, stands_same}
 
 -- ---- the table and the journal, on every store that tells its files
 
@@ -67,7 +66,7 @@ module _ (care : Care) (u v : View) (t : Table) (journal : Journal) (s s' : Stat
     reading = record {
       generation = means.stands.generation;
       bodies = means.stands.bodies;
-      logs = inl (record { root = means.stands.keeps.root (image 0) (others 0 (root_is_no_generation means.stands.generation)); log = old });
+      logs = inl (record { root = means.stands.keeps.root (image 0) (others 0 (root_not_log means.stands.generation)); log = old });
       replays = before_replays;
     };
     valid = means.valid;
@@ -77,7 +76,7 @@ module _ (care : Care) (u v : View) (t : Table) (journal : Journal) (s s' : Stat
     reading = record {
       generation = means.stands.generation;
       bodies = means.stands.bodies ++ body ∷ [];
-      logs = inl (record { root = means.stands.keeps.root (image 0) (others 0 (root_is_no_generation means.stands.generation)); log = new });
+      logs = inl (record { root = means.stands.keeps.root (image 0) (others 0 (root_not_log means.stands.generation)); log = new });
       replays = after_replays;
     };
     valid = next.valid;

@@ -10,6 +10,7 @@ use Rattle.rows_core.specs.declared.file_ref.FileRef.{FileRef}
 use Rattle.catalog_core.specs.Table.{Table}
 use Rattle.journal_store.specs.Readings.{generation_file, IsJournalFile, is_journal_file}
 use Rattle.journal_store.specs.declared.journal.Journal.{Journal}
+use Rattle.journal_store.proofs.MakingLemmas.{log_is_journal}
 use Rattle.folder.specs.State.{State, Names, IsValid}
 use Rattle.folder.specs.Replay.{ReadsAs}
 use Rattle.folder.specs.Sound.{Care, Holds, HoldsAll, Speaks, IsSound}
@@ -22,9 +23,6 @@ root_is_journal = refl
 
 generation_is_high : (g : ℕ) → is_journal_file (4294967296 + g) ≡ true
 generation_is_high g = grind (arith, nat_tests)
-
-pub log_is_journal : (g : ℕ) → IsJournalFile (generation_file g)
-log_is_journal g = generation_is_high g
 
 pub no_journal_file : (n : ℕ) → 0 < n → n < 4294967296 → is_journal_file n ≡ false
 no_journal_file n low high = grind (arith, nat_tests)

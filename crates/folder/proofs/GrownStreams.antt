@@ -1,9 +1,8 @@
 -- Streams that grow: the rows at a cut that ends within their extents stay, and so do the kept results.
 use Rattle.std.proofs.Common.{◌≡◌, refl, sym, ap, ◌∙◌, subst, ℕ, zero, suc, ◌-◌, ◌≤◌, List, [], ◌∷◌, ◌++◌, length, map, take, drop, length-drop, Option, None, Some, Result, Ok, IsOk, arith}
 use Rattle.std.specs.Prelude.{slice_range, unwrap_or}
-use Rattle.std.specs.List.{Contains, AllByRecursion, flat_map}
+use Rattle.std.specs.List.{Contains, flat_map}
 use Rattle.std.proofs.lemmas.List.{length-map, take-append-le}
-use Rattle.std.proofs.lemmas.List.Elements.{All-contains, All-from_recursion}
 use Rattle.rows_core.specs.declared.cut.Cut.{Cut}
 use Rattle.row_blob.specs.Kept.{IsKept}
 use Rattle.row_blob.specs.declared.kept.Kept.{Kept}
@@ -16,14 +15,16 @@ use Rattle.plan_core.specs.PlainPlan.{PlainPlan, Scan, Filter, Project, Distinct
 use Rattle.plan_core.specs.PlanTyping.{Kinds, plan_kinds, plan_typing, absent_stream, present_or, typed_or, group_kinds, join_kinds}
 use Rattle.plan_canon.specs.PlanRules.{plan_step}
 use Rattle.plan_canon.proofs.Later.{kinds_still}
-use Rattle.plan_canon.proofs.SameValues.{then_some, both_some}
 use Rattle.plan_laws.specs.KeptForm.{kept_form}
 use Rattle.plan_laws.specs.PlanShape.{kinds_given, kind_at, acc_kind_of, plan_shape}
+use Rattle.plan_laws.proofs.TypedPlans.{and_then}
+use Rattle.plan_laws.proofs.Answers.{both_some}
 use Rattle.estimator.specs.Cuts.{Cuts}
 use Rattle.growth_laws.specs.Lists.{extents_of, interval_rows, lists_at}
 use Rattle.catalog_types.specs.PlainEntry.{PlainEntry}
 use Rattle.catalog_core.specs.Programs.{extents_at, AreCuts}
 use Rattle.catalog_core.specs.Results.{IsOver}
+use Rattle.catalog_core.proofs.AskedResults.{all-at}
 use Rattle.folder.specs.State.{Extent, Stream, State, IsEntryOf, IsValid, extent_of, states_of, kinds_in, extents_in, lists_in}
 
 -- ---- the rows at a cut
@@ -82,9 +83,6 @@ module _ (old new : List Stream) (grow : Grow old new) where
 
 -- ---- a list's elements
 
-pub all-at : {A : Type 0} (P : A → Type 0) (xs : List A) (x : A) → AllByRecursion P xs → Contains xs x → P x
-all-at P xs x all has = All-contains P xs x (All-from_recursion P xs all) has
-
 -- a kept result of a valid state
 pub entry-in : (s : State) (e : PlainEntry) → IsValid s → Contains s.entries e → IsEntryOf s.streams e
 entry-in s e valid has = all-at (IsEntryOf s.streams) s.entries e valid.results has
@@ -110,7 +108,7 @@ module _ (schemas more : List Kinds) where
   shape-still (Project p columns) k h = ap OfRows (given-still (Project p columns) k h)
   shape-still (Distinct p) k h = ap OfRows (given-still (Distinct p) k h)
   shape-still (Group p keys aggs) k h =
-      let j = then_some (group_kinds keys aggs) (plan_kinds schemas p) k h in
+      let j = and_then (group_kinds keys aggs) (plan_kinds schemas p) k h in
       ap (λ (ks : Kinds). Groups (map (kind_at ks) keys) (map (acc_kind_of ks) aggs)) (given-still p j.0 j.1)
   shape-still (Join p q on) k h =
       let j = both_some (join_kinds on) (plan_kinds schemas p) (plan_kinds schemas q) k h in

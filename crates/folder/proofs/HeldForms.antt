@@ -1,10 +1,10 @@
 -- The forms that the files of a state hold, and the kept results by their ids.
-use Rattle.std.proofs.Common.{◌≡◌, inl, inr, refl, sym, ap, ◌∙◌, subst, ℕ, zero, suc, ◌<◌, ◌==◌, nat_lt, Bool, true, false, cond, List, [], ◌∷◌, length, take, slice_get, Option, Some, Ok, unwrap_or, arith}
-use Rattle.std.specs.List.{Contains, AllByRecursion, find}
+use Rattle.std.proofs.Common.{◌≡◌, inl, inr, refl, sym, ap, ◌∙◌, subst, ℕ, zero, suc, ◌<◌, nat_lt, true, List, [], ◌∷◌, length, take, slice_get, Option, Some, Ok, unwrap_or, arith}
+use Rattle.std.specs.List.{Contains, AllByRecursion}
 use Rattle.std.specs.Option.{option_map}
 use Rattle.std.proofs.lemmas.List.{length-map}
 use Rattle.std.proofs.lemmas.Option.{slice_get-map, slice_get_within, get_or_from_slice_get}
-use Rattle.std.proofs.lemmas.Bool.{ltb-true, eqb-true, eq-eqb, and_parts}
+use Rattle.std.proofs.lemmas.Bool.{ltb-true, and_parts}
 use Rattle.rows_core.specs.declared.file_ref.FileRef.{FileRef}
 use Rattle.rows_core.specs.Schema.{kinds_of}
 use Rattle.row_blob.specs.Kept.{IsKept}
@@ -23,17 +23,17 @@ use Rattle.growth_laws.specs.KeptResults as growth
 use Rattle.growth_laws.specs.KeptResults.{KeptResult, IsResultOf}
 use Rattle.growth_laws.specs.Lists.{extents_of}
 use Rattle.cache_index.specs.Asked.{asked}
+use Rattle.cache_index.proofs.Searching.{all-map}
 use Rattle.catalog_types.specs.PlainEntry.{PlainEntry}
 use Rattle.catalog_types.specs.declared.snapshot.StreamState.{StreamState}
 use Rattle.entry_table.specs.AreKept.{AreKept}
 use Rattle.entry_table.specs.Ids.{ids_of, ascend_above}
 use Rattle.entry_table.specs.Work.{kept_with}
-use Rattle.entry_table.proofs.Growth.{all-map}
+use Rattle.catalog_core.proofs.AskedResults.{find-own}
 use Rattle.folder.specs.State.{Stream, Extent, State, HasExtent, Names, IsValid, stream_of, states_of, kinds_in, rows_in, extents_in, lists_in, file_bytes}
 use Rattle.folder.specs.Sound.{Care, Shown, Whole, Holds, IsSound}
 use Rattle.folder.specs.Files.{form_of, result_of, no_result, results_in, extent_rows, SpellsOnly, HoldsExtent, HoldsResult}
-use Rattle.folder.proofs.GrownStreams.{all-at, entry-in}
-use Rattle.folder.proofs.NextStates.{Contains-cons_cases}
+use Rattle.folder.proofs.GrownStreams.{entry-in}
 use Rattle.folder.proofs.PieceLemmas.{asked-is}
 
 -- what stands at a place stands in the list
@@ -53,24 +53,6 @@ above-all low (e ∷ es) up =
     let parts = and_parts (nat_lt low e.id) (ascend_above e.id (ids_of es)) up in
     let less : low < e.id = ltb-true low e.id parts.0 in
     (less, all-map (λ (x : PlainEntry). e.id < x.id) (λ x. low < x.id) (λ x more. omega (arith, less, more)) es (above-all e.id es parts.1))
-
-find-own : (low : ℕ) (es : List PlainEntry) (x : PlainEntry) → ascend_above low (ids_of es) ≡ true → Contains es x → find (λ e. e.id == x.id) es ≡ Some x
-find-own low [] x up has = absurd (omega (arith, has.1))
-find-own low (y ∷ ys) x up has =
-    let parts = and_parts (nat_lt low y.id) (ascend_above y.id (ids_of ys)) up in
-    elim (Contains-cons_cases y ys x has) [
-      | inl is ↦ subst (λ (z : PlainEntry). find (λ e. e.id == z.id) (y ∷ ys) ≡ Some z) is (ap (λ b. cond b (Some y) (find (λ e. e.id == y.id) ys)) (eq-eqb y.id y.id refl))
-      | inr more ↦
-          let less : y.id < x.id = all-at (λ (e : PlainEntry). y.id < e.id) ys x (above-all y.id ys parts.1) more in
-          ap (λ b. cond b (Some y) (find (λ e. e.id == x.id) ys)) (other y x less) ∙ find-own y.id ys x parts.1 more
-    ]
-  where
-    other : (y x : PlainEntry) → y.id < x.id → (y.id == x.id) ≡ false
-    other y x less = by (y.id == x.id) refl
-      where
-        by : (b : Bool) → (y.id == x.id) ≡ b → b ≡ false
-        by true same = absurd (let e : y.id ≡ x.id = eqb-true y.id x.id same in omega (arith, less, e))
-        by false same = refl
 
 pub result-with : (s : State) (e : PlainEntry) → AreKept (kept_with s.next_id s.entries) → Contains s.entries e → results_in s e.id ≡ result_of s.streams e
 result-with s e are has = ap (λ (o : Option PlainEntry). unwrap_or (option_map (result_of s.streams) o) no_result) (find-own 0 s.entries e are.ascend has)

@@ -1,5 +1,5 @@
 -- The states that follow from one by a new stream or new rows: their tables, their files, and that they are valid.
-use Rattle.std.proofs.Common.{◌≡◌, ◌⊎◌, inl, inr, ℕ, zero, suc, ◌+◌, ◌<◌, List, [], ◌∷◌, ◌++◌, length, map, slice_get, append-nil, Option, Some, IfSome, refl, sym, ap, ◌∙◌, subst, arith}
+use Rattle.std.proofs.Common.{◌≡◌, ◌⊎◌, inl, inr, ℕ, zero, suc, ◌+◌, ◌<◌, List, [], ◌∷◌, ◌++◌, map, slice_get, append-nil, Option, Some, refl, sym, ap, ◌∙◌, subst, arith}
 use Rattle.std.proofs.lemmas.List.{map-append}
 use Rattle.std.specs.List.{Contains}
 use Rattle.std.proofs.lemmas.List.Elements.{Contains-push_cases}
@@ -19,12 +19,14 @@ use Rattle.plan_core.specs.PlanTyping.{Kinds}
 use Rattle.plan_canon.proofs.Later.{step_still}
 use Rattle.plan_canon.specs.PlanRules.{plan_step}
 use Rattle.plan_laws.specs.PlanShape.{plan_shape}
+use Rattle.rewrite_core.proofs.Looking.{Contains-first, Contains-behind, Contains-cons_cases}
 use Rattle.growth_laws.specs.Lists.{extents_of}
-use Rattle.entry_table.proofs.Growth.{all-map}
+use Rattle.cache_index.proofs.Searching.{all-map}
 use Rattle.catalog_core.specs.Programs.{kinds_of_streams}
 use Rattle.catalog_core.specs.Results.{IsOver}
 use Rattle.catalog_core.specs.Table.{updated, with_extent, after}
 use Rattle.catalog_core.proofs.OverStreams.{over-stream, over-append, kinds-grown}
+use Rattle.catalog_core.proofs.Nested.{some-at}
 use Rattle.folder.specs.State.{Extent, Stream, State, HasExtent, Names, IsEntryOf, IsValid, extent_of, stream_of, states_of, kinds_in, rows_in, extents_in, table, ref_of, file_bytes, empty_state}
 use Rattle.folder.specs.Next.{with_stream, with_rows, with_work, with_collection, new_extent, grown, AreRowsOf}
 use Rattle.folder.proofs.GrownStreams.{Grow, entry-stays, form-before, entry-in, kinds-of-typed, shape-still}
@@ -35,16 +37,6 @@ pub map-updated : {A B : Type 0} (h : A → B) (f : A → A) (g : B → B) → (
 map-updated h f g same [] n = refl
 map-updated h f g same (x ∷ xs) zero = ap (λ y. y ∷ map h xs) (same x)
 map-updated h f g same (x ∷ xs) (suc n) = ap (λ ys. h x ∷ ys) (map-updated h f g same xs n)
-
-pub Contains-cons_cases : {A : Type 0} (x : A) (xs : List A) (y : A) → Contains (x ∷ xs) y → (x ≡ y) ⊎ Contains xs y
-Contains-cons_cases x xs y (zero, low, is) = inl is
-Contains-cons_cases x xs y (suc k, low, is) = inr (k, omega (arith, low), is)
-
-pub Contains-first : {A : Type 0} (x : A) (xs : List A) → Contains (x ∷ xs) x
-Contains-first x xs = (0, omega arith, refl)
-
-pub Contains-behind : {A : Type 0} (x : A) (xs : List A) (y : A) → Contains xs y → Contains (x ∷ xs) y
-Contains-behind x xs y has = (suc has.0, (let low : has.0 < length xs = has.1 in omega (arith, low)), has.2)
 
 -- an item of the changed list is one of the list, or what the one at the place becomes
 Contains-updated : {A : Type 0} (f : A → A) (xs : List A) (n : ℕ) (y : A) → Contains (updated f xs n) y
@@ -242,9 +234,6 @@ valid-with_stream s name columns valid = record {
   last = valid.last;
 }
 
-some_of : {A : Type 0} (P : A → Type 0) (o : Option A) (x : A) → o ≡ Some x → IfSome o P → P x
-some_of P o x is has = let at : IfSome (Some x) P = subst (λ (p : Option _). IfSome p P) is has in at
-
 pub valid-with_rows : (s : State) (place : ℕ) (rows : List (List Value)) → s.next_file < 4294967296 → AreRowsOf s place rows → IsValid s → IsValid (with_rows s place rows)
 valid-with_rows s place rows room typed valid = record {
   refs = λ at bytes names. elim (names-with_rows s place rows valid at bytes names) [
@@ -267,7 +256,7 @@ valid-with_rows s place rows room typed valid = record {
       subst (λ columns. P columns e.rows) from.columns
       (elim from.case [
         | inl had ↦ valid.rows from.stream e had
-        | inr new ↦ subst (λ (y : Extent). P from.stream.columns y.rows) new.1 (some_of (λ (y : Stream). P y.columns rows) (slice_get s.streams place) from.stream new.0 typed)
+        | inr new ↦ subst (λ (y : Extent). P from.stream.columns y.rows) new.1 (some-at (λ (y : Stream). P y.columns rows) (slice_get s.streams place) from.stream new.0 typed)
       ]);
   results = all-map (IsEntryOf s.streams) (IsEntryOf (with_rows s place rows).streams) (entry-rows (new_extent s.next_file rows) s.streams place) s.entries valid.results;
   first = omega (arith, valid.first);

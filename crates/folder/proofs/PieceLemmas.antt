@@ -10,6 +10,8 @@ use Rattle.rewrite_core.specs.declared.rewriting.Hit.{Hit}
 use Rattle.rewrite_core.specs.Entries as rewrite
 use Rattle.rewrite_core.specs.IsRewriting.{Naming, among, IsRewriting, IsWay, IsDelta, IsDeltaWay, OfOne, OfTwo, OfSides, OfTail, OfDeltaTail, OfDistinctChild, IsScan, lefts, rights}
 use Rattle.rewrite_core.specs.PlainRewriting.{PlainRewriting, Node, PlainWay, Scan, One, Two, Read, Tail, LeftGrew, RightGrew, BothGrew, PlainDelta, Change, PlainDeltaWay, Unchanged, NewRows, OfChild, OfDistinct, OfJoin}
+use Rattle.rewrite_core.proofs.Looking.{Contains-first, Contains-behind, Contains-cons_cases}
+use Rattle.plan_laws.proofs.ValidPlans.{all-append}
 use Rattle.growth_laws.specs.Pieces.{Piece, Entry, Gathered, is_chain_of, is_gathered, is_chain_delta, pieces_of, pieces_in, pieces_of_delta, pieces_in_delta}
 use Rattle.growth_laws.proofs.PieceResults.{subst_both}
 use Rattle.cache_index.specs.Asked.{entry, is_asked, asked}
@@ -19,7 +21,6 @@ use Rattle.catalog_core.specs.Programs.{AreCuts, IsCut}
 use Rattle.folder.specs.State.{State, IsValid, states_of}
 use Rattle.folder.specs.Files.{IsPieceIn}
 use Rattle.folder.proofs.GrownStreams.{as-long, entry-in}
-use Rattle.folder.proofs.NextStates.{Contains-cons_cases, Contains-first, Contains-behind}
 
 -- ---- cuts of two inputs
 
@@ -136,10 +137,6 @@ asked-is without (x ∷ xs) y has = by (is_asked without x) has (asked-is withou
       | inr more ↦ let e = rest more in (e.0, Contains-behind x xs e.0 e.1, e.2)
     ]
     by false has rest = let e = rest has in (e.0, Contains-behind x xs e.0 e.1, e.2)
-
-all-append : {A : Type 0} (P : A → Type 0) (xs ys : List A) → AllByRecursion P xs → AllByRecursion P ys → AllByRecursion P (xs ++ ys)
-all-append P [] ys front behind = behind
-all-append P (x ∷ xs) ys front behind = (front.0, all-append P xs ys front.1 behind)
 
 module _ (s : State) (valid : IsValid s) (without : List ℕ) where
   abbrev names : Naming

@@ -7,6 +7,7 @@ use Rattle.gated_log.specs.Stands.{IsBeforeOrAfter}
 use Rattle.catalog_types.specs.declared.change.Change.{Change}
 use Rattle.catalog_types.specs.declared.change.Change.TheVariants as change
 use Rattle.record_codec.specs.Spelling.{change_spelling, HasChangeSpelling, keyless}
+use Rattle.record_codec.proofs.Lengths.{some_bytes}
 use Rattle.catalog_core.specs.Table.{Table, Fits, after}
 use Rattle.journal_store.specs.Readings.{generation_file}
 use Rattle.journal_store.specs.Journals.{Keeps}
@@ -29,14 +30,6 @@ keyless_same (change.Checkpoint whole) plain = absurd (cc)
 
 pub body_of : (c : Change) (body : List ℕ) → is_checkpoint c ≡ false → HasChangeSpelling c → body ≡ change_spelling c → IsBodyOf c body
 body_of c body plain spelled is = ((spelled, keyless_same c plain), is)
-
--- a spelling has its first byte
-some_bytes : (c : Change) → 0 < length (change_spelling c)
-some_bytes (change.Stream name columns) = omega arith
-some_bytes (change.Append stream extent) = omega arith
-some_bytes (change.Work program reads dropped kept) = omega arith
-some_bytes (change.Collect ids) = omega arith
-some_bytes (change.Checkpoint whole) = omega arith
 
 pub is_body : (c : Change) (body : List ℕ) → body ≡ change_spelling c → length body < 2 ^ 29 → IsBody body
 is_body c body is short =

@@ -23,7 +23,7 @@ among_on files file u v w has run acts =
 -- ---- which are there
 
 -- a count that rose has still risen
-rose_on : (a b c : ℕ) → Rose a b → b ≤ c → Rose a c
+pub rose_on : (a b c : ℕ) → Rose a b → b ≤ c → Rose a c
 rose_on a b c rose more = omega (arith, rose, more)
 
 -- a file that isn't there isn't after another's removal

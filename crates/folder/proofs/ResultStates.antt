@@ -18,13 +18,13 @@ use Rattle.entry_table.specs.Results.{HaveNextFiles}
 use Rattle.entry_table.specs.Work.{with_uses, new_entry, new_entries}
 use Rattle.entry_table.proofs.Files.{files-fit}
 use Rattle.entry_table.proofs.Growth.{all-append, all-without, all-used}
+use Rattle.rewrite_core.proofs.Looking.{Contains-first, Contains-behind}
 use Rattle.catalog_core.specs.Results.{digests_of}
 use Rattle.catalog_core.specs.Table.{Fits}
 use Rattle.catalog_core.proofs.IdleWork.{idle-after}
+use Rattle.catalog_core.proofs.AskedResults.{all-at}
 use Rattle.folder.specs.State.{Stream, State, Names, IsEntryOf, IsValid, lists_in, states_of, ref_of, table}
 use Rattle.folder.specs.Next.{with_run, with_work, with_collection, worked, IsReadyResult}
-use Rattle.folder.proofs.GrownStreams.{all-at}
-use Rattle.folder.proofs.NextStates.{Contains-first, Contains-behind}
 
 -- ---- lists
 

@@ -11,12 +11,12 @@ use Rattle.catalog_types.specs.PlainEntry.{PlainNewEntry}
 use Rattle.catalog_types.specs.declared.change.Change.TheVariants as change
 use Rattle.catalog_types.specs.declared.program.Program.{Program}
 use Rattle.catalog_core.specs.Table.{Fits}
+use Rattle.catalog_core.proofs.AskedResults.{all-at}
 use Rattle.folder.specs.State.{State, IsValid, extent_of, table, file_bytes}
 use Rattle.folder.specs.Sound.{Care, Shown, Whole, Holds}
 use Rattle.folder.specs.Left.{IsSettled}
 use Rattle.folder.specs.Standing.{IsNext}
 use Rattle.folder.specs.Next.{with_stream, with_rows, with_run, with_work, with_collection, new_extent, AreRowsOf, IsReadyResult}
-use Rattle.folder.proofs.GrownStreams.{all-at}
 use Rattle.folder.proofs.NextStates.{table-with_stream, table-with_rows, table-with_work, table-with_collection, names-with_stream, names-with_rows, valid-with_stream, valid-with_rows}
 use Rattle.folder.proofs.ResultStates.{names-with_work, names-with_collection, valid-with_work, valid-with_collection, one-form, new-ref, work-is-run}
 

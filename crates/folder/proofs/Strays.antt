@@ -17,6 +17,7 @@ use Rattle.catalog_core.specs.Table.{Table, empty_table}
 use Rattle.journal_store.specs.Journals.{generation_of, Keeps}
 use Rattle.journal_store.specs.Readings.{generation_file, is_journal_file, IsJournalFile}
 use Rattle.journal_store.specs.declared.journal.Journal.{Journal}
+use Rattle.journal_store.proofs.MakingLemmas.{log_is_journal}
 use Rattle.folder.specs.Folders.{journal_of, table_in}
 use Rattle.folder.specs.InUse.{IsInUse}
 use Rattle.folder.specs.Left.{Everything, StaysSound}
@@ -26,7 +27,7 @@ use Rattle.folder.specs.Standing.{Stands, Means}
 use Rattle.folder.specs.State.{State, Names, extent_of, states_of, stream_of, table}
 use Rattle.folder.specs.Unnamed.{HasRoot, IsLogOrUnnamed, IsUnnamed, ChangesUnnamed, ChangesLogsOrUnnamed, named_by}
 use Rattle.folder.specs.declared.folder.Folder.{Folder}
-use Rattle.folder.proofs.Frames.{holds_beside, log_is_journal, root_is_journal}
+use Rattle.folder.proofs.Frames.{holds_beside, root_is_journal}
 
 -- ---- what is named
 

@@ -20,12 +20,12 @@ use Rattle.plan_core.specs.TypedRows.{HaveKinds, AreOfStreams}
 use Rattle.plan_laws.specs.ValidRows.{IsValidRow, AreValidRows}
 use Rattle.plan_laws.specs.ValidRows as laws
 use Rattle.estimator.specs.Cuts.{Cuts}
+use Rattle.rewrite_core.proofs.Looking.{Contains-first, Contains-behind}
 use Rattle.growth_laws.specs.Lists.{extents_of, interval_rows, lists_at}
 use Rattle.catalog_types.specs.PlainEntry.{PlainEntry}
 use Rattle.catalog_core.specs.Programs.{AreCuts}
 use Rattle.folder.specs.State.{Extent, Stream, State, IsEntryOf, IsValid, states_of, kinds_in, rows_in, extents_in}
 use Rattle.folder.specs.Files.{result_of, no_result, results_in}
-use Rattle.folder.proofs.NextStates.{Contains-first, Contains-behind}
 
 all-mapped : {A B : Type 0} (f : A → B) (P : B → Type 0) (xs : List A) → ((x : A) → Contains xs x → P (f x)) → AllByRecursion P (map f xs)
 all-mapped f P [] is = tt

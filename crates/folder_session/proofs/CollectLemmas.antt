@@ -1,10 +1,9 @@
 -- A collection, and what is told of kept results.
-use Rattle.std.proofs.Common.{◌≡◌, ◌⊎◌, ◌↔◌, inl, inr, refl, sym, ap, ◌∙◌, subst, ℕ, ◌<◌, ◌==◌, ◌||◌, nat_le, Bool, true, false, IsTrue, List, [], ◌∷◌, map, Err, IsErrOf, arith}
+use Rattle.std.proofs.Common.{◌≡◌, ◌⊎◌, ◌↔◌, inl, inr, refl, sym, ap, ◌∙◌, subst, ℕ, ◌==◌, ◌||◌, nat_le, Bool, true, false, IsTrue, List, [], ◌∷◌, map, Err, IsErrOf, arith}
 use Rattle.std.specs.List.{All, AllByRecursion, Contains}
-use Rattle.std.proofs.lemmas.Bool.{eq-eqb, eqb-true}
+use Rattle.std.proofs.lemmas.Bool.{eqb-true}
 use Rattle.std.proofs.lemmas.Bool.Decides.{nat_tests}
 use Rattle.std.proofs.lemmas.List.Elements.{All-from_recursion}
-use Rattle.std.proofs.lemmas.List.Folds.{list_any_at}
 use Rattle.std.proofs.lemmas.List.Sorted.{list_any-IsPermutation}
 use Rattle.outside_traits.specs.View.{View}
 use Rattle.outside_traits.proofs.RunLemmas.{narrows_none, spans_wider}
@@ -28,6 +27,7 @@ use Rattle.script_text.specs.declared.answer.LimitKind.TheVariants as limit
 use Rattle.script_text.specs.declared.item.Command.{Command}
 use Rattle.script_text.specs.declared.item.Command.TheVariants as command
 use Rattle.planning.specs.Recorded.{IsRecordOf}
+use Rattle.planning.proofs.Fetches.{not_full}
 use Rattle.journal_store.specs.Journals.{generation_of}
 use Rattle.journal_store.specs.Readings.{generation_file}
 use Rattle.journal_store.specs.declared.journal.Journal.{Journal}
@@ -38,6 +38,7 @@ use Rattle.folder.specs.Removing.{IsFree}
 use Rattle.folder.specs.Replay.{is_checkpoint}
 use Rattle.folder.specs.Sound.{Care}
 use Rattle.folder.specs.Standing.{IsNext}
+use Rattle.later_states.proofs.Tables.{among-has}
 use Rattle.folder.specs.State.{State, table}
 use Rattle.folder_session.specs.declared.session.FolderSession.{FolderSession}
 use Rattle.folder_session.specs.Causes.{SparesStore, TellsOfNoFile}
@@ -87,13 +88,6 @@ module _ (told : Table → Answer) (t : Table) (given : Answer) (tells : Tells t
   list_leaves v is = told_or (λ a. LeavesWhereRefused a v v) is (narrows_none v)
 
 -- ---- what a collection answers
-
-not_full : (ticks : ℕ) → ticks < most_ticks → nat_le most_ticks ticks ≡ false
-not_full ticks low = by (nat_le most_ticks ticks) refl
-  where
-    by : (b : Bool) → nat_le most_ticks ticks ≡ b → b ≡ false
-    by true is = absurd (grind (arith, nat_tests))
-    by false is = refl
 
 is_full : (ticks : ℕ) → ticks ≡ most_ticks → nat_le most_ticks ticks ≡ true
 is_full ticks most = by (nat_le most_ticks ticks) refl
@@ -148,9 +142,6 @@ next_collection care v s t same held reclaim plan is left next =
 abbrev NamesFree : Type 0
 NamesFree = (t : Table) (ids : List ℕ) (e : PlainEntry) → IsTable t → Contains t.entries e → IsTrue (is_among ids e.id) → IsFree (after (change.Collect ids) t) e.file.file
 
-pub has_id : (ids : List ℕ) (id : ℕ) → Contains ids id → is_among ids id ≡ true
-has_id ids id has = list_any_at (λ (other : ℕ). other == id) ids has.0 id has.1 (ap (λ (other : ℕ). other == id) has.2 ∙ eq-eqb id id refl)
-
 module _ (names_free : NamesFree) (t : Table) (is_table : IsTable t) (held : List ℕ) (reclaim : ℕ) (plan : CollectionPlan) (is : IsCollectionPlan t held reclaim plan) where
   abbrev Next : Table
   Next = after (change.Collect is.ascending) t
@@ -159,7 +150,7 @@ module _ (names_free : NamesFree) (t : Table) (is_table : IsTable t) (held : Lis
   goes e has =
       let there = (is.collection.victims.can_go e has).0 in
       let same : (file_of t e.id).file ≡ e.file.file = ap (λ file. file.file) (found-own t e is_table there).0 in
-      let named : is_among plan.ids.items e.id ≡ true = subst (λ (ids : List ℕ). is_among ids e.id ≡ true) (sym is.collection.victims.named) (has_id _ e.id (contains_map is.collection.victims.taken has)) in
+      let named : is_among plan.ids.items e.id ≡ true = subst (λ (ids : List ℕ). is_among ids e.id ≡ true) (sym is.collection.victims.named) (among-has _ e.id (contains_map is.collection.victims.taken has)) in
       let among : is_among is.ascending e.id ≡ true = sym (list_any-IsPermutation (λ (other : ℕ). other == e.id) plan.ids.items is.ascending is.same) ∙ named in
       subst (IsFree Next) (sym same) (names_free t is.ascending e is_table there among)
     where

@@ -1,5 +1,5 @@
 -- What a command leaves as it was.
-use Rattle.std.proofs.Common.{◌≡◌, ◌∙◌, ℕ, ◌+◌, ◌≤◌, List, Ok, Err, Result, IfOk, IsErrOf, OnOk, OnErr, ◌⊎◌, refl, sym, subst, inl, inr, arith}
+use Rattle.std.proofs.Common.{◌≡◌, ℕ, ◌+◌, ◌≤◌, List, Ok, Err, Result, IfOk, IsErrOf, OnErr, ◌⊎◌, refl, sym, subst, inl, inr, arith}
 use Rattle.std.specs.List.{Contains}
 use Rattle.rows_core.specs.declared.file_ref.FileRef.{FileRef}
 use Rattle.outside_traits.specs.Counts.{Rose}
@@ -22,6 +22,7 @@ use Rattle.folder.specs.Folders.{journal_of, table_in}
 use Rattle.folder.specs.Removing.{ChangesAmong}
 use Rattle.folder.specs.Written.{ChangesFrom}
 use Rattle.folder.specs.declared.folder.Folder.{Folder}
+use Rattle.folder.proofs.FilesWritten.{counted_on}
 use Rattle.folder_session.specs.declared.session.FolderSession.{FolderSession}
 use Rattle.rows_core.specs.declared.schema.Column.{Column}
 use Rattle.script_text.specs.declared.item.Command.{Command}
@@ -33,11 +34,6 @@ use Rattle.folder_session.specs.WorkRefusals.{refusal_of}
 pub leaves_given : (u v : View) (given : Answer) → LeavesWhereRefused given u v → (result : Result (FolderSession × Answer) Failed) → IfOk result (λ next. next.1 ≡ given) → IfOk result (λ next. LeavesWhereRefused next.1 u v)
 leaves_given u v given leaves (Ok next) is = subst (λ (a : Answer). LeavesWhereRefused a u v) (sym is) leaves
 leaves_given u v given leaves (Err failed) is = tt
-
--- a count that nothing raised before
-pub count_then : {T E : Type 0} (result : Result T E) (a b c : ℕ) → b ≡ a → OnOk result (c ≡ b) → OnOk result (c ≡ a)
-count_then (Ok x) a b c first then = then ∙ first
-count_then (Err e) a b c first then = tt
 
 -- ---- which files are written
 

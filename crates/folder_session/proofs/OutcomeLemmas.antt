@@ -32,6 +32,7 @@ use Rattle.script_text.specs.declared.answer.Refusal.{Refusal}
 use Rattle.script_text.specs.declared.answer.Refusal.TheVariants as refusal
 use Rattle.script_text.specs.declared.item.Command.{Command}
 use Rattle.script_text.specs.declared.item.Command.TheVariants as command
+use Rattle.growth_laws.proofs.AddedRows.{ok_is}
 use Rattle.folder.specs.Sound.{Care}
 use Rattle.folder.specs.Next.{with_collection}
 use Rattle.folder.specs.State.{State, table, kinds_in, lists_in}
@@ -51,9 +52,6 @@ data WorksAs (care : Care) (s : State) (program : Option Program) (plan : PlainP
 
 ok_or_not : {A : Type 0} (r : Result A Overflow) (x : A) → r ≡ Ok x → r ≡ Err overflow → ⊥
 ok_or_not r x is not = cc
-
-same_ok : {A : Type 0} (r : Result A Overflow) (x y : A) → r ≡ Ok x → r ≡ Ok y → x ≡ y
-same_ok r x y is also = cc
 
 abbrev pub HaveOneNormalForm : Type 0
 HaveOneNormalForm = (schemas : List Kinds) (plan one other : PlainPlan) → IsNormalFormOf schemas plan one → IsNormalFormOf schemas plan other → one ≡ other
@@ -97,7 +95,7 @@ module _ (one : HaveOneNormalForm) (care : Care) (s : State) (program : Option P
   results_agree : (rows others : Rows) (used kept used_by kept_by : List ℕ) (read read_by : ℕ) (form other : PlainPlan) (a b : State) → WorksInTurns care s program plan form cuts (given rows used kept read) a → WorksInTurns care s program plan other cuts (given others used_by kept_by read_by) b
       → AgreeOn (answer.Result rows used kept read) a (answer.Result others used_by kept_by read_by) b
   results_agree rows others used kept used_by kept_by read read_by form other a b first second = (
-    same_ok _ rows others first.rows second.rows,
+    ok_is _ rows others first.rows second.rows,
     record {
       tick = ap (λ x. x.tick) first.after ∙ sym (ap (λ x. x.tick) second.after);
       streams = ap (λ x. x.streams) first.after ∙ sym (ap (λ x. x.streams) second.after);

@@ -1,5 +1,5 @@
 -- What the rows of one more extent make of what was made of the earlier ones.
-use Rattle.std.proofs.Common.{◌≡◌, refl, sym, ap, ◌∙◌, subst, ℕ, ◌+◌, [], ◌∷◌, ◌++◌, length-append, Result, Ok, Err, arith}
+use Rattle.std.proofs.Common.{◌≡◌, refl, sym, ap, ◌∙◌, subst, ℕ, ◌+◌, [], ◌∷◌, ◌++◌, Result, Ok, Err, arith}
 use Rattle.rows_core.specs.declared.overflow.Overflow.{Overflow}
 use Rattle.scalar_ops.specs.Meaning.{overflow}
 use Rattle.row_blob.specs.declared.kept.Kept.{Kept}
@@ -14,7 +14,7 @@ use Rattle.plan_laws.specs.GrowthOfGroups.{groups_of}
 use Rattle.plan_laws.specs.GrowthOfRows.{joined}
 use Rattle.growth_laws.specs.Chains.{IsChain, IsOneStream}
 use Rattle.growth_laws.specs.Growth.{Made, whole_made}
-use Rattle.growth_laws.proofs.ChainRows.{chain_joined, chain_takes_in}
+use Rattle.growth_laws.proofs.ChainRows.{chain_joined, chain_takes_in, joined_counted}
 use Rattle.result_ops.specs.declared.stop.Stop.{Stop}
 use Rattle.result_ops.specs.declared.stop.Stop.TheVariants as stop
 use Rattle.gathering.specs.Holding.{chain_of, made_of_chain, Follows}
@@ -63,17 +63,12 @@ whole_of (Order child keys) is rows = absurd is
 
 -- ---- one list and then another one
 
-both_counted : (m n : Result Rows Overflow) (rows : Rows) → joined m n ≡ Ok rows → row_count (joined m n) ≡ row_count m + row_count n
-both_counted (Ok x) (Ok y) rows is = length-append x y
-both_counted (Ok x) (Err e) rows is = absurd (cc)
-both_counted (Err e) n rows is = absurd (cc)
-
 operator_takes_in : (child : PlainPlan) → IsChain child → (a b rows : Rows) → plan_meaning child ((a ++ b) ∷ []) ≡ Ok rows
     → rows_given child ((a ++ b) ∷ []) + rows_taken_in child ((a ++ b) ∷ []) ≡ rows_given child (a ∷ []) + rows_taken_in child (a ∷ []) + (rows_given child (b ∷ []) + rows_taken_in child (b ∷ []))
 operator_takes_in child is a b rows gave =
     let joins = chain_joined child is a b in
     let counts : rows_given child ((a ++ b) ∷ []) ≡ rows_given child (a ∷ []) + rows_given child (b ∷ []) =
-    ap row_count joins ∙ both_counted (plan_meaning child (a ∷ [])) (plan_meaning child (b ∷ [])) rows (sym joins ∙ gave) in
+    ap row_count joins ∙ joined_counted (plan_meaning child (a ∷ [])) (plan_meaning child (b ∷ [])) rows (sym joins ∙ gave) in
     omega (arith, counts, chain_takes_in child is a b rows gave)
 
 pub takes_in_both : (plan : PlainPlan) → IsOneStream plan → (a b rows : Rows) → given plan (a ++ b) ≡ Ok rows → rows_taken_in plan ((a ++ b) ∷ []) ≡ rows_taken_in plan (a ∷ []) + rows_taken_in plan (b ∷ [])

@@ -18,14 +18,14 @@ use Rattle.plan_core.specs.TypedRows.{HaveKinds, AreOfStreams}
 use Rattle.plan_laws.specs.GrowthOfGroups.{groups_of}
 use Rattle.plan_laws.proofs.Answers.{both_ok}
 use Rattle.plan_laws.proofs.GroupBounds.{are_groups, have_averages}
-use Rattle.plan_laws.proofs.TypedParts.{GivesTypedRows}
+use Rattle.plan_laws.proofs.TypedParts.{GivesTypedRows, there, some_of}
 use Rattle.plan_laws.proofs.TypedPlans.{and_then}
+use Rattle.plan_laws.proofs.KeptBounds.{given_as}
 use Rattle.growth_laws.specs.Chains.{IsChain, IsOneStream}
 use Rattle.growth_laws.specs.Growth.{Made, whole_made}
 use Rattle.growth_laws.specs.Making.{IsFormOf}
 use Rattle.result_ops.specs.Bounds.{limit, IsBounded}
 use Rattle.result_ops.specs.Fitting.{IsFit}
-use Rattle.result_ops.proofs.FitInputs.{there, some_of, given_kinds}
 use Rattle.result_ops.proofs.FitLaws.{one_fit}
 use Rattle.gathering.specs.declared.held.Held.{Held}
 use Rattle.gathering.specs.declared.progress.Going.{Going}
@@ -60,7 +60,7 @@ module _ (law : GivesTypedRows) (schemas : List Kinds) where
   rows_fit plan lists rows formed bounded typed of is =
       let kinds = there (plan_kinds schemas plan) typed in
       let have : HaveKinds kinds.0 rows = subst (λ r. IfOk r (HaveKinds kinds.0)) is (law schemas plan kinds.0 lists kinds.1 of) in
-      record { form_is = formed; kinds_are = subst (λ k. HaveKinds k rows) (sym (given_kinds schemas plan kinds.0 kinds.1)) have; bounded = bounded }
+      record { form_is = formed; kinds_are = subst (λ k. HaveKinds k rows) (sym (given_as schemas plan kinds.0 kinds.1)) have; bounded = bounded }
 
   chain_fit : (plan : PlainPlan) (lists : List Rows) (rows : Rows) → IsChain plan → IsSome (plan_kinds schemas plan) → AreOfStreams schemas (leaves plan) lists → plan_meaning plan lists ≡ Ok rows → IsFit schemas plan (kept.Rows rows)
   chain_fit (Scan stream) lists rows is typed of gave = rows_fit (Scan stream) lists rows tt tt typed of gave

@@ -37,17 +37,17 @@ chain_joined (Concat left right) is a b = absurd is
 chain_joined (Order child keys) is a b = absurd is
 
 -- where there is no overflow, the rows of both are counted
-counted : (m n : Result Rows Overflow) (rows : Rows) → joined m n ≡ Ok rows → row_count (joined m n) ≡ row_count m + row_count n
-counted (Ok x) (Ok y) rows is = length-append x y
-counted (Ok x) (Err e) rows is = absurd (cc)
-counted (Err e) n rows is = absurd (cc)
+pub joined_counted : (m n : Result Rows Overflow) (rows : Rows) → joined m n ≡ Ok rows → row_count (joined m n) ≡ row_count m + row_count n
+joined_counted (Ok x) (Ok y) rows is = length-append x y
+joined_counted (Ok x) (Err e) rows is = absurd (cc)
+joined_counted (Err e) n rows is = absurd (cc)
 
 module _ (child : PlainPlan) (a b : Rows) (joins : plan_meaning child ((a ++ b) ∷ []) ≡ joined (plan_meaning child (a ∷ [])) (plan_meaning child (b ∷ []))) where
   over_child : (rows : Rows) → plan_meaning child ((a ++ b) ∷ []) ≡ Ok rows → rows_taken_in child ((a ++ b) ∷ []) ≡ rows_taken_in child (a ∷ []) + rows_taken_in child (b ∷ [])
       → rows_given child ((a ++ b) ∷ []) + rows_taken_in child ((a ++ b) ∷ []) ≡ rows_given child (a ∷ []) + rows_taken_in child (a ∷ []) + (rows_given child (b ∷ []) + rows_taken_in child (b ∷ []))
   over_child rows gave taken =
       let given : rows_given child ((a ++ b) ∷ []) ≡ rows_given child (a ∷ []) + rows_given child (b ∷ []) =
-      ap row_count joins ∙ counted (plan_meaning child (a ∷ [])) (plan_meaning child (b ∷ [])) rows (sym joins ∙ gave) in
+      ap row_count joins ∙ joined_counted (plan_meaning child (a ∷ [])) (plan_meaning child (b ∷ [])) rows (sym joins ∙ gave) in
       omega (arith, given, taken)
 
 pub chain_takes_in : (plan : PlainPlan) → IsChain plan → (a b rows : Rows) → plan_meaning plan ((a ++ b) ∷ []) ≡ Ok rows

@@ -117,7 +117,7 @@ distinct_child : {P : PlainPlan → Type 0} (q : PlainPlan) → OfDistinctChild 
 distinct_child (plan.Distinct child) is = (child, is)
 distinct_child _ is = absurd is
 
-scan_is_gathered : (p : PlainPlan) (c : Cuts) → is_gathered (Node p c Scan) ≡ true
+pub scan_is_gathered : (p : PlainPlan) (c : Cuts) → is_gathered (Node p c Scan) ≡ true
 scan_is_gathered (plan.Scan stream) c = refl
 scan_is_gathered (plan.Filter child test) c = refl
 scan_is_gathered (plan.Project child columns) c = refl

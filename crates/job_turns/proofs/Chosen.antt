@@ -1,7 +1,7 @@
 -- Work of a rewriting that is taken anew.
-use Rattle.std.proofs.Common.{◌≡◌, refl, sym, ap, ◌∙◌, subst, ℕ, ◌==◌, ◌||◌, Bool, true, false, List, [], ◌∷◌, ◌++◌, inl, inr, arith}
+use Rattle.std.proofs.Common.{◌≡◌, refl, sym, ap, ◌∙◌, subst, ℕ, ◌==◌, ◌||◌, Bool, true, false, List, [], ◌∷◌, ◌++◌, inl, inr}
 use Rattle.std.specs.List.{Contains, list_all, list_any}
-use Rattle.std.proofs.lemmas.Bool.{eqb-true, false≢true, and_parts}
+use Rattle.std.proofs.lemmas.Bool.{false≢true, and_parts}
 use Rattle.std.proofs.lemmas.List.Folds.{list_any-append, list_any_at}
 use Rattle.std.proofs.Math.Bool.{or-true}
 use Rattle.plan_core.specs.PlainPlan.{PlainPlan, plan_of}
@@ -24,6 +24,7 @@ use Rattle.executor.specs.Progress.{ArePartsOf, HaveRead}
 use Rattle.folder.specs.Files.{results_in}
 use Rattle.folder.specs.State.{State, kinds_in, extents_in}
 use Rattle.later_states.specs.Later.{AreFree}
+use Rattle.later_states.proofs.Tables.{among-has, among-is}
 use Rattle.plan_choice.specs.Leaving.{leaving_out}
 use Rattle.plan_choice.specs.Taken.{IsChoice, IsTaken}
 use Rattle.plan_choice.specs.declared.choosing.Choice.{Choice}
@@ -105,9 +106,6 @@ module _ (serve : TakenServe) (more : LeftServe) (t : Table) (ids : List ℕ) (p
 
 -- ---- ids that are left out aren't used
 
-own : (i : ℕ) → (i == i) ≡ true
-own i = grind (arith)
-
 listed : (p : ℕ → Bool) (ids : List ℕ) (id : ℕ) → list_all p ids ≡ true → Contains ids id → p id ≡ true
 listed p [] id all has = absurd (Contains-none id has)
 listed p (x ∷ xs) id all has =
@@ -117,37 +115,22 @@ listed p (x ∷ xs) id all has =
       | inr more ↦ listed p xs id parts.1 more
     ]
 
-has-id : (ids : List ℕ) (id : ℕ) → Contains ids id → is_among ids id ≡ true
-has-id [] id has = absurd (Contains-none id has)
-has-id (x ∷ xs) id has = elim (Contains-cons_cases x xs id has) [
-  | inl same ↦ ap (λ (b : Bool). b || is_among xs id) (subst (λ (i : ℕ). (x == i) ≡ true) same (own x))
-  | inr more ↦ ap (λ (b : Bool). (x == id) || b) (has-id xs id more) ∙ or-true (x == id)
-]
-
 pub spared : (ids dropped : List ℕ) (es : List PlainEntry) (used : List ℕ) → kept.AreIdsOf (without (ids ++ dropped) es) used → AreFree used dropped
 spared ids dropped es used are = λ id gone is.
     let e = entry-there (without (ids ++ dropped) es) id (listed (is_there (without (ids ++ dropped) es)) used id are.there is) in
     let free : is_among (ids ++ dropped) id ≡ false = subst (λ (i : ℕ). is_among (ids ++ dropped) i ≡ false) e.2 (left-has (ids ++ dropped) es e.0 e.1).1 in
-    let has : is_among (ids ++ dropped) id ≡ true = list_any-append (λ (x : ℕ). x == id) ids dropped ∙ ap (λ (b : Bool). is_among ids id || b) (has-id dropped id gone) ∙ or-true (is_among ids id) in
+    let has : is_among (ids ++ dropped) id ≡ true = list_any-append (λ (x : ℕ). x == id) ids dropped ∙ ap (λ (b : Bool). is_among ids id || b) (among-has dropped id gone) ∙ or-true (is_among ids id) in
     false≢true (sym free ∙ has)
 
 -- ---- whether one of some ids is among others
 
-among-has : (ids : List ℕ) (id : ℕ) → is_among ids id ≡ true → Contains ids id
-among-has [] id is = absurd (false≢true is)
-among-has (x ∷ xs) id is = by (x == id) refl is (among-has xs id)
-  where
-    by : (b : Bool) → (x == id) ≡ b → (b || is_among xs id) ≡ true → (is_among xs id ≡ true → Contains xs id) → Contains (x ∷ xs) id
-    by true same among rest = subst (Contains (x ∷ xs)) (eqb-true x id same) (at_front x xs)
-    by false same among rest = behind x xs id (rest among)
-
 pub none-of : (ids others : List ℕ) → list_any (is_among others) ids ≡ false → AreFree ids others
-none-of ids others none = λ id is has. false≢true (sym none ∙ list_any_at (is_among others) ids has.0 id has.1 (ap (is_among others) has.2 ∙ has-id others id is))
+none-of ids others none = λ id is has. false≢true (sym none ∙ list_any_at (is_among others) ids has.0 id has.1 (ap (is_among others) has.2 ∙ among-has others id is))
 
 pub one-of : (ids others : List ℕ) → list_any (is_among others) ids ≡ true → HaveOneOf ids others
 one-of [] others is = absurd (false≢true is)
 one-of (x ∷ ids) others is = by (is_among others x) refl is (one-of ids others)
   where
     by : (b : Bool) → is_among others x ≡ b → (b || list_any (is_among others) ids) ≡ true → (list_any (is_among others) ids ≡ true → HaveOneOf ids others) → HaveOneOf (x ∷ ids) others
-    by true among any rest = (x, at_front x ids, among-has others x among)
+    by true among any rest = (x, at_front x ids, among-is others x among)
     by false among any rest = (let of = rest any in (of.0, behind x ids of.0 of.1, of.2))

@@ -15,7 +15,7 @@ use Rattle.journal_store.specs.Journals.{generation_of, Keeps, HaveFormerOrNext}
 use Rattle.journal_store.proofs.MakingLemmas.{root_is_journal, log_is_journal, only_beside}
 use Rattle.journal_store.proofs.Numbers.{numbers_more, length-number_bytes, length-front_generations}
 
-root_not_log : (g : ℕ) → 0 ≢ generation_file g
+pub root_not_log : (g : ℕ) → 0 ≢ generation_file g
 root_not_log g is = let e : 0 ≡ 4294967296 + g = is in omega (arith, e)
 
 -- ## The next log is made

@@ -1,8 +1,7 @@
 -- A rewriting that names held kept results serves a later table too, and its files have the same bytes.
-use Rattle.std.proofs.Common.{◌≡◌, refl, sym, ap, ◌∙◌, subst, inl, inr, ℕ, ◌+◌, ◌<◌, ◌==◌, ◌||◌, Bool, true, false, List, [], ◌∷◌, length, slice_get, Option, unwrap_or, get_or}
+use Rattle.std.proofs.Common.{◌≡◌, refl, sym, ap, ◌∙◌, subst, inl, inr, ℕ, ◌+◌, ◌<◌, List, [], ◌∷◌, length, slice_get, Option, unwrap_or, get_or}
 use Rattle.std.specs.List.{Contains, AllByRecursion}
 use Rattle.std.specs.Option.{option_map}
-use Rattle.std.proofs.lemmas.Bool.{eqb-true}
 use Rattle.std.proofs.lemmas.List.Elements.{Contains-get_or, recursion_from_All}
 use Rattle.std.proofs.lemmas.List.Sums.{sum_by-cons}
 use Rattle.plan_core.specs.PlainPlan.{PlainPlan}
@@ -16,7 +15,6 @@ use Rattle.rewrite_core.proofs.Looking.{Contains-first, Contains-behind, Contain
 use Rattle.cache_index.specs.Asked.{entry, asked}
 use Rattle.catalog_types.specs.PlainEntry.{PlainEntry}
 use Rattle.catalog_types.specs.declared.extent.Extent as of_table
-use Rattle.entry_table.specs.Ids.{is_there}
 use Rattle.catalog_core.specs.IsTable.{IsTable}
 use Rattle.catalog_core.specs.Named.{HasFile, no_file, file_at, bytes_named}
 use Rattle.catalog_core.specs.Programs.{extents_at}
@@ -24,6 +22,7 @@ use Rattle.catalog_core.specs.Table.{Table}
 use Rattle.catalog_core.proofs.AskedResults.{asked-is, found-own}
 use Rattle.catalog_core.proofs.Typings.{there_still}
 use Rattle.plan_choice.specs.Taken.{kept_in}
+use Rattle.work_run.proofs.Taken.{entry-there}
 use Rattle.later_states.specs.Later.{IsSameResult, IsLater, AreHeld}
 use Rattle.later_states.proofs.Renamed.{renamed-where}
 use Rattle.later_states.proofs.Streams.{extents-grown}
@@ -69,15 +68,6 @@ all-held held r ids of are =
 abbrev pub IsKeptId : Table → ℕ → Type 0
 IsKeptId t id = (e : PlainEntry) × Contains t.entries e × (e.id ≡ id)
 
--- the kept result that is there
-there-is : (es : List PlainEntry) (id : ℕ) → is_there es id ≡ true → (e : PlainEntry) × Contains es e × (e.id ≡ id)
-there-is [] id is = absurd cc
-there-is (x ∷ xs) id is = by (x.id == id) refl is (there-is xs id)
-  where
-    by : (b : Bool) → (x.id == id) ≡ b → b || is_there xs id ≡ true → (is_there xs id ≡ true → (e : PlainEntry) × Contains xs e × (e.id ≡ id)) → (e : PlainEntry) × Contains (x ∷ xs) e × (e.id ≡ id)
-    by true same is rest = (x, Contains-first x xs, eqb-true x.id id same)
-    by false same is rest = let e = rest is in (e.0, Contains-behind x xs e.0 e.1, e.2)
-
 -- the file of an extent that is there, or of a kept result that is held
 abbrev pub StaysFile : List ℕ → Table → FileName → Type 0
 StaysFile held t (Extent stream number) = number < length (extents_at t.streams stream)
@@ -87,7 +77,7 @@ StaysFile held t (Result id) = Contains held id × IsKeptId t id
 pub files-stay : (held : List ℕ) (t : Table) (files : List FileName) → AllByRecursion (HasFile t) files → AllByRecursion (Contains held) (ids_in files) → AllByRecursion (StaysFile held t) files
 files-stay held t [] there are = tt
 files-stay held t (Extent stream number ∷ files) there are = (there.0, files-stay held t files there.1 are)
-files-stay held t (Result id ∷ files) there are = ((are.0, there-is t.entries id there.0), files-stay held t files there.1 are.1)
+files-stay held t (Result id ∷ files) there are = ((are.0, entry-there t.entries id there.0), files-stay held t files there.1 are.1)
 
 -- ---- their bytes
 

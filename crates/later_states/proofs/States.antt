@@ -25,7 +25,7 @@ added-stream : (xs ys : List Stream) → HaveMoreRows xs (xs ++ ys)
 added-stream [] ys = tt
 added-stream (x ∷ xs) ys = (no-more x, added-stream xs ys)
 
-added-rows : (e : Extent) (xs : List Stream) (place : ℕ) → HaveMoreRows xs (updated (grown e) xs place)
+pub added-rows : (e : Extent) (xs : List Stream) (place : ℕ) → HaveMoreRows xs (updated (grown e) xs place)
 added-rows e [] place = tt
 added-rows e (x ∷ xs) zero = ((e ∷ [], refl), same-rows xs)
 added-rows e (x ∷ xs) (suc n) = (no-more x, added-rows e xs n)

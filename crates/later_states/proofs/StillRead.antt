@@ -19,9 +19,9 @@ use Rattle.catalog_types.specs.PlainEntry.{PlainEntry}
 use Rattle.catalog_core.specs.IsTable.{IsTable}
 use Rattle.catalog_core.specs.Programs.{extents_at}
 use Rattle.catalog_core.proofs.Typings.{sides}
+use Rattle.catalog_core.proofs.AskedResults.{all-at}
 use Rattle.folder.specs.Files.{form_of, result_of, results_in}
 use Rattle.folder.specs.State.{State, table, states_of, kinds_in, extents_in, lists_in}
-use Rattle.folder.proofs.GrownStreams.{all-at}
 use Rattle.folder.proofs.HeldForms.{result-with}
 use Rattle.later_states.specs.Later.{IsSameResult, IsLaterState}
 use Rattle.later_states.proofs.Kept.{StaysFile, kept-later}

@@ -14,6 +14,7 @@ use Rattle.catalog_core.specs.Results.{IsOver}
 use Rattle.catalog_core.proofs.Bindings.{bound-still}
 use Rattle.catalog_core.proofs.OverStreams.{cuts-stay}
 use Rattle.catalog_core.proofs.Typings.{typed_still}
+use Rattle.catalog_core.proofs.StoredPrograms.{as-many}
 use Rattle.later_states.specs.Later.{IsGrown, AreGrown}
 
 -- what is the same of each stream stands in front
@@ -40,10 +41,6 @@ extents-grown [] news are leaf = (extents_at news leaf, refl)
 extents-grown (old ∷ olds) [] are leaf = absurd are
 extents-grown (old ∷ olds) (new ∷ news) are zero = (are.0.more, are.0.extents)
 extents-grown (old ∷ olds) (new ∷ news) are (suc leaf) = extents-grown olds news are.1 leaf
-
-as-many : (streams : List StreamState) → length (names_of streams) ≡ length (columns_of streams)
-as-many [] = refl
-as-many (x ∷ xs) = ap suc (as-many xs)
 
 module _ (olds news : List StreamState) (are : AreGrown olds news) where
   not-fewer : (leaf : ℕ) → length (extents_at olds leaf) ≤ length (extents_at news leaf)

@@ -1,7 +1,8 @@
 -- Tables that come later: the table itself, those after a change, and those later still.
 use Rattle.std.proofs.Common.{◌≡◌, ◌⊎◌, refl, sym, ap, ◌∙◌, subst, inl, inr, ℕ, zero, suc, Bool, true, false, not, ◌||◌, ◌==◌, cond, List, [], ◌∷◌, ◌++◌, append-nil, append_assoc}
 use Rattle.std.specs.List.{Contains}
-use Rattle.std.proofs.lemmas.Bool.{eqb-true}
+use Rattle.std.proofs.lemmas.Bool.{eqb-true, eq-eqb}
+use Rattle.std.proofs.lemmas.List.Folds.{list_any_at}
 use Rattle.std.proofs.lemmas.List.Elements.{Contains-append_left}
 use Rattle.rewrite_core.proofs.Looking.{Contains-first, Contains-behind, Contains-cons_cases, Contains-none}
 use Rattle.catalog_types.specs.PlainEntry.{PlainEntry}
@@ -63,13 +64,16 @@ same-twice e f g first second = record {
 same-kept : (held : List ℕ) (es : List PlainEntry) → StayKept held es es
 same-kept held es e has is = (e, has, same-result e)
 
-among-is : (ids : List ℕ) (id : ℕ) → is_among ids id ≡ true → Contains ids id
+pub among-is : (ids : List ℕ) (id : ℕ) → is_among ids id ≡ true → Contains ids id
 among-is [] id is = absurd cc
 among-is (x ∷ xs) id is = by (x == id) refl is (among-is xs id)
   where
     by : (b : Bool) → (x == id) ≡ b → b || is_among xs id ≡ true → (is_among xs id ≡ true → Contains xs id) → Contains (x ∷ xs) id
     by true same is rest = subst (Contains (x ∷ xs)) (eqb-true x id same) (Contains-first x xs)
     by false same is rest = Contains-behind x xs id (rest is)
+
+pub among-has : (ids : List ℕ) (id : ℕ) → Contains ids id → is_among ids id ≡ true
+among-has ids id has = list_any_at (λ (other : ℕ). other == id) ids has.0 id has.1 (ap (λ (other : ℕ). other == id) has.2 ∙ eq-eqb id id refl)
 
 -- what isn't left out stays
 stays-without : (ids : List ℕ) (es : List PlainEntry) (e : PlainEntry) → (Contains ids e.id → ⊥) → Contains es e → Contains (without ids es) e

@@ -9,16 +9,16 @@ use Rattle.growth_laws.specs.Parts.{plan_at}
 use Rattle.made_places.specs.Formed.{IsFormed, IsFormedWay, IsFormedDelta, delta_plan}
 use Rattle.made_places.proofs.Shapes.{HasOne, HasTwo, HasTail, by_one, by_two, by_sides, by_tail, by_delta_tail, by_distinct}
 
-plan_is : (r : PlainRewriting) (plan : PlainPlan) (cuts : Cuts) → IsRewriting whichever plan cuts r → plan_at r ≡ plan
+pub plan_is : (r : PlainRewriting) (plan : PlainPlan) (cuts : Cuts) → IsRewriting whichever plan cuts r → plan_at r ≡ plan
 plan_is (Node p c way) plan cuts is = is.0
 
-delta_plan_is : (d : PlainDelta) (plan : PlainPlan) (old new : Cuts) → IsDelta whichever plan old new d → delta_plan d ≡ plan
+pub delta_plan_is : (d : PlainDelta) (plan : PlainPlan) (old new : Cuts) → IsDelta whichever plan old new d → delta_plan d ≡ plan
 delta_plan_is (Change p o n way) plan old new is = is.0
 
-formed : (r : PlainRewriting) (plan : PlainPlan) (cuts : Cuts) → IsRewriting whichever plan cuts r → IsFormed r
+pub formed : (r : PlainRewriting) (plan : PlainPlan) (cuts : Cuts) → IsRewriting whichever plan cuts r → IsFormed r
 formed r plan cuts is = (cuts, subst (λ q. IsRewriting whichever q cuts r) (sym (plan_is r plan cuts is)) is)
 
-formed_delta : (d : PlainDelta) (plan : PlainPlan) (old new : Cuts) → IsDelta whichever plan old new d → IsFormedDelta d
+pub formed_delta : (d : PlainDelta) (plan : PlainPlan) (old new : Cuts) → IsDelta whichever plan old new d → IsFormedDelta d
 formed_delta d plan old new is = (old, new, subst (λ q. IsDelta whichever q old new d) (sym (delta_plan_is d plan old new is)) is)
 
 pub formed_way : (plan : PlainPlan) (cuts : Cuts) (way : PlainWay) → IsFormed (Node plan cuts way) → IsFormedWay plan way

@@ -1,8 +1,9 @@
 -- Counts that don't fall, and which of them rose where a run ends.
 use Rattle.std.proofs.Common.{◌≡◌, ◌∙◌, ℕ, ◌≤◌, refl, arith}
-use Rattle.outside_traits.specs.Counts.{Rose}
 use Rattle.outside_traits.specs.Calls.{Rises}
 use Rattle.outside_traits.specs.View.{Counts}
+use Rattle.folder.proofs.Freed.{rose_before}
+use Rattle.folder.proofs.Removals.{rose_on}
 use Rattle.nectar_top.specs.Outside.{Faults, NoneFell, NoWriteFailed, faults}
 use Rattle.nectar_top.specs.Loading.{HasLoadingCause, WereNotTaken}
 use Rattle.nectar_top.specs.Turns.{HasCause}
@@ -34,19 +35,12 @@ none_fell_on a b c p q = record {
 pub source_first : (s s' k k' : ℕ) (d d' : Counts) → s ≤ s' → NoneFell (faults s' k d) (faults s' k' d') → NoneFell (faults s k d) (faults s' k' d')
 source_first s s' k k' d d' counts none = record { source = counts; sink = none.sink; store = none.store }
 
-pub Rose-since : (begun before now : ℕ) → begun ≤ before → Rose before now → Rose begun now
-Rose-since begun before now counts rose = omega arith
-
--- and goes on having risen
-pub Rose-later : (before now later : ℕ) → Rose before now → now ≤ later → Rose before later
-Rose-later before now later rose counts = omega (arith, rose, counts)
-
 -- a count that rose since a later moment rose since an earlier one
 pub caused_since : (e : Exit) (a b c : Faults) → NoneFell a b → NoWriteFailed a b → HasCause e b c → HasCause e a c
 caused_since exit.ScriptLimit a b c p held cause = cause ∙ held
-caused_since exit.SourceFault a b c p held cause = (Rose-since a.source b.source c.source p.source cause.0, cause.1 ∙ held)
-caused_since exit.SinkFault a b c p held cause = (Rose-since a.sink b.sink c.sink p.sink cause.0, cause.1 ∙ held)
-caused_since exit.StoreFault a b c p held cause = Rose-since a.store.writes b.store.writes c.store.writes p.store.writes cause
+caused_since exit.SourceFault a b c p held cause = (rose_before a.source b.source c.source p.source cause.0, cause.1 ∙ held)
+caused_since exit.SinkFault a b c p held cause = (rose_before a.sink b.sink c.sink p.sink cause.0, cause.1 ∙ held)
+caused_since exit.StoreFault a b c p held cause = rose_before a.store.writes b.store.writes c.store.writes p.store.writes cause
 caused_since exit.Done a b c p held cause = absurd cause
 caused_since exit.Usage a b c p held cause = absurd cause
 caused_since exit.Memory a b c p held cause = absurd cause

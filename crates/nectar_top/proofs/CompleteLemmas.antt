@@ -16,6 +16,7 @@ use Rattle.folder.specs.State.{State}
 use Rattle.folder.specs.Left.{IsLeft}
 use Rattle.folder.specs.Replay.{StopsReading}
 use Rattle.folder.proofs.Loading.{reads_or_stops}
+use Rattle.folder.proofs.Freed.{rose_before}
 use Rattle.session.specs.Machine.{Machine, without_jobs}
 use Rattle.nectar_top.specs.Crash.{intact}
 use Rattle.nectar_top.specs.Loading.{HasLoadingCause}
@@ -26,7 +27,6 @@ use Rattle.nectar_top.specs.Run.{longest_script, IsShortScript, IsDone, IsComple
 use Rattle.nectar_top.specs.Turns.{Ends, HasCause}
 use Rattle.nectar_top.specs.declared.exit.Exit.{Exit}
 use Rattle.nectar_top.specs.declared.exit.Exit.TheVariants as exit
-use Rattle.nectar_top.proofs.CauseLemmas.{Rose-since}
 use Rattle.nectar_top.proofs.FaultLemmas.{all_items_are_sparing, not_a_fault}
 use Rattle.session.proofs.SparingLemmas.{refused_spares, step_spares}
 
@@ -78,9 +78,9 @@ complete_done s u v begun now done none = record { done = done; sparing = done_s
 -- a run that serves commands is done
 pub complete_served : (s : State) (u v : View) (e : Exit) (begun now : Outside) (input : List ℕ) (old mid new : Faults) → Ends (intact s) u v e begun now → IsShortScript begun.left input
     → NoneFell old mid → HasCause e mid new → NoneFailed old new → ⊥
-complete_served s u v exit.SourceFault begun now input old mid new ends short fell cause none = none.source (Rose-since old.source mid.source new.source fell.source cause.0)
-complete_served s u v exit.SinkFault begun now input old mid new ends short fell cause none = none.sink (Rose-since old.sink mid.sink new.sink fell.sink cause.0)
-complete_served s u v exit.StoreFault begun now input old mid new ends short fell cause none = none.writes (Rose-since old.store.writes mid.store.writes new.store.writes fell.store.writes cause)
+complete_served s u v exit.SourceFault begun now input old mid new ends short fell cause none = none.source (rose_before old.source mid.source new.source fell.source cause.0)
+complete_served s u v exit.SinkFault begun now input old mid new ends short fell cause none = none.sink (rose_before old.sink mid.sink new.sink fell.sink cause.0)
+complete_served s u v exit.StoreFault begun now input old mid new ends short fell cause none = none.writes (rose_before old.store.writes mid.store.writes new.store.writes fell.store.writes cause)
 complete_served s u v exit.ScriptLimit begun now input old mid new ends short fell cause none = too_long begun.left now.left input ends.taken ends.byte short.0 ends.took ends.full short.1
 complete_served s u v exit.Done begun now input old mid new ends short fell cause none = ends
 complete_served s u v exit.Usage begun now input old mid new ends short fell cause none = ends

@@ -35,6 +35,8 @@ use Rattle.folder.specs.Sound.{Care}
 use Rattle.folder.specs.State.{State, IsValid, table}
 use Rattle.folder.specs.declared.folder.Folder.{Folder}
 use Rattle.folder.proofs.Tables.{stands-table}
+use Rattle.folder.proofs.Freed.{rose_before}
+use Rattle.folder.proofs.Removals.{rose_on}
 use Rattle.folder_session.specs.Machine as folder
 use Rattle.folder_session.specs.Standing as of_folder
 use Rattle.session.specs.Machine.{Machine, Outcome, outcome, job_named, is_open, OpensTo, StepsTo, IsClosing, ClosesBy, ClosesTo, DropsTo, Performs, PerformsBeside, WorksBeside, Remains}
@@ -46,7 +48,6 @@ use Rattle.session.specs.declared.session.Session.{Session}
 use Rattle.nectar_top.specs.Eviction.{Went, AreGone}
 use Rattle.nectar_top.specs.Machine.{Refuses, Step}
 use Rattle.nectar_top.specs.Progress.{LeavesFree}
-use Rattle.nectar_top.proofs.CauseLemmas.{Rose-since, Rose-later}
 use Rattle.nectar_top.proofs.FreeLemmas.{LetsGo, none_there, free_same, free_stream, free_rows, free_work, free_collection, news_from}
 
 -- ---- no step names a file again
@@ -217,8 +218,8 @@ none_went s v before now = inr (λ file went. absurd (none_there s s refl file w
 -- files that were gone, and that the state names no more, still are
 pub gone_on : (before went : ℕ → Type 0) (s : State) (u v : View) (begun old new : Counts) → ((file : ℕ) → before file → IsFree (table s) file) → LeavesFree s u v → begun.removes ≤ old.removes → old.removes ≤ new.removes
     → AreGone before u begun old → AreGone went v old new → AreGone (λ file. before file ⊎ went file) v begun new
-gone_on before went s u v begun old new free leaves early more (inl rose) then = inl (Rose-later begun.removes old.removes new.removes rose more)
-gone_on before went s u v begun old new free leaves early more (inr gone) (inl rose) = inl (Rose-since begun.removes old.removes new.removes early rose)
+gone_on before went s u v begun old new free leaves early more (inl rose) then = inl (rose_on begun.removes old.removes new.removes rose more)
+gone_on before went s u v begun old new free leaves early more (inr gone) (inl rose) = inl (rose_before begun.removes old.removes new.removes early rose)
 gone_on before went s u v begun old new free leaves early more (inr gone) (inr now) = inr (λ file either. elim either [
   | inl was ↦ leaves file (free file was) ∙ gone file was
   | inr last ↦ now file last
@@ -226,7 +227,7 @@ gone_on before went s u v begun old new free leaves early more (inr gone) (inr n
 
 -- and where none went since
 pub gone_still : (before : ℕ → Type 0) (s : State) (u v : View) (begun old new : Counts) → ((file : ℕ) → before file → IsFree (table s) file) → LeavesFree s u v → old.removes ≤ new.removes → AreGone before u begun old → AreGone before v begun new
-gone_still before s u v begun old new free leaves more (inl rose) = inl (Rose-later begun.removes old.removes new.removes rose more)
+gone_still before s u v begun old new free leaves more (inl rose) = inl (rose_on begun.removes old.removes new.removes rose more)
 gone_still before s u v begun old new free leaves more (inr gone) = inr (λ file was. leaves file (free file was) ∙ gone file was)
 
 -- where less went

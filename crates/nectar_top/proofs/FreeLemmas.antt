@@ -21,6 +21,7 @@ use Rattle.catalog_core.specs.Results.{digests_of}
 use Rattle.catalog_core.specs.IsTable.{IsTable}
 use Rattle.catalog_core.specs.Table.{updated}
 use Rattle.catalog_core.proofs.OwnNumbers.{result-given, result-own, result-apart}
+use Rattle.catalog_core.proofs.Kept.{all-push}
 use Rattle.folder.specs.Next.{with_stream, with_rows, with_work, with_collection, grown, new_extent}
 use Rattle.folder.specs.Removing.{IsFree}
 use Rattle.folder_session.proofs.DroppedLemmas.{was_dropped, was_taken}
@@ -105,14 +106,10 @@ module _ (file : ℕ) where
 abbrev IsFrom : ℕ → NewResult → Type 0
 IsFrom next new = next ≤ new.entry.file.file
 
-all_push : {A : Type 0} (P : A → Type 0) (xs : List A) (y : A) → AllByRecursion P xs → P y → AllByRecursion P (xs ++ y ∷ [])
-all_push P [] y all last = (last, tt)
-all_push P (x ∷ xs) y all last = (all.0, all_push P xs y all.1 last)
-
 admitted_from : (entries : List PlainEntry) (next : ℕ) (before : List NewResult) (mades : List MadeResult) (admitted : List NewResult) → Admits entries next before mades admitted → AllByRecursion (IsFrom next) before → AllByRecursion (IsFrom next) admitted
 admitted_from entries next before [] admitted is from = subst (AllByRecursion (IsFrom next)) (sym is) from
 admitted_from entries next before (made ∷ mades) admitted (inl room) from =
-    admitted_from entries next (before ++ next_of next before made ∷ []) mades admitted room.1 (all_push (IsFrom next) before (next_of next before made) from (omega arith))
+    admitted_from entries next (before ++ next_of next before made ∷ []) mades admitted room.1 (all-push (IsFrom next) before (next_of next before made) from (omega arith))
 admitted_from entries next before (made ∷ mades) admitted (inr no_room) from = admitted_from entries next before mades admitted no_room.1 from
 
 entries_from : (next : ℕ) (admitted : List NewResult) → AllByRecursion (IsFrom next) admitted → AllByRecursion (λ new. next ≤ new.file.file) (entries_of admitted)

@@ -13,7 +13,7 @@ use Rattle.plan_canon.specs.NormalPlan.{filter_of, project_last, project_of, nor
 use Rattle.plan_core.specs.Nesting.{size, sizes, expr_count, node_count, expr_nesting, greatest_nesting, nesting}
 use Rattle.std.specs.List.{list_all}
 use Rattle.std.specs.Prelude.{not}
-use Rattle.std.proofs.lemmas.Bool.{and_parts}
+use Rattle.std.proofs.lemmas.Bool.{and_parts, eq-eqb}
 
 some_size : (e : PlainExpr) → 1 ≤ size e
 some_size (Column i) = omega arith
@@ -65,9 +65,6 @@ normal_sizes (e ∷ es) = omega (arith, normal_size e, normal_sizes es)
 
 -- ---- columns over columns
 
-same_number : (i j : ℕ) → i ≡ j → (i == j) ≡ true
-same_number i j e = grind (arith, e)
-
 more_room : (a b c : ℕ) → a ≤ c → a ≤ b + c
 more_room a b c p = omega (arith, p)
 
@@ -95,7 +92,7 @@ loads_sum i (e ∷ es) u v = omega (arith, loads_sum (i + 1) es u v)
 
 one_load : (i j : ℕ) (es : List PlainExpr) → unwrap_or (option_map load (slice_get es j)) 0 ≤ loads i es (λ m. cond (m == i + j) 1 0)
 one_load i j [] = omega arith
-one_load i zero (e ∷ es) = let here : (i == i + 0) ≡ true = same_number i (i + 0) (omega arith) in first here
+one_load i zero (e ∷ es) = let here : (i == i + 0) ≡ true = eq-eqb i (i + 0) (omega arith) in first here
   where
     first : (i == i + 0) ≡ true → load e ≤ cond (i == i + 0) 1 0 * load e + loads (i + 1) es (λ m. cond (m == i + 0) 1 0)
     first here = subst (λ t. load e ≤ cond t 1 0 * load e + loads (i + 1) es (λ m. cond (m == i + 0) 1 0)) (sym here) (omega arith)

@@ -21,8 +21,10 @@ use Rattle.plan_core.specs.ExpressionValue.{is_true as holds}
 use Rattle.plan_core.specs.PlanTyping.{Kinds, all_there, column_kind as kind_of_column, column_kind_of}
 use Rattle.plan_core.specs.Project.{project_row, project_rows}
 use Rattle.plan_core.proofs.ValueKinds.{typed_value}
+use Rattle.plan_laws.proofs.TypedPlans.{and_then}
+use Rattle.plan_laws.proofs.Answers.{both_some}
 use Rattle.plan_canon.specs.PlanRules.{may_overflow, put_in}
-use Rattle.plan_canon.proofs.SameValues.{truths, choices, unless, allowed, then_some, both_some, both, if_kind}
+use Rattle.plan_canon.proofs.SameValues.{truths, choices, unless, allowed, both, if_kind}
 
 -- ---- no overflow
 
@@ -100,7 +102,7 @@ kind_of_one (Some _) _ e = absurd cc
 pub all_front : {A : Type 0} (o : Option A) (os : List (Option A)) (ks : List A) → all_there (o ∷ os) ≡ Some ks → (k : A) × (rest : List A) × (o ≡ Some k) × (all_there os ≡ Some rest) × (ks ≡ k ∷ rest)
 all_front None os ks e = absurd cc
 all_front (Some k) os ks e =
-    let r = then_some (λ others. Some (k ∷ others)) (all_there os) ks e in
+    let r = and_then (λ others. Some (k ∷ others)) (all_there os) ks e in
     (k, r.0, refl, r.1, (let same : k ∷ r.0 ≡ ks = let h = r.2 in cc in sym same))
 
 module _ (kinds : Kinds) where
@@ -140,7 +142,7 @@ module _ (kinds : Kinds) where
       ap (λ o. expression_kind kinds (unwrap_or o (Column i))) c.there ∙ c.its ∙ ap Some j.2
   put_kind es ks all (Literal c) k h = h
   put_kind es ks all (Call1 op a) k h =
-      let arg = then_some (λ j. call_kind op (j ∷ [])) (expression_kind ks a) k h in
+      let arg = and_then (λ j. call_kind op (j ∷ [])) (expression_kind ks a) k h in
       ap (option_and_then (λ j. call_kind op (j ∷ []))) (put_kind es ks all a arg.0 arg.1) ∙ arg.2
   put_kind es ks all (Call2 op a b) k h =
       let whole = unless (is_division (op_at op)) (is_divisor b) _ k h in
@@ -203,7 +205,7 @@ module _ (row : Row) where
       ap (λ o. value_at (unwrap_or o (Column i))) c.there ∙ stands es ks out all is i c.at c.there
   put_value es ks out all is (Literal c) k h = refl
   put_value es ks out all is (Call1 op a) k h =
-      let arg = then_some (λ j. call_kind op (j ∷ [])) (expression_kind ks a) k h in
+      let arg = and_then (λ j. call_kind op (j ∷ [])) (expression_kind ks a) k h in
       ap (λ v. v >>= λ x. meaning op (x ∷ [])) (put_value es ks out all is a arg.0 arg.1)
   put_value es ks out all is (Call2 op a b) k h =
       let whole = unless (is_division (op_at op)) (is_divisor b) _ k h in

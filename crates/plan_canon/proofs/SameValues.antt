@@ -16,6 +16,8 @@ use Rattle.plan_core.specs.ExpressionKind.{expression_kind, call_kind, both_trut
 use Rattle.plan_core.specs.ExpressionValue.{◌>>=◌, expression_value}
 use Rattle.plan_core.specs.ExpressionValue.{is_true as holds}
 use Rattle.plan_core.proofs.ValueKinds.{typed_value}
+use Rattle.plan_laws.proofs.TypedPlans.{and_then}
+use Rattle.plan_laws.proofs.Answers.{both_some}
 use Rattle.plan_canon.specs.ExprRules.{truth, is_true, is_false, cell_given, call1_rule, call2_rule, and_to_the_left, or_to_the_left, and_rule, or_rule, if_rule, expr_step}
 use Rattle.plan_canon.proofs.Reached.{inside, each_of, both_of}
 
@@ -74,16 +76,6 @@ one_of _ _ k e = absurd cc
 pub choices : (o p q : Option CellKind) (k : CellKind) → choice_kind o p q ≡ Some k → (o ≡ Some kind.Bool) × (p ≡ Some k) × (q ≡ Some k)
 choices (Some kind.Bool) (Some j) (Some l) k e = let is = one_of j l k e in (refl, is.0, is.1)
 choices _ _ _ k e = absurd cc
-
-pub then_some : {A B : Type 0} (f : A → Option B) (o : Option A) (k : B) → option_and_then f o ≡ Some k → (j : A) × (o ≡ Some j) × (f j ≡ Some k)
-then_some f (Some j) k e = (j, refl, e)
-then_some f None k e = absurd cc
-
-pub both_some : {A B C : Type 0} (f : A → B → Option C) (o : Option A) (p : Option B) (k : C) → of_both f o p ≡ Some k
-    → (x : A) × (y : B) × (o ≡ Some x) × (p ≡ Some y) × (f x y ≡ Some k)
-both_some f (Some x) (Some y) k e = (x, y, refl, refl, e)
-both_some f (Some x) None k e = absurd cc
-both_some f None p k e = absurd cc
 
 -- what a division asks of its divisor, and the kind
 pub unless : (d v : Bool) (o : Option CellKind) (k : CellKind) → cond (d && not v) None o ≡ Some k → (o ≡ Some k) × (d ≡ true → v ≡ true)
@@ -161,7 +153,7 @@ module _ (kinds : List column.Kind) where
   step_kind (Column i) k h = tt
   step_kind (Literal c) k h = tt
   step_kind (Call1 op a) k h =
-      let arg = then_some (λ j. call_kind op (j ∷ [])) (expression_kind kinds a) k h in
+      let arg = and_then (λ j. call_kind op (j ∷ [])) (expression_kind kinds a) k h in
       inside (λ x. HasKind x arg.0) (λ x. HasKind x k) (Call1 op) (expr_step a) _ (λ x is. ap (option_and_then (λ j. call_kind op (j ∷ []))) is ∙ arg.2) (step_kind a arg.0 arg.1)
       (computed_kind (call1_rule op a) k (λ c e. call1_kind kinds op a c k e h))
   step_kind (Call2 op a b) k h =
@@ -301,7 +293,7 @@ module _ (row : Row) where
   step_value (Column i) k h = tt
   step_value (Literal c) k h = tt
   step_value (Call1 op a) k h =
-      let arg = then_some (λ j. call_kind op (j ∷ [])) (expression_kind (map kind_of row) a) k h in
+      let arg = and_then (λ j. call_kind op (j ∷ [])) (expression_kind (map kind_of row) a) k h in
       inside (λ x. Value x ≡ Value a) (λ x. Value x ≡ Value (Call1 op a)) (Call1 op) (expr_step a) _ (λ x is. ap (λ v. v >>= λ x. meaning op (x ∷ [])) is) (step_value a arg.0 arg.1)
       (computed_value (call1_rule op a) (Value (Call1 op a)) (λ c e. call1_value op a c e row))
   step_value (Call2 op a b) k h =

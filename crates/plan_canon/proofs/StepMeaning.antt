@@ -1,5 +1,5 @@
 -- Each rule of plans, and each step, keeps the meaning.
-use Rattle.std.proofs.Common.{◌≡◌, refl, sym, ap, ◌∙◌, subst, ℕ, suc, ◌+◌, Bool, true, false, cond, List, [], ◌∷◌, ◌++◌, map, length, take, drop, None, Some, IfSome, Result, Ok, Err, append_assoc, length-append, arith}
+use Rattle.std.proofs.Common.{◌≡◌, refl, sym, ap, ◌∙◌, subst, suc, ◌+◌, Bool, true, false, cond, List, [], ◌∷◌, ◌++◌, map, length, take, drop, None, Some, IfSome, Result, Ok, Err, append_assoc, length-append, arith}
 use Rattle.std.specs.List.{AllByRecursion}
 use Rattle.std.specs.Cmp.{IsTotalOrder}
 use Rattle.std.specs.Result.{IfOk}
@@ -26,12 +26,15 @@ use Rattle.plan_core.specs.PlanTyping.{Kinds, all_there, column_kind_of, group_k
 use Rattle.plan_core.specs.Project.{column_value, project_row, project_rows}
 use Rattle.plan_core.specs.StableOrder.{order_rows}
 use Rattle.plan_core.specs.TypedRows.{HaveKinds, AreOfStreams}
+use Rattle.plan_laws.proofs.GroupBounds.{each}
+use Rattle.plan_laws.proofs.TypedPlans.{and_then, lists_of_parts}
+use Rattle.plan_laws.proofs.Answers.{both_some}
 use Rattle.plan_canon.specs.Steps.{Reaches}
 use Rattle.plan_canon.specs.ExprRules.{truth, is_true, expr_step, exprs_step}
 use Rattle.plan_canon.specs.Normal.{MeanTheSame}
 use Rattle.plan_canon.specs.PlanRules.{width, filter_rule, may_fuse, put_in, is_column, are_columns, are_columns_from, project_none, project_rule, plan_step}
 use Rattle.plan_canon.proofs.Reached.{inside, each_of, both_of, at_step, kept}
-use Rattle.plan_canon.proofs.SameValues.{then_some, both_some, true_is, step_value}
+use Rattle.plan_canon.proofs.SameValues.{true_is, step_value}
 use Rattle.plan_canon.proofs.TestLaws.{same_test, all_pass, one_test, of_both_parts, below_order, below_distinct}
 use Rattle.plan_canon.proofs.Fused.{all_front, kind_of_one, fused_rows}
 use Rattle.plan_canon.proofs.StepTyping.{its_column, of_filter, of_concat, of_order, of_project, none_overflow, all_columns, typed_kinds, step_typing, step_leaves}
@@ -47,10 +50,6 @@ bind_assoc (Err e) f g = refl
 same_after : (P : Rows → Type 0) (x : Given) → IfOk x P → (f g : Rows → Given) → ((rows : Rows) → P rows → f rows ≡ g rows) → (x >>= f) ≡ (x >>= g)
 same_after P (Ok rows) has f g h = h rows has
 same_after P (Err e) has f g h = refl
-
-each : {A : Type 0} (P Q : A → Type 0) → ((x : A) → P x → Q x) → (xs : List A) → AllByRecursion P xs → AllByRecursion Q xs
-each P Q h [] all = tt
-each P Q h (x ∷ xs) all = (h x all.0, each P Q h xs all.1)
 
 abbrev OfKinds : Kinds → Rows → Type 0
 OfKinds kinds rows = AllByRecursion (λ row. map kind_of row ≡ kinds) rows
@@ -111,14 +110,6 @@ columns_rows kinds fs is same (row ∷ rows) h =
     kinds_length : (row : Row) → length (map kind_of row) ≡ length row
     kinds_length [] = refl
     kinds_length (v ∷ row) = ap suc (kinds_length row)
-
--- the lists of the left part's leaves, and those of the right part's
-lists_of_parts : (schemas : List Kinds) (left right : List ℕ) (lists : List Rows) → AreOfStreams schemas (left ++ right) lists
-    → AreOfStreams schemas left (take (length left) lists) × AreOfStreams schemas right (drop (length left) lists)
-lists_of_parts schemas [] right lists typed = (tt, typed)
-lists_of_parts schemas (stream ∷ left) right [] typed = absurd typed
-lists_of_parts schemas (stream ∷ left) right (rows ∷ lists) typed =
-    let rest = lists_of_parts schemas left right lists typed.1 in ((typed.0, rest.0), rest.1)
 
 -- ---- rules of tests
 
@@ -268,7 +259,7 @@ module _ (total : (keys : List Key) → IsTotalOrder (row_cmp keys)) (equal : (a
         inside (SameRows lists p) (SameRows lists (Distinct p)) Distinct (plan_step schemas p) None (λ x same. ap (λ r. r >>= λ rows. Ok (distinct_rows rows)) same)
         (step_means p k lists h typed) tt
     step_means (Group p keys aggs) k lists h typed =
-        let j = then_some (group_kinds keys aggs) (plan_kinds schemas p) k h in
+        let j = and_then (group_kinds keys aggs) (plan_kinds schemas p) k h in
         inside (SameRows lists p) (SameRows lists (Group p keys aggs)) (λ x. Group x keys aggs) (plan_step schemas p) None (λ x same. ap (λ r. r >>= group_rows keys aggs) same)
         (step_means p j.0 lists j.1 typed) tt
     step_means (Join p q on) k lists h typed =

@@ -7,6 +7,7 @@ use Rattle.plan_core.specs.declared.refusal.PlanRefusal.TheVariants.{TooMany}
 use Rattle.std.specs.Bool.{Decides}
 use Rattle.std.specs.Cmp.Lexicographic.{pointwise, pointwise_decides}
 use Rattle.std.proofs.lemmas.Bool.{false≢true, or_from, or_parts, and_parts}
+use Rattle.std.proofs.lemmas.Option.{cond_some}
 use Rattle.rows_core.specs.declared.kind.Kind as column
 use Rattle.rows_core.specs.declared.kind.Kind.TheVariants as column_kind
 use Rattle.scalar_ops.specs.declared.cell.CellKind.{CellKind}
@@ -15,11 +16,13 @@ use Rattle.plan_core.specs.PlainExpr.{PlainExpr, Column, And}
 use Rattle.plan_core.specs.PlainPlan.{PlainPlan, Scan, Filter, Project, Distinct, Group, Join, Concat, Order, leaves}
 use Rattle.plan_core.specs.ExpressionKind.{expression_kind, cell_kind_of, of_both, both_truths}
 use Rattle.plan_core.specs.PlanTyping.{Kinds, same_kind, is_empty, all_there, column_kind as kind_of_column, column_kind_of, is_truth, filter_kinds, project_kinds, group_kinds, join_kinds, concat_kinds, order_kinds, agg_kind, plan_kinds, column_count, has_too_many, is_above_limit, present_or, typed_or, absent_stream, plan_typing}
+use Rattle.plan_laws.proofs.TypedPlans.{and_then}
+use Rattle.plan_laws.proofs.Answers.{both_some}
 use Rattle.plan_canon.specs.Steps.{Reaches}
 use Rattle.plan_canon.specs.ExprRules.{is_true, expr_step, exprs_step}
 use Rattle.plan_canon.specs.PlanRules.{width, filter_rule, may_fuse, put_in, is_column, are_columns, are_columns_from, none_repeats, may_overflow, project_none, project_rule, plan_step}
 use Rattle.plan_canon.proofs.Reached.{inside, each_of, both_of, at_step, kept}
-use Rattle.plan_canon.proofs.SameValues.{then_some, both_some, both, step_kind}
+use Rattle.plan_canon.proofs.SameValues.{both, step_kind}
 use Rattle.plan_canon.proofs.Fused.{NoneOverflow, all_front, kind_of_one, put_kind}
 
 -- ---- kinds of parts
@@ -30,10 +33,6 @@ equal_numbers i j e = grind arith
 pub its_column : (i : ℕ) (e : PlainExpr) → is_column i e ≡ true → e ≡ Column i
 its_column i (Column j) e = ap Column (sym (equal_numbers i j e))
 its_column i _ e = absurd cc
-
-tested : {A : Type 0} (b : Bool) (x y : A) → cond b (Some x) None ≡ Some y → (b ≡ true) × (x ≡ y)
-tested true x y e = (refl, cc)
-tested false x y e = absurd cc
 
 otherwise : {A : Type 0} (b : Bool) (x : Option A) (y : A) → cond b None x ≡ Some y → (b ≡ false) × (x ≡ Some y)
 otherwise true x y e = absurd cc
@@ -99,8 +98,8 @@ module _ (schemas : List Kinds) where
 
   pub of_filter : (p : PlainPlan) (a : PlainExpr) (k : Kinds) → HasKinds (Filter p a) k → HasKinds p k × (expression_kind k a ≡ Some kind.Bool)
   of_filter p a k h =
-      let j = then_some (filter_kinds a) (plan_kinds schemas p) k h in
-      let t = tested (is_truth (expression_kind j.0 a)) j.0 k j.2 in
+      let j = and_then (filter_kinds a) (plan_kinds schemas p) k h in
+      let t = cond_some (is_truth (expression_kind j.0 a)) j.0 k j.2 in
       (j.1 ∙ ap Some t.1, subst (λ l. expression_kind l a ≡ Some kind.Bool) t.1 (truth_is (expression_kind j.0 a) t.0))
 
   pub to_filter : (p : PlainPlan) (a : PlainExpr) (k : Kinds) → HasKinds p k → expression_kind k a ≡ Some kind.Bool → HasKinds (Filter p a) k
@@ -109,7 +108,7 @@ module _ (schemas : List Kinds) where
   pub of_concat : (p q : PlainPlan) (k : Kinds) → HasKinds (Concat p q) k → HasKinds p k × HasKinds q k
   of_concat p q k h =
       let parts = both_some concat_kinds (plan_kinds schemas p) (plan_kinds schemas q) k h in
-      let t = tested (pointwise same_kind parts.0 parts.1) parts.0 k parts.4 in
+      let t = cond_some (pointwise same_kind parts.0 parts.1) parts.0 k parts.4 in
       let same = (pointwise_decides same_kind-Decides parts.0 parts.1).0 t.0 in
       (parts.2 ∙ ap Some t.1, parts.3 ∙ ap Some (sym same ∙ t.1))
 
@@ -118,12 +117,12 @@ module _ (schemas : List Kinds) where
 
   pub of_order : (p : PlainPlan) (keys : List _) (k : Kinds) → HasKinds (Order p keys) k → HasKinds p k
   of_order p keys k h =
-      let j = then_some (order_kinds keys) (plan_kinds schemas p) k h in
+      let j = and_then (order_kinds keys) (plan_kinds schemas p) k h in
       let t = otherwise (is_empty keys) _ k j.2 in
-      j.1 ∙ ap Some (tested _ j.0 k t.1).1
+      j.1 ∙ ap Some (cond_some _ j.0 k t.1).1
 
   pub through : (f : Kinds → Option Kinds) (p q : PlainPlan) (k : Kinds) → option_and_then f (plan_kinds schemas p) ≡ Some k → ((j : Kinds) → HasKinds p j → HasKinds q j) → option_and_then f (plan_kinds schemas q) ≡ Some k
-  through f p q k h same = let j = then_some f (plan_kinds schemas p) k h in ap (option_and_then f) (same j.0 j.1) ∙ j.2
+  through f p q k h same = let j = and_then f (plan_kinds schemas p) k h in ap (option_and_then f) (same j.0 j.1) ∙ j.2
 
   filter_rule_kinds : (p : PlainPlan) (a : PlainExpr) (k : Kinds) → HasKinds (Filter p a) k → IfSome (filter_rule p a) (λ q. HasKinds q k)
   filter_rule_kinds (Filter p b) a k h =
@@ -152,7 +151,7 @@ module _ (schemas : List Kinds) where
   pub of_project : (p : PlainPlan) (fs : List PlainExpr) (k : Kinds) → HasKinds (Project p fs) k
       → (j : Kinds) × HasKinds p j × (is_empty fs ≡ false) × (all_there (map (column_kind_of j) fs) ≡ Some k)
   of_project p fs k h =
-      let j = then_some (project_kinds fs) (plan_kinds schemas p) k h in
+      let j = and_then (project_kinds fs) (plan_kinds schemas p) k h in
       let t = otherwise (is_empty fs) (all_there (map (column_kind_of j.0) fs)) k j.2 in
       (j.0, j.1, t.0, t.1)
 
@@ -200,7 +199,7 @@ module _ (schemas : List Kinds) where
   width_is (Project p es) k h = let j = of_project p es k h in kinds_length (column_kind_of j.0) es k j.3
   width_is (Distinct p) k h = width_is p k h
   width_is (Group p keys aggs) k h =
-      let j = then_some (group_kinds keys aggs) (plan_kinds schemas p) k h in
+      let j = and_then (group_kinds keys aggs) (plan_kinds schemas p) k h in
       let t = otherwise (is_empty keys || is_empty aggs) _ k j.2 in
       let parts = both_some (λ key_kinds agg_kinds. Some (key_kinds ++ agg_kinds)) (all_there (map (slice_get j.0) keys)) (all_there (map (agg_kind j.0) aggs)) k t.1 in
       let same : parts.0 ++ parts.1 ≡ k = let e = parts.4 in cc in
@@ -209,7 +208,7 @@ module _ (schemas : List Kinds) where
   width_is (Join p q on) k h =
       let parts = both_some (join_kinds on) (plan_kinds schemas p) (plan_kinds schemas q) k h in
       let t = otherwise (is_empty on) _ k parts.4 in
-      let same = (tested _ (parts.0 ++ parts.1) k t.1).1 in
+      let same = (cond_some _ (parts.0 ++ parts.1) k t.1).1 in
       ap length (sym same) ∙ length-append parts.0 parts.1 ∙ (λ i. width_is p parts.0 parts.2 i + width_is q parts.1 parts.3 i)
   width_is (Concat p q) k h = width_is p k (of_concat p q k h).0
   width_is (Order p keys) k h = width_is p k (of_order p keys k h)
@@ -344,7 +343,7 @@ module _ (schemas : List Kinds) where
   step_fits (Distinct p) k h = inside (Fits k) (Fits k) Distinct (plan_step schemas p) None (λ x is. is) (step_fits p k h) tt
   step_fits (Group p keys aggs) k h =
       let few = or_parts (is_above_limit (length keys + length aggs)) (has_too_many schemas p) h.1 in
-      let j = then_some (group_kinds keys aggs) (plan_kinds schemas p) k h.0 in
+      let j = and_then (group_kinds keys aggs) (plan_kinds schemas p) k h.0 in
       inside (Fits j.0) (Fits k) (λ x. Group x keys aggs) (plan_step schemas p) None
       (λ x is. (
         ap (option_and_then (group_kinds keys aggs)) is.0 ∙ j.2,
@@ -379,7 +378,7 @@ module _ (schemas : List Kinds) where
       (step_fits q k (parts.1, few.1)) tt)
   step_fits (Order p keys) k h =
       let few = or_parts (is_above_limit (length keys)) (has_too_many schemas p) h.1 in
-      let j = then_some (order_kinds keys) (plan_kinds schemas p) k h.0 in
+      let j = and_then (order_kinds keys) (plan_kinds schemas p) k h.0 in
       inside (Fits j.0) (Fits k) (λ x. Order x keys) (plan_step schemas p) None
       (λ x is. (ap (option_and_then (order_kinds keys)) is.0 ∙ j.2, or_from (is_above_limit (length keys)) (has_too_many schemas x) few.0 is.1))
       (step_fits p j.0 (j.1, few.1)) tt

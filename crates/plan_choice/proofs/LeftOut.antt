@@ -12,10 +12,11 @@ use Rattle.cache_index.specs.Asked.{entry}
 use Rattle.entry_table.specs.Ids.{is_among, is_there, without}
 use Rattle.catalog_core.specs.Named.{HasFile, no_file, file_at}
 use Rattle.catalog_core.specs.Table.{Table}
+use Rattle.catalog_core.proofs.IdleWork.{all-stay}
 use Rattle.plan_choice.specs.Leaving.{leaving_out}
 
 -- an id that is left is that of a kept result, and isn't among those that are left out
-left-there : (ids : List ℕ) (es : List PlainEntry) (id : ℕ) → is_there (without ids es) id ≡ true → (not (is_among ids id) ≡ true) × (is_there es id ≡ true)
+pub left-there : (ids : List ℕ) (es : List PlainEntry) (id : ℕ) → is_there (without ids es) id ≡ true → (not (is_among ids id) ≡ true) × (is_there es id ≡ true)
 left-there ids es id there = and_parts (not (is_among ids id)) (is_there es id) (sym (any-filter_same (λ (e : PlainEntry). e.id == id) (λ (e : PlainEntry). not (is_among ids e.id)) (not (is_among ids id)) (λ e same. ap (λ (i : ℕ). not (is_among ids i)) (eqb-true e.id id same)) es) ∙ there)
 
 -- it finds the same kept result
@@ -42,11 +43,6 @@ found-among ids (x ∷ xs) y has = by (not (is_among ids x.id)) has (found-among
       | inr more ↦ Contains-behind (entry x) (map entry xs) y (rest more)
     ]
     by false has rest = Contains-behind (entry x) (map entry xs) y (rest has)
-
--- all are where none is left out
-pub all-left : (es : List PlainEntry) → without [] es ≡ es
-all-left [] = refl
-all-left (e ∷ es) = ap (λ (es : List PlainEntry). e ∷ es) (all-left es)
 
 pub there-before : (t : Table) (ids : List ℕ) (name : FileName) → HasFile (leaving_out ids t) name → HasFile t name
 there-before t ids (Extent stream number) has = has

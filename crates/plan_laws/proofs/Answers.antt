@@ -1,7 +1,8 @@
 -- Answers that may be an overflow or may be none, one after another.
-use Rattle.std.proofs.Common.{◌≡◌, refl, sym, ap, ◌∙◌, subst, Bool, true, false, cond, List, [], ◌∷◌, map, Result, Ok, Err, Option, None, Some}
+use Rattle.std.proofs.Common.{◌≡◌, refl, sym, ap, ◌∙◌, subst, List, [], ◌∷◌, map, Result, Ok, Err, Option, None, Some}
 use Rattle.std.specs.List.{AllByRecursion}
 use Rattle.std.specs.Option.{option_and_then}
+use Rattle.std.proofs.lemmas.Option.{cond_some}
 use Rattle.rows_core.specs.declared.kind.Kind.{Kind}
 use Rattle.rows_core.specs.declared.overflow.Overflow.{Overflow}
 use Rattle.rows_core.specs.declared.value.Value.{Value}
@@ -9,6 +10,7 @@ use Rattle.rows_core.specs.Value.{kind_of}
 use Rattle.plan_core.specs.ExpressionKind.{of_both}
 use Rattle.plan_core.specs.ExpressionValue.{◌>>=◌, all_of}
 use Rattle.plan_core.specs.PlanTyping.{all_there}
+use Rattle.plan_core.proofs.ValueKinds.{unless_some}
 
 pub both_ok : {A B : Type 0} (x : Result A Overflow) (f : A → Result B Overflow) (b : B) → (x >>= f) ≡ Ok b → (a : A) × (x ≡ Ok a) × (f a ≡ Ok b)
 both_ok (Ok a) f b is = (a, refl, is)
@@ -18,14 +20,6 @@ pub both_some : {A B C : Type 0} (f : A → B → Option C) (x : Option A) (y : 
 both_some f (Some a) (Some b) c is = (a, b, refl, refl, is)
 both_some f (Some a) None c is = absurd (cc)
 both_some f None y c is = absurd (cc)
-
-pub tested : {A : Type 0} (b : Bool) (x y : A) → cond b (Some x) None ≡ Some y → (b ≡ true) × (x ≡ y)
-tested true x y is = (refl, cc)
-tested false x y is = absurd (cc)
-
-pub otherwise : {A : Type 0} (b : Bool) (x : Option A) (y : A) → cond b None x ≡ Some y → x ≡ Some y
-otherwise true x y is = absurd (cc)
-otherwise false x y is = is
 
 pub there_front : {A : Type 0} (x : Option A) (xs : List (Option A)) (ys : List A) → all_there (x ∷ xs) ≡ Some ys → (a : A) × (others : List A) × (x ≡ Some a) × (all_there xs ≡ Some others) × (a ∷ others ≡ ys)
 there_front None xs ys is = absurd (cc)

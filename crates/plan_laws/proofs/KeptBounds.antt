@@ -30,10 +30,11 @@ use Rattle.plan_core.specs.PlanTyping.{Kinds, plan_kinds, all_there, agg_kind, g
 use Rattle.plan_core.specs.Project.{project_row, project_rows}
 use Rattle.plan_core.specs.StableOrder.{insert_row, order_rows}
 use Rattle.plan_core.specs.TypedRows.{HaveKinds, AreOfStreams}
+use Rattle.plan_core.proofs.ValueKinds.{unless_some}
 use Rattle.plan_laws.specs.KeptForm.{acc_of, kept_group, tagged_from, kept_form}
 use Rattle.plan_laws.specs.PlanShape.{kinds_given, kind_at, acc_kind_of, plan_shape}
 use Rattle.plan_laws.specs.ValidRows.{IsValid, IsValidRow, AreValidRows, AreValidLists, AreShortLists}
-use Rattle.plan_laws.proofs.Answers.{both_ok, both_some, otherwise, all_front}
+use Rattle.plan_laws.proofs.Answers.{both_ok, both_some, all_front}
 use Rattle.plan_laws.proofs.FirstOfEqual.{has_no_more}
 use Rattle.plan_laws.proofs.KeptParts.{row_is, rows_are, in_order, kinds_there, accs_are, IsGroup, fresh_distinct, groups_in_order, tagged_in_order, tagged_count, few_pairs}
 use Rattle.plan_laws.proofs.Members.{kept as kept_member, mapped_from}
@@ -91,7 +92,7 @@ rows_kept given kinds rows same few typed valid = (
       (in_order (IsRow kinds) [] rows (rows_are kinds rows (recursion_from_All (HasKinds kinds) rows typed) valid)),
 )
 
-given_as : (schemas : List Kinds) (plan : PlainPlan) (kinds : Kinds) → plan_kinds schemas plan ≡ Some kinds → kinds_given schemas plan ≡ kinds
+pub given_as : (schemas : List Kinds) (plan : PlainPlan) (kinds : Kinds) → plan_kinds schemas plan ≡ Some kinds → kinds_given schemas plan ≡ kinds
 given_as schemas plan kinds there = ap (λ o. unwrap_or o []) there
 
 module _ (kinds : Kinds) (keys : List ℕ) (aggs : List Agg) (key_kinds agg_kinds : Kinds) (rows : Rows) (keys_there : all_there (map (slice_get kinds) keys) ≡ Some key_kinds) (aggs_there : all_there (map (agg_kind kinds) aggs) ≡ Some agg_kinds) (typed : HaveKinds kinds rows) (valid : AreValidRows rows) (few : length rows < 4294967296) where
@@ -225,7 +226,7 @@ module _ (total : (keys : List Key) → IsTotalOrder (row_cmp keys)) (cells_are 
   kept_within (Group child keys aggs) kinds lists there literals short bounded =
       let k = and_then (group_kinds keys aggs) (plan_kinds schemas child) kinds there in
       let both = both_some (λ key_kinds agg_kinds. Some (key_kinds ++ agg_kinds)) (all_there (map (slice_get k.0) keys)) (all_there (map (agg_kind k.0) aggs)) kinds
-      (otherwise (is_empty keys || is_empty aggs) _ kinds k.2) in
+      (unless_some (is_empty keys || is_empty aggs) _ kinds k.2) in
       let below = input_below child lists 4294967296 bounded.1.1 in
       after_one (plan_meaning child lists) (λ rows. kept.Groups (map (kept_group keys aggs rows) (keys_of keys rows))) (IsKept (plan_shape schemas (Group child keys aggs)))
       (λ rows is. subst (λ (j : Kinds). IsKept (shape.Groups (map (kind_at j) keys) (map (acc_kind_of j) aggs)) (kept.Groups (map (kept_group keys aggs rows) (keys_of keys rows))))

@@ -161,7 +161,7 @@ last_there : (rows : List TaggedRow) (row : TaggedRow) → slice_get (rows ++ ro
 last_there [] row = refl
 last_there (first ∷ rows) row = last_there rows row
 
-last_of : (rows : List TaggedRow) (row : TaggedRow) → last_left (rows ++ row ∷ []) ≡ row.left
+pub last_of : (rows : List TaggedRow) (row : TaggedRow) → last_left (rows ++ row ∷ []) ≡ row.left
 last_of rows row =
     let at : length (rows ++ row ∷ []) - 1 ≡ length rows = omega (arith, length-append rows (row ∷ [])) in
     ap (λ n. left_or_zero (slice_get (rows ++ row ∷ []) n)) at ∙ ap left_or_zero (last_there rows row)

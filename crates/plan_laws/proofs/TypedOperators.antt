@@ -8,7 +8,7 @@ use Rattle.std.specs.Ordering.{is_le, is_ge}
 use Rattle.std.proofs.lemmas.Bool.{false≢true}
 use Rattle.std.proofs.lemmas.List.Elements.{All-from_recursion, recursion_from_All, All-filter, All-append, All-map, All-contains, All-contains_itself}
 use Rattle.std.proofs.lemmas.List.{map-append}
-use Rattle.std.proofs.lemmas.Option.{unwrap_or-slice_get}
+use Rattle.std.proofs.lemmas.Option.{unwrap_or-slice_get, cond_some}
 use Rattle.rows_core.specs.declared.kind.Kind.{Kind}
 use Rattle.rows_core.specs.declared.kind.Kind.TheVariants as kind
 use Rattle.rows_core.specs.declared.overflow.Overflow.{Overflow}
@@ -37,8 +37,8 @@ use Rattle.plan_core.specs.PlainExpr.{PlainExpr}
 use Rattle.plan_core.specs.PlanTyping.{Kinds, same_kind, is_empty, all_there, column_kind, is_truth, filter_kinds, project_kinds, number_kind, agg_kind, group_kinds, pair_agrees, join_kinds, concat_kinds}
 use Rattle.plan_core.specs.Project.{column_value, project_row, project_rows}
 use Rattle.plan_core.specs.TypedRows.{HaveKinds}
-use Rattle.plan_core.proofs.ValueKinds.{typed_value}
-use Rattle.plan_laws.proofs.Answers.{both_ok, both_some, tested, otherwise, there_front, each_of, zipped}
+use Rattle.plan_core.proofs.ValueKinds.{typed_value, unless_some}
+use Rattle.plan_laws.proofs.Answers.{both_ok, both_some, there_front, each_of, zipped}
 use Rattle.plan_laws.proofs.FirstOfEqual.{has_no_more}
 use Rattle.rows_core.specs.Equality.{row_eq-Decides}
 use Rattle.plan_laws.proofs.Members.{kept, mapped_from}
@@ -61,7 +61,7 @@ filter_typed test kinds rows out typed is = by (list_any (overflows test) rows) 
     by false h = let same : filter (passes test) rows ≡ out = cc in subst (HaveKinds kinds) same (All-filter (passes test) (HasKinds kinds) rows typed)
 
 pub filter_same_kinds : (test : PlainExpr) (kinds out : Kinds) → filter_kinds test kinds ≡ Some out → kinds ≡ out
-filter_same_kinds test kinds out is = (tested (is_truth (expression_kind kinds test)) kinds out is).1
+filter_same_kinds test kinds out is = (cond_some (is_truth (expression_kind kinds test)) kinds out is).1
 
 -- ---- columns
 
@@ -85,7 +85,7 @@ pub project_typed : (columns : List PlainExpr) (kinds out_kinds : Kinds) (rows o
 project_typed columns kinds out_kinds rows out typed there is =
     All-from_recursion (HasKinds out_kinds) out
     (each_of (project_row columns) (HasKinds kinds) (HasKinds out_kinds)
-    (λ row r has gives. zipped (λ e. column_value e row) (λ e. option_and_then column_kind (expression_kind kinds e)) (column_typed kinds row has) columns out_kinds r (otherwise (is_empty columns) _ out_kinds there) gives)
+    (λ row r has gives. zipped (λ e. column_value e row) (λ e. option_and_then column_kind (expression_kind kinds e)) (column_typed kinds row has) columns out_kinds r (unless_some (is_empty columns) _ out_kinds there) gives)
     rows out (recursion_from_All (HasKinds kinds) rows typed) is)
 
 -- ---- the first of equal rows
@@ -136,7 +136,7 @@ whole_typed z v is = by (fits_i64 z) is
 number_typed : (z : ℤ) (r : Result Value Overflow) (v : Value) → r ≡ Ok (Int z) → r ≡ Ok v → kind_of v ≡ kind.Int
 number_typed z r v whole is = let same : Int z ≡ v = cc in ap kind_of (sym same)
 
-number_only : (o : Option Kind) (k : Kind) → number_kind o ≡ Some k → kind.Int ≡ k
+pub number_only : (o : Option Kind) (k : Kind) → number_kind o ≡ Some k → kind.Int ≡ k
 number_only (Some kind.Int) k is = cc
 number_only (Some kind.Text) k is = absurd (cc)
 number_only None k is = absurd (cc)
@@ -171,7 +171,7 @@ group_typed keys aggs kinds key_kinds agg_kinds rows key out typed keys_there ag
 pub groups_typed : (keys : List ℕ) (aggs : List Agg) (kinds out_kinds : Kinds) (rows out : Rows) → HaveKinds kinds rows
     → group_kinds keys aggs kinds ≡ Some out_kinds → group_rows keys aggs rows ≡ Ok out → HaveKinds out_kinds out
 groups_typed keys aggs kinds out_kinds rows out typed there is =
-    let both = both_some (λ key_kinds agg_kinds. Some (key_kinds ++ agg_kinds)) (all_there (map (slice_get kinds) keys)) (all_there (map (agg_kind kinds) aggs)) out_kinds (otherwise (is_empty keys || is_empty aggs) _ out_kinds there) in
+    let both = both_some (λ key_kinds agg_kinds. Some (key_kinds ++ agg_kinds)) (all_there (map (slice_get kinds) keys)) (all_there (map (agg_kind kinds) aggs)) out_kinds (unless_some (is_empty keys || is_empty aggs) _ out_kinds there) in
     let kinds_are : both.0 ++ both.1 ≡ out_kinds = let h = both.4 in cc in
     All-from_recursion (HasKinds out_kinds) out
     (each_of (group_row keys aggs rows) (Contains (keys_of keys rows)) (HasKinds out_kinds)
@@ -193,7 +193,7 @@ join_typed on left_kinds right_kinds (left ∷ lefts) rights lefts_typed rights_
     (join_typed on left_kinds right_kinds lefts rights lefts_typed.1 rights_typed)
 
 pub join_kinds_are : (on : List (ℕ × ℕ)) (left right out : Kinds) → join_kinds on left right ≡ Some out → left ++ right ≡ out
-join_kinds_are on left right out is = (tested (list_all (pair_agrees left right) on) (left ++ right) out (otherwise (is_empty on) _ out is)).1
+join_kinds_are on left right out is = (cond_some (list_all (pair_agrees left right) on) (left ++ right) out (unless_some (is_empty on) _ out is)).1
 
 same_kind-Decides : (a b : Kind) → Decides (same_kind a b) (a ≡ b)
 same_kind-Decides kind.Int kind.Int = (λ e. refl, λ e. refl)
@@ -204,5 +204,5 @@ same_kind-Decides kind.Text kind.Text = (λ e. refl, λ e. refl)
 -- both lists have the kinds of the whole
 pub concat_kinds_are : (left right out : Kinds) → concat_kinds left right ≡ Some out → (left ≡ out) × (right ≡ out)
 concat_kinds_are left right out is =
-    let both = tested (pointwise same_kind left right) left out is in
+    let both = cond_some (pointwise same_kind left right) left out is in
     (both.1, sym ((pointwise_decides same_kind-Decides left right).0 both.0) ∙ both.1)

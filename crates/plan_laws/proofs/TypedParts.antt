@@ -3,6 +3,7 @@ use Rattle.std.proofs.Common.{◌≡◌, refl, sym, ap, ◌∙◌, subst, ℕ, �
 use Rattle.std.specs.List.{AllByRecursion}
 use Rattle.std.specs.Option.{option_and_then}
 use Rattle.std.proofs.lemmas.List.Elements.{All-from_recursion}
+use Rattle.std.proofs.lemmas.Option.{cond_some}
 use Rattle.rows_core.specs.declared.kind.Kind.{Kind}
 use Rattle.rows_core.specs.Value.{kind_of}
 use Rattle.scalar_ops.specs.declared.cell.CellKind.{CellKind}
@@ -15,19 +16,20 @@ use Rattle.plan_core.specs.PlainPlan.{PlainPlan, Filter, Project, Join, Concat, 
 use Rattle.plan_core.specs.PlanMeaning.{plan_meaning}
 use Rattle.plan_core.specs.PlanTyping.{Kinds, plan_kinds, all_there, column_kind, is_truth, is_empty, filter_kinds, project_kinds, join_kinds, concat_kinds}
 use Rattle.plan_core.specs.TypedRows.{HaveKinds, AreOfStreams}
+use Rattle.plan_core.proofs.ValueKinds.{unless_some}
 use Rattle.plan_laws.specs.TypedOn.{IsTypedOn}
-use Rattle.plan_laws.proofs.Answers.{both_some, tested, otherwise, there_front}
+use Rattle.plan_laws.proofs.Answers.{both_some, there_front}
 use Rattle.plan_laws.proofs.TypedPlans.{and_then, lists_of_parts}
 
 abbrev pub GivesTypedRows : Type 0
 GivesTypedRows = (schemas : List Kinds) (plan : PlainPlan) (kinds : Kinds) (lists : List Rows) → plan_kinds schemas plan ≡ Some kinds
     → AreOfStreams schemas (leaves plan) lists → IfOk (plan_meaning plan lists) (HaveKinds kinds)
 
-there : {A : Type 0} (o : Option A) → IsSome o → (x : A) × (o ≡ Some x)
+pub there : {A : Type 0} (o : Option A) → IsSome o → (x : A) × (o ≡ Some x)
 there (Some x) is = (x, refl)
 there None is = absurd (cc)
 
-some_of : {A : Type 0} (o : Option A) (x : A) → o ≡ Some x → IsSome o
+pub some_of : {A : Type 0} (o : Option A) (x : A) → o ≡ Some x → IsSome o
 some_of o x is = subst IsSome (sym is) refl
 
 -- the rows of a typed child have its kinds
@@ -47,7 +49,7 @@ test_typed law child test lists rows (schemas, typed, of) is =
     let whole = there (plan_kinds schemas (Filter child test)) typed in
     let k = and_then (filter_kinds test) (plan_kinds schemas child) whole.0 whole.1 in
     let has = child_rows law schemas child k.0 lists rows k.1 of is in
-    let test_has = truth_there (expression_kind k.0 test) (tested (is_truth (expression_kind k.0 test)) k.0 whole.0 k.2).0 in
+    let test_has = truth_there (expression_kind k.0 test) (cond_some (is_truth (expression_kind k.0 test)) k.0 whole.0 k.2).0 in
     λ i d within. subst (λ kinds. IsTyped kinds test) (sym (has i d within)) test_has
 
 -- ---- columns
@@ -69,7 +71,7 @@ columns_typed law child columns lists rows (schemas, typed, of) is =
     let whole = there (plan_kinds schemas (Project child (map expr_of columns))) typed in
     let k = and_then (project_kinds (map expr_of columns)) (plan_kinds schemas child) whole.0 whole.1 in
     let has = child_rows law schemas child k.0 lists rows k.1 of is in
-    let all = All-from_recursion (λ column. IsTyped k.0 (expr_of column)) columns (columns_have_kinds k.0 columns whole.0 (otherwise (is_empty (map expr_of columns)) _ whole.0 k.2)) in
+    let all = All-from_recursion (λ column. IsTyped k.0 (expr_of column)) columns (columns_have_kinds k.0 columns whole.0 (unless_some (is_empty (map expr_of columns)) _ whole.0 k.2)) in
     λ i d within. subst (λ kinds. All (λ column. IsTyped kinds (expr_of column)) columns) (sym (has i d within)) all
 
 -- ---- two parts

@@ -6,6 +6,7 @@ use Rattle.std.specs.Option.{option_and_then, IfSome}
 use Rattle.std.specs.Result.{IfOk}
 use Rattle.std.proofs.lemmas.List.Elements.{recursion_from_All, All-append}
 use Rattle.std.proofs.lemmas.List.Sorted.{All-permutation}
+use Rattle.std.proofs.lemmas.Option.{cond_some}
 use Rattle.rows_core.specs.declared.order.Key.{Key}
 use Rattle.rows_core.specs.declared.overflow.Overflow.{Overflow}
 use Rattle.rows_core.specs.RowOrder.{row_cmp}
@@ -22,7 +23,8 @@ use Rattle.plan_core.specs.PlanTyping.{Kinds, plan_kinds, filter_kinds, project_
 use Rattle.plan_core.specs.Project.{project_rows}
 use Rattle.plan_core.specs.StableOrder.{order_rows}
 use Rattle.plan_core.specs.TypedRows.{HaveKinds, AreOfStreams}
-use Rattle.plan_laws.proofs.Answers.{both_ok, both_some, tested, otherwise}
+use Rattle.plan_core.proofs.ValueKinds.{unless_some}
+use Rattle.plan_laws.proofs.Answers.{both_ok, both_some}
 use Rattle.plan_laws.proofs.Insertion.{permutes}
 use Rattle.plan_laws.proofs.TypedOperators.{filter_typed, filter_same_kinds, project_typed, distinct_typed, groups_typed, join_typed, join_kinds_are, concat_kinds_are}
 
@@ -89,7 +91,7 @@ module _ (total : (keys : List Key) → IsTotalOrder (row_cmp keys)) (schemas : 
       (subst (λ j. HaveKinds j r.0) one.1 (gives_typed right k.1 (drop (leaf_count left) lists) r.0 k.3 parts.1 r.1)))
   gives_typed (Order child keys) kinds lists rows there typed is =
       let k = and_then (order_kinds keys) (plan_kinds schemas child) kinds there in
-      let same_kinds : k.0 ≡ kinds = (tested (list_all _ keys) k.0 kinds (otherwise (is_empty keys) _ kinds k.2)).1 in
+      let same_kinds : k.0 ≡ kinds = (cond_some (list_all _ keys) k.0 kinds (unless_some (is_empty keys) _ kinds k.2)).1 in
       let r = both_ok (plan_meaning child lists) (λ rows. Ok (order_rows keys rows)) rows is in
       let same : order_rows keys r.0 ≡ rows = let h = r.2 in cc in
       subst (λ l. HaveKinds l rows) same_kinds (subst (HaveKinds k.0) same

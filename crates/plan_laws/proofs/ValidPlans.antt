@@ -23,8 +23,9 @@ use Rattle.plan_core.specs.PlanMeaning.{plan_meaning}
 use Rattle.plan_core.specs.PlanTyping.{Kinds, plan_kinds, filter_kinds, project_kinds, group_kinds, join_kinds, concat_kinds, order_kinds, is_empty}
 use Rattle.plan_core.specs.Project.{column_value, project_row, project_rows}
 use Rattle.plan_core.specs.StableOrder.{insert_row, order_rows}
+use Rattle.plan_core.proofs.ValueKinds.{unless_some}
 use Rattle.plan_laws.specs.ValidRows.{IsValid, IsValidRow, AreValidRows, AreValidLists}
-use Rattle.plan_laws.proofs.Answers.{both_ok, both_some, otherwise, each_of}
+use Rattle.plan_laws.proofs.Answers.{both_ok, both_some, each_of}
 use Rattle.plan_laws.proofs.TypedPlans.{and_then}
 use Rattle.plan_laws.proofs.ValidValues.{GivesCells, HasKindAndCells, valid_column, columns_there, columns_valid, aggregate_valid}
 
@@ -77,7 +78,7 @@ filter_valid test rows out valid is = by (list_any (overflows test) rows) is
 project_valid : GivesCells → (columns : List PlainExpr) (kinds out_kinds : Kinds) (rows out : Rows) → HaveCells columns → AreValidRows rows
     → project_kinds columns kinds ≡ Some out_kinds → project_rows columns rows ≡ Ok out → AreValidRows out
 project_valid cells_are columns kinds out_kinds rows out have valid there is =
-    let known = columns_there kinds columns out_kinds have (otherwise (is_empty columns) _ out_kinds there) in
+    let known = columns_there kinds columns out_kinds have (unless_some (is_empty columns) _ out_kinds there) in
     each_of (project_row columns) IsValidRow IsValidRow
     (λ row r row_valid gives. each_of (λ column. column_value column row) (HasKindAndCells kinds) IsValid
     (λ e v has value. valid_column cells_are kinds row row_valid e has.1.0 v has.0 has.1.1 value) columns r known gives)

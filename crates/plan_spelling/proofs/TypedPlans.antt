@@ -5,7 +5,7 @@ use Rattle.std.specs.Cmp.Lexicographic.{pointwise}
 use Rattle.std.specs.List.{AllByRecursion, list_all}
 use Rattle.std.specs.Option.{option_map, option_and_then}
 use Rattle.std.specs.Prelude.{nat_lt, not}
-use Rattle.std.proofs.lemmas.Option.{slice_get_within}
+use Rattle.std.proofs.lemmas.Option.{slice_get_within, cond_some}
 use Rattle.std.proofs.lemmas.Bool.{or_parts, and_parts}
 use Rattle.rows_core.specs.declared.kind.Kind.{Kind}
 use Rattle.rows_core.specs.declared.kind.Kind.TheVariants as kind
@@ -25,6 +25,7 @@ use Rattle.plan_core.specs.PlainExpr.{PlainExpr, Column, Literal, Call1, Call2, 
 use Rattle.plan_core.specs.PlainPlan.{PlainPlan, Scan, Filter, Project, Distinct, Group, Join, Concat, Order, leaves}
 use Rattle.plan_core.specs.PlanTyping.{Kinds, all_there, column_kind, column_kind_of, is_empty, is_truth, filter_kinds, project_kinds, number_kind, agg_kind, group_kinds, are_one_kind, pair_agrees, join_kinds, concat_kinds, order_kinds, plan_kinds, column_count, is_above_limit, has_too_many, absent_stream, present_or, typed_or, same_kind}
 use Rattle.plan_core.specs.TypedPlan.{TypedPlan, IsTypedPlan}
+use Rattle.plan_core.proofs.ValueKinds.{unless_some}
 use Rattle.plan_spelling.specs.Spelling.{HasExprSpelling, HasAggSpelling, HasPlanSpelling}
 
 -- ---- what is there
@@ -41,14 +42,6 @@ both_some : {A B C : Type 0} (f : A → B → Option C) (x : Option A) (y : Opti
 both_some f (Some a) (Some b) c is = (a, b, refl, refl, is)
 both_some f (Some a) None c is = absurd cc
 both_some f None y c is = absurd cc
-
-tested : {A : Type 0} (b : Bool) (x y : A) → cond b (Some x) None ≡ Some y → (b ≡ true) × (x ≡ y)
-tested true x y is = (refl, cc)
-tested false x y is = absurd cc
-
-otherwise : {A : Type 0} (b : Bool) (x : Option A) (y : A) → cond b None x ≡ Some y → x ≡ Some y
-otherwise true x y is = absurd cc
-otherwise false x y is = is
 
 there_front : {A : Type 0} (x : Option A) (xs : List (Option A)) (ys : List A) → all_there (x ∷ xs) ≡ Some ys → (a : A) × (others : List A) × (x ≡ Some a) × (all_there xs ≡ Some others) × (a ∷ others ≡ ys)
 there_front None xs ys is = absurd cc
@@ -88,7 +81,7 @@ same_length (x ∷ xs) (y ∷ ys) is = omega (arith, same_length xs ys (and_part
 arguments : (args : List CellKind) (k : CellKind) (row : Option OpRow) → option_and_then (λ r. cond (pointwise same_cell_kind args (kinds_of_args r.args)) (Some r.result) None) row ≡ Some k
     → length (unwrap_or (option_map (λ r. kinds_of_args r.args) row) []) ≡ length args
 arguments args k None is = absurd cc
-arguments args k (Some r) is = same_length args (kinds_of_args r.args) (tested (pointwise same_cell_kind args (kinds_of_args r.args)) r.result k is).0
+arguments args k (Some r) is = same_length args (kinds_of_args r.args) (cond_some (pointwise same_cell_kind args (kinds_of_args r.args)) r.result k is).0
 
 truths : (x y : Option CellKind) (k : CellKind) → both_truths x y ≡ Some k → (x ≡ Some cell_kind.Bool) × (y ≡ Some cell_kind.Bool)
 truths (Some cell_kind.Bool) (Some cell_kind.Bool) k is = (refl, refl)
@@ -129,7 +122,7 @@ expr_spelled kinds few (Call1 row a) k is cells =
     (arguments (arg.0 ∷ []) k (row_at row) arg.2, expr_spelled kinds few a arg.0 arg.1 cells)
 expr_spelled kinds few (Call2 row a b) k is cells =
     let of_two : CellKind → CellKind → Option CellKind = λ i j. call_kind row (i ∷ j ∷ []) in
-    let args = both_some of_two (expression_kind kinds a) (expression_kind kinds b) k (otherwise (is_division (op_at row) && not (is_divisor b)) (of_both of_two (expression_kind kinds a) (expression_kind kinds b)) k is) in
+    let args = both_some of_two (expression_kind kinds a) (expression_kind kinds b) k (unless_some (is_division (op_at row) && not (is_divisor b)) (of_both of_two (expression_kind kinds a) (expression_kind kinds b)) k is) in
     (arguments (args.0 ∷ args.1 ∷ []) k (row_at row) args.4, expr_spelled kinds few a args.0 args.2 cells.0, expr_spelled kinds few b args.1 args.3 cells.1)
 expr_spelled kinds few (And a b) k is cells =
     let parts = truths (expression_kind kinds a) (expression_kind kinds b) k is in
@@ -174,17 +167,17 @@ group_parts : (kinds : Kinds) (keys : List ℕ) (aggs : List Agg) (out : Kinds) 
 group_parts kinds keys aggs out is =
     let appended = λ (ks : Kinds) (js : Kinds). Some (ks ++ js) in
     let both = both_some appended (all_there (map (slice_get kinds) keys)) (all_there (map (agg_kind kinds) aggs)) out
-    (otherwise (is_empty keys || is_empty aggs) (of_both appended (all_there (map (slice_get kinds) keys)) (all_there (map (agg_kind kinds) aggs))) out is) in
+    (unless_some (is_empty keys || is_empty aggs) (of_both appended (all_there (map (slice_get kinds) keys)) (all_there (map (agg_kind kinds) aggs))) out is) in
     (both.0, both.1, both.2, both.3, (let same : Some (both.0 ++ both.1) ≡ Some out = both.4 in cc))
 
 joined : (left right : Kinds) (on : List (ℕ × ℕ)) (out : Kinds) → join_kinds on left right ≡ Some out → (list_all (pair_agrees left right) on ≡ true) × (left ++ right ≡ out)
 joined left right on out is =
-    tested (list_all (pair_agrees left right) on) (left ++ right) out (otherwise (is_empty on) (cond (list_all (pair_agrees left right) on) (Some (left ++ right)) None) out is)
+    cond_some (list_all (pair_agrees left right) on) (left ++ right) out (unless_some (is_empty on) (cond (list_all (pair_agrees left right) on) (Some (left ++ right)) None) out is)
 
 ordered : (kinds : Kinds) (keys : List Key) (out : Kinds) → order_kinds keys kinds ≡ Some out → (list_all (λ key. nat_lt key.column (length kinds)) keys ≡ true) × (kinds ≡ out)
 ordered kinds keys out is =
     let there = list_all (λ (key : Key). nat_lt key.column (length kinds)) keys in
-    tested there kinds out (otherwise (is_empty keys) (cond there (Some kinds) None) out is)
+    cond_some there kinds out (unless_some (is_empty keys) (cond there (Some kinds) None) out is)
 
 module _ (schemas : List Kinds) where
   -- what typing gives of a plan
@@ -206,14 +199,14 @@ module _ (schemas : List Kinds) where
   few_columns (Scan stream) kinds fits = omega (arith, counted_columns (Scan stream) kinds fits.0, within_limit (column_count schemas (Scan stream)) fits.1)
   few_columns (Filter child test) kinds fits =
       let below = and_then (filter_kinds test) (plan_kinds schemas child) kinds fits.0 in
-      subst IsFew (tested (is_truth (expression_kind below.0 test)) below.0 kinds below.2).1 (few_columns child below.0 (below.1, fits.1))
+      subst IsFew (cond_some (is_truth (expression_kind below.0 test)) below.0 kinds below.2).1 (few_columns child below.0 (below.1, fits.1))
   few_columns (Project child columns) kinds fits =
       let below = and_then (project_kinds columns) (plan_kinds schemas child) kinds fits.0 in
       let few = or_parts (is_above_limit (length columns)) (has_too_many schemas child) fits.1 in
       omega (
         arith,
         within_limit (length columns) few.0,
-        there_length (column_kind_of below.0) columns kinds (otherwise (is_empty columns) (all_there (map (column_kind_of below.0) columns)) kinds below.2),
+        there_length (column_kind_of below.0) columns kinds (unless_some (is_empty columns) (all_there (map (column_kind_of below.0) columns)) kinds below.2),
       )
   few_columns (Distinct child) kinds fits = few_columns child kinds fits
   few_columns (Group child keys aggs) kinds fits =
@@ -242,7 +235,7 @@ module _ (schemas : List Kinds) where
   few_columns (Concat left right) kinds fits =
       let below = both_some concat_kinds (plan_kinds schemas left) (plan_kinds schemas right) kinds fits.0 in
       let few = or_parts (has_too_many schemas left) (has_too_many schemas right) fits.1 in
-      subst IsFew (tested (pointwise same_kind below.0 below.1) below.0 kinds below.4).1 (few_columns left below.0 (below.2, few.0))
+      subst IsFew (cond_some (pointwise same_kind below.0 below.1) below.0 kinds below.4).1 (few_columns left below.0 (below.2, few.0))
   few_columns (Order child keys) kinds fits =
       let below = and_then (order_kinds keys) (plan_kinds schemas child) kinds fits.0 in
       let few = or_parts (is_above_limit (length keys)) (has_too_many schemas child) fits.1 in
@@ -256,7 +249,7 @@ module _ (schemas : List Kinds) where
   plan_spelled (Scan stream) kinds fits numbers cells = numbers.0
   plan_spelled (Filter child test) kinds fits numbers cells =
       let below = and_then (filter_kinds test) (plan_kinds schemas child) kinds fits.0 in
-      let truth = truth_is (expression_kind below.0 test) (tested (is_truth (expression_kind below.0 test)) below.0 kinds below.2).0 in (
+      let truth = truth_is (expression_kind below.0 test) (cond_some (is_truth (expression_kind below.0 test)) below.0 kinds below.2).0 in (
         plan_spelled child below.0 (below.1, fits.1) numbers cells.0,
         expr_spelled below.0 (few_columns child below.0 (below.1, fits.1)) test cell_kind.Bool truth cells.1,
       )
@@ -266,7 +259,7 @@ module _ (schemas : List Kinds) where
         plan_spelled child below.0 (below.1, few.1) numbers cells.0,
         (
           omega (arith, within_limit (length columns) few.0),
-          exprs_spelled below.0 (few_columns child below.0 (below.1, few.1)) columns kinds (otherwise (is_empty columns) (all_there (map (column_kind_of below.0) columns)) kinds below.2) cells.1,
+          exprs_spelled below.0 (few_columns child below.0 (below.1, few.1)) columns kinds (unless_some (is_empty columns) (all_there (map (column_kind_of below.0) columns)) kinds below.2) cells.1,
         ),
       )
   plan_spelled (Distinct child) kinds fits numbers cells = plan_spelled child kinds fits numbers cells

@@ -28,7 +28,7 @@ full ticks most = by (nat_le most_ticks ticks) refl
     by true is = refl
     by false is = absurd (grind (arith, nat_tests))
 
-not_full : (ticks : ℕ) → ticks < most_ticks → nat_le most_ticks ticks ≡ false
+pub not_full : (ticks : ℕ) → ticks < most_ticks → nat_le most_ticks ticks ≡ false
 not_full ticks low = by (nat_le most_ticks ticks) refl
   where
     by : (b : Bool) → nat_le most_ticks ticks ≡ b → b ≡ false

@@ -1,23 +1,15 @@
 -- Items in order that are read one after the other, as a loop does.
-use Rattle.std.proofs.Common.{◌≡◌, ℕ, suc, ◌-◌, ◌+◌, ◌<◌, ◌≤◌, List, [], ◌∷◌, ◌++◌, length, Some, Ok, Err, refl, sym, ap, subst, ◌∙◌, append_assoc, arith}
+use Rattle.std.proofs.Common.{◌≡◌, ℕ, suc, ◌-◌, ◌+◌, ◌<◌, ◌≤◌, List, [], ◌∷◌, ◌++◌, length, Some, Ok, refl, sym, ap, subst, ◌∙◌, arith}
 use Rattle.std.specs.List.{slice_get}
 use Rattle.std.proofs.lemmas.List.{append-nil}
 use Rattle.byte_formats.specs.declared.unread.Unread.{Unread}
 use Rattle.byte_formats.specs.declared.unread.Unread.TheVariants.{Left, Memory}
 use Rattle.byte_formats.specs.Reading.{◌>>=◌, Read, Fails}
 use Rattle.byte_formats.specs.Format.{Format, chain_at}
-use Rattle.byte_formats.proofs.Loop.{with_front}
+use Rattle.byte_formats.proofs.Loop.{with_front, with_none, with_one}
 use Rattle.catalog_types.specs.declared.program.Program.{Program}
 use Rattle.record_codec.specs.Formats.{program_from}
 use Rattle.record_codec.specs.Reading.{last_name}
-
-with_none : {A : Type 0} (r : Read (List A)) → with_front [] r ≡ r
-with_none (Ok x) = refl
-with_none (Err left) = refl
-
-with_one : {A : Type 0} (front : List A) (a : A) (r : Read (List A)) → with_front front (r >>= λ x. Ok (a ∷ x.0, x.1)) ≡ with_front (front ++ a ∷ []) r
-with_one front a (Ok x) = ap (λ (l : List _). Ok (l, x.1)) (sym (append_assoc front (a ∷ []) x.0))
-with_one front a (Err left) = refl
 
 module _ {A S : Type 0} (item : S → Format A) (next : S → A → S) where
   -- what was read, and then what is read behind it from this state on, is all that is read from the first state on

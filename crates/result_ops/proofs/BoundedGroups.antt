@@ -1,5 +1,5 @@
 -- Accumulators within the bounds, one by one.
-use Rattle.std.proofs.Common.{rules, zero, suc, ◌≡◌, ◌≢◌, ◌↔◌, sym, subst, ℕ, ◌-◌, ◌≤◌, ◌<◌, Bool, true, false, IsTrue, ◌==◌, List, [], ◌∷◌, length, take, drop, get_or, All, arith}
+use Rattle.std.proofs.Common.{rules, zero, suc, ◌≡◌, ◌≢◌, ◌↔◌, sym, subst, ℕ, ◌-◌, ◌≤◌, ◌<◌, Bool, true, IsTrue, ◌==◌, List, [], ◌∷◌, length, take, drop, get_or, All, arith}
 use Rattle.std.specs.List.{AllPairs}
 use Rattle.std.proofs.lemmas.List.{take_all}
 use Rattle.row_blob.specs.declared.kept.Acc.{Acc}
@@ -10,9 +10,6 @@ use Rattle.plan_laws.specs.GroupBounds.{IsAccOf, HasAverage, AreGroups, HaveAver
 
 pub holds : IsTrue true
 holds = search rules
-
-pub never : IsTrue false → ⊥
-never = search rules
 
 not_empty : (n : ℕ) → IsTrue (suc n == 0) → ⊥
 not_empty n = search rules

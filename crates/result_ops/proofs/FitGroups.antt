@@ -20,9 +20,10 @@ use Rattle.plan_core.specs.ExpressionValue.{◌>>=◌, all_of}
 use Rattle.plan_core.specs.Group.{keys_of, members_of}
 use Rattle.plan_core.specs.PlanTyping.{Kinds, is_empty, all_there, agg_kind, group_kinds}
 use Rattle.plan_core.specs.TypedRows.{HaveKinds}
+use Rattle.plan_core.proofs.ValueKinds.{unless_some}
 use Rattle.plan_laws.specs.GrowthOfGroups.{groups_of}
 use Rattle.plan_laws.specs.KeptForm.{acc_of, kept_group, value_of_acc, row_of_group}
-use Rattle.plan_laws.proofs.Answers.{both_ok, both_some, otherwise, there_front, each_of}
+use Rattle.plan_laws.proofs.Answers.{both_ok, both_some, there_front, each_of}
 use Rattle.plan_laws.proofs.FirstOfEqual.{has_no_more}
 use Rattle.plan_laws.proofs.Members.{kept, mapped_from}
 use Rattle.plan_laws.proofs.TypedOperators.{HasKinds, keys_typed, agg_typed}
@@ -104,6 +105,6 @@ module _ (kinds : Kinds) (keys : List ℕ) (aggs : List Agg) (key_kinds agg_kind
 
 pub groups_of_kinds : (keys : List ℕ) (aggs : List Agg) (kinds out_kinds : Kinds) (rows : Rows) → HaveKinds kinds rows → group_kinds keys aggs kinds ≡ Some out_kinds → AreOfKinds out_kinds (groups_of keys aggs rows)
 groups_of_kinds keys aggs kinds out_kinds rows typed there =
-    let both = both_some (λ key_kinds agg_kinds. Some (key_kinds ++ agg_kinds)) (all_there (map (slice_get kinds) keys)) (all_there (map (agg_kind kinds) aggs)) out_kinds (otherwise (is_empty keys || is_empty aggs) _ out_kinds there) in
+    let both = both_some (λ key_kinds agg_kinds. Some (key_kinds ++ agg_kinds)) (all_there (map (slice_get kinds) keys)) (all_there (map (agg_kind kinds) aggs)) out_kinds (unless_some (is_empty keys || is_empty aggs) _ out_kinds there) in
     let kinds_are : both.0 ++ both.1 ≡ out_kinds = let h = both.4 in cc in
     subst (λ ks. AreOfKinds ks (groups_of keys aggs rows)) kinds_are (all_groups kinds keys aggs both.0 both.1 rows typed both.2 both.3)

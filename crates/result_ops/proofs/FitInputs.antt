@@ -1,5 +1,5 @@
 -- What the operators ask of the rows that they take in, where these have the kinds of the input's columns.
-use Rattle.std.proofs.Common.{◌≡◌, refl, sym, subst, List, [], ◌∷◌, map, All, IsSome, Option, None, Some}
+use Rattle.std.proofs.Common.{refl, subst, List, [], ◌∷◌, map, All, IsSome}
 use Rattle.rows_core.specs.Value.{kind_of}
 use Rattle.plan_core.specs.declared.expr.Expr as code
 use Rattle.plan_core.specs.Columns.{Rows}
@@ -9,25 +9,16 @@ use Rattle.plan_core.specs.PlainPlan.{PlainPlan, Scan, Filter, Project}
 use Rattle.plan_core.specs.PlanTyping.{Kinds, plan_kinds, filter_kinds, project_kinds}
 use Rattle.plan_core.specs.TypedRows.{HaveKinds}
 use Rattle.plan_laws.specs.PlanShape.{kinds_given}
-use Rattle.plan_laws.proofs.TypedParts.{GivesTypedRows, test_typed, columns_typed}
+use Rattle.plan_laws.proofs.TypedParts.{GivesTypedRows, test_typed, columns_typed, there, some_of}
 use Rattle.plan_laws.proofs.TypedPlans.{and_then}
-
-pub there : {A : Type 0} (o : Option A) → IsSome o → (x : A) × (o ≡ Some x)
-there (Some x) is = (x, refl)
-there None is = absurd (cc)
-
-pub some_of : {A : Type 0} (o : Option A) (x : A) → o ≡ Some x → IsSome o
-some_of o x is = subst IsSome (sym is) refl
-
-pub given_kinds : (schemas : List Kinds) (plan : PlainPlan) (kinds : Kinds) → plan_kinds schemas plan ≡ Some kinds → kinds_given schemas plan ≡ kinds
-given_kinds schemas plan kinds is = cc
+use Rattle.plan_laws.proofs.KeptBounds.{given_as}
 
 pub tests_typed : GivesTypedRows → (schemas : List Kinds) (child : PlainPlan) (test : PlainExpr) (rows : Rows) → IsSome (plan_kinds schemas (Filter child test))
     → HaveKinds (kinds_given schemas child) rows → All (λ row. IsTyped (map kind_of row) test) rows
 tests_typed law schemas child test rows typed has =
     let whole = there (plan_kinds schemas (Filter child test)) typed in
     let k = and_then (filter_kinds test) (plan_kinds schemas child) whole.0 whole.1 in
-    let rows_have : HaveKinds k.0 rows = subst (λ kinds. HaveKinds kinds rows) (given_kinds schemas child k.0 k.1) has in
+    let rows_have : HaveKinds k.0 rows = subst (λ kinds. HaveKinds kinds rows) (given_as schemas child k.0 k.1) has in
     test_typed law (Scan 0) test (rows ∷ []) rows (k.0 ∷ [], some_of (filter_kinds test k.0) whole.0 k.2, (rows_have, tt)) refl
 
 pub columns_typed_on : GivesTypedRows → (schemas : List Kinds) (child : PlainPlan) (columns : List code.Expr) (rows : Rows) → IsSome (plan_kinds schemas (Project child (map expr_of columns)))
@@ -35,5 +26,5 @@ pub columns_typed_on : GivesTypedRows → (schemas : List Kinds) (child : PlainP
 columns_typed_on law schemas child columns rows typed has =
     let whole = there (plan_kinds schemas (Project child (map expr_of columns))) typed in
     let k = and_then (project_kinds (map expr_of columns)) (plan_kinds schemas child) whole.0 whole.1 in
-    let rows_have : HaveKinds k.0 rows = subst (λ kinds. HaveKinds kinds rows) (given_kinds schemas child k.0 k.1) has in
+    let rows_have : HaveKinds k.0 rows = subst (λ kinds. HaveKinds kinds rows) (given_as schemas child k.0 k.1) has in
     columns_typed law (Scan 0) columns (rows ∷ []) rows (k.0 ∷ [], some_of (project_kinds (map expr_of columns) k.0) whole.0 k.2, (rows_have, tt)) refl

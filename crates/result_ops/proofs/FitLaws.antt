@@ -4,6 +4,7 @@ use Rattle.std.specs.Prelude.{nat_lt}
 use Rattle.std.specs.List.{list_all}
 use Rattle.std.specs.Option.{option_and_then}
 use Rattle.std.proofs.lemmas.List.Elements.{All-append, All-filter, All-from_recursion}
+use Rattle.std.proofs.lemmas.Option.{cond_some}
 use Rattle.rows_core.specs.declared.overflow.Overflow.{Overflow}
 use Rattle.rows_core.specs.Value.{kind_of}
 use Rattle.row_blob.specs.declared.kept.Kept.{Kept}
@@ -23,23 +24,24 @@ use Rattle.plan_core.specs.PlainPlan.{PlainPlan, Scan, Filter, Project, Distinct
 use Rattle.plan_core.specs.PlanMeaning.{plan_meaning}
 use Rattle.plan_core.specs.PlanTyping.{Kinds, is_empty, plan_kinds, filter_kinds, project_kinds, group_kinds, join_kinds, concat_kinds, order_kinds}
 use Rattle.plan_core.specs.TypedRows.{HaveKinds, AreOfStreams}
+use Rattle.plan_core.proofs.ValueKinds.{unless_some}
 use Rattle.plan_laws.specs.GrowthOfGroups.{groups_of, merged_groups}
 use Rattle.plan_laws.specs.GrowthOfJoins.{AscendsByPosition}
 use Rattle.plan_laws.specs.GrowthOfRows.{has_row, new_rows}
 use Rattle.plan_laws.specs.KeptForm.{rows_of_kept, tagged_from}
 use Rattle.plan_laws.specs.PlanShape.{kinds_given}
-use Rattle.plan_laws.proofs.Answers.{both_ok, both_some, tested, otherwise}
+use Rattle.plan_laws.proofs.Answers.{both_ok, both_some}
 use Rattle.plan_laws.proofs.KeptRows.{join_kept}
 use Rattle.plan_laws.proofs.TaggedMerge.{tagged_ascends}
-use Rattle.plan_laws.proofs.TypedParts.{GivesTypedRows}
+use Rattle.plan_laws.proofs.TypedParts.{GivesTypedRows, there}
 use Rattle.plan_laws.proofs.TypedPlans.{and_then}
 use Rattle.plan_laws.proofs.TypedOperators.{HasKinds, distinct_typed, join_kinds_are, concat_kinds_are}
+use Rattle.plan_laws.proofs.KeptBounds.{given_as}
 use Rattle.rewrite_core.specs.IsRewriting.{OfOne, OfTwo, OfSides, OfDistinctChild}
 use Rattle.growth_laws.specs.Growth.{Added, Made}
 use Rattle.growth_laws.specs.Making.{IsFormOf, as_rows, with_taken_in, with_rows_taken_in, taken_in_of, kept_of_one, made_of_one, kept_of_two, made_of_two, behind, kept_rows, kept_groups, kept_tagged, left_length, pairs_of, with_new_lefts, with_new_rights, with_both, made_of_left, made_of_right, made_of_both, kept_of_grown, made_of_grown, added_of_child, added_of_distinct, added_of_join}
 use Rattle.result_ops.specs.Bounds.{IsBounded}
 use Rattle.result_ops.specs.Fitting.{kinds_of_group, IsOfKinds, IsFit, FitRows, OfPassed, OfGrown, StandsInOrder}
-use Rattle.result_ops.proofs.FitInputs.{there, given_kinds}
 use Rattle.result_ops.proofs.FitResults.{rows_fit}
 use Rattle.result_ops.proofs.FitGroups.{groups_of_kinds}
 use Rattle.result_ops.proofs.FitMerged.{IsSuch, such_of, such_groups, merged_kinds}
@@ -57,7 +59,7 @@ input_kinds : (schemas : List Kinds) (child : PlainPlan) (f : Kinds → Option K
 input_kinds schemas child f typed =
     let whole = there (option_and_then f (plan_kinds schemas child)) typed in
     let k = and_then f (plan_kinds schemas child) whole.0 whole.1 in
-    (whole.0, subst (λ kinds. f kinds ≡ Some whole.0) (sym (given_kinds schemas child k.0 k.1)) k.2, whole.1)
+    (whole.0, subst (λ kinds. f kinds ≡ Some whole.0) (sym (given_as schemas child k.0 k.1)) k.2, whole.1)
 
 fit_rows : (schemas : List Kinds) (plan : PlainPlan) (given : Rows) (form : Kept) → IsFormOf plan (kept.Rows given) → HaveKinds (kinds_given schemas plan) given → kept.Rows given ≡ form → IsBounded plan form → IsFit schemas plan form
 fit_rows schemas plan given form formed have same bounded =
@@ -88,7 +90,7 @@ old_groups schemas child keys aggs (kept.Rows rows) fit = absurd fit.form_is
 old_groups schemas child keys aggs (kept.Tagged lefts rows) fit = absurd fit.form_is
 
 ordered_same : (keys : List Key) (kinds out : Kinds) → order_kinds keys kinds ≡ Some out → kinds ≡ out
-ordered_same keys kinds out is = (tested (list_all (λ key. nat_lt key.column (length kinds)) keys) kinds out (otherwise (is_empty keys) _ out is)).1
+ordered_same keys kinds out is = (cond_some (list_all (λ key. nat_lt key.column (length kinds)) keys) kinds out (unless_some (is_empty keys) _ out is)).1
 
 old_tagged : (schemas : List Kinds) (first second : PlainPlan) (on : List (ℕ × ℕ)) (old : Kept) → IsFit schemas (Join first second on) old → AreTagged (kinds_given schemas (Join first second on)) (kept_tagged old)
 old_tagged schemas first second on (kept.Tagged lefts rows) fit = fit.kinds_are
@@ -105,22 +107,22 @@ module _ (law : GivesTypedRows) (schemas : List Kinds) where
   filtered_kinds : (child : PlainPlan) (test : PlainExpr) (rows given : Rows) → IsSome (plan_kinds schemas (Filter child test)) → HaveKinds (kinds_given schemas child) rows → filter_rows test rows ≡ Ok given → HaveKinds (kinds_given schemas (Filter child test)) given
   filtered_kinds child test rows given typed have is =
       let k = input_kinds schemas child (filter_kinds test) typed in
-      subst (λ kinds. HaveKinds kinds given) (sym (given_kinds schemas (Filter child test) k.0 k.2)) (over_scan law (kinds_given schemas child) k.0 (Filter (Scan 0) test) rows given refl k.1 have is)
+      subst (λ kinds. HaveKinds kinds given) (sym (given_as schemas (Filter child test) k.0 k.2)) (over_scan law (kinds_given schemas child) k.0 (Filter (Scan 0) test) rows given refl k.1 have is)
 
   projected_kinds : (child : PlainPlan) (columns : List PlainExpr) (rows given : Rows) → IsSome (plan_kinds schemas (Project child columns)) → HaveKinds (kinds_given schemas child) rows → project_rows columns rows ≡ Ok given → HaveKinds (kinds_given schemas (Project child columns)) given
   projected_kinds child columns rows given typed have is =
       let k = input_kinds schemas child (project_kinds columns) typed in
-      subst (λ kinds. HaveKinds kinds given) (sym (given_kinds schemas (Project child columns) k.0 k.2)) (over_scan law (kinds_given schemas child) k.0 (Project (Scan 0) columns) rows given refl k.1 have is)
+      subst (λ kinds. HaveKinds kinds given) (sym (given_as schemas (Project child columns) k.0 k.2)) (over_scan law (kinds_given schemas child) k.0 (Project (Scan 0) columns) rows given refl k.1 have is)
 
   ordered_kinds : (child : PlainPlan) (keys : List Key) (rows : Rows) → IsSome (plan_kinds schemas (Order child keys)) → HaveKinds (kinds_given schemas child) rows → HaveKinds (kinds_given schemas (Order child keys)) (order_rows keys rows)
   ordered_kinds child keys rows typed have =
       let k = input_kinds schemas child (order_kinds keys) typed in
-      subst (λ kinds. HaveKinds kinds (order_rows keys rows)) (sym (given_kinds schemas (Order child keys) k.0 k.2)) (over_scan law (kinds_given schemas child) k.0 (Order (Scan 0) keys) rows (order_rows keys rows) refl k.1 have refl)
+      subst (λ kinds. HaveKinds kinds (order_rows keys rows)) (sym (given_as schemas (Order child keys) k.0 k.2)) (over_scan law (kinds_given schemas child) k.0 (Order (Scan 0) keys) rows (order_rows keys rows) refl k.1 have refl)
 
   grouped_kinds : (child : PlainPlan) (keys : List ℕ) (aggs : List Agg) (rows : Rows) → IsSome (plan_kinds schemas (Group child keys aggs)) → HaveKinds (kinds_given schemas child) rows → All (λ group. kinds_of_group group ≡ kinds_given schemas (Group child keys aggs)) (groups_of keys aggs rows)
   grouped_kinds child keys aggs rows typed have =
       let k = input_kinds schemas child (group_kinds keys aggs) typed in
-      subst (λ kinds. All (λ group. kinds_of_group group ≡ kinds) (groups_of keys aggs rows)) (sym (given_kinds schemas (Group child keys aggs) k.0 k.2)) (groups_of_kinds keys aggs (kinds_given schemas child) k.0 rows have k.1)
+      subst (λ kinds. All (λ group. kinds_of_group group ≡ kinds) (groups_of keys aggs rows)) (sym (given_as schemas (Group child keys aggs) k.0 k.2)) (groups_of_kinds keys aggs (kinds_given schemas child) k.0 rows have k.1)
 
   pub one_fit : (plan : PlainPlan) (child made : Made) → IsSome (plan_kinds schemas plan) → OfOne (λ input. IsFit schemas input child.kept) plan → made_of_one plan child ≡ Ok made → IsBounded plan made.kept → IsFit schemas plan made.kept
   one_fit (Filter input test) child made typed fit is bounded =
@@ -153,15 +155,15 @@ module _ (law : GivesTypedRows) (schemas : List Kinds) where
   join_kinds_of left right on typed =
       let whole = there (plan_kinds schemas (Join left right on)) typed in
       let k = both_some (join_kinds on) (plan_kinds schemas left) (plan_kinds schemas right) whole.0 whole.1 in
-      ap (λ l. l ++ kinds_given schemas right) (given_kinds schemas left k.0 k.2) ∙ ap (λ r. k.0 ++ r) (given_kinds schemas right k.1 k.3) ∙ join_kinds_are on k.0 k.1 whole.0 k.4 ∙ sym (given_kinds schemas (Join left right on) whole.0 whole.1)
+      ap (λ l. l ++ kinds_given schemas right) (given_as schemas left k.0 k.2) ∙ ap (λ r. k.0 ++ r) (given_as schemas right k.1 k.3) ∙ join_kinds_are on k.0 k.1 whole.0 k.4 ∙ sym (given_as schemas (Join left right on) whole.0 whole.1)
 
   concat_kinds_of : (left right : PlainPlan) → IsSome (plan_kinds schemas (Concat left right)) → (kinds_given schemas left ≡ kinds_given schemas (Concat left right)) × (kinds_given schemas right ≡ kinds_given schemas (Concat left right))
   concat_kinds_of left right typed =
       let whole = there (plan_kinds schemas (Concat left right)) typed in
       let k = both_some concat_kinds (plan_kinds schemas left) (plan_kinds schemas right) whole.0 whole.1 in
       let same = concat_kinds_are k.0 k.1 whole.0 k.4 in
-      let given = sym (given_kinds schemas (Concat left right) whole.0 whole.1) in
-      (given_kinds schemas left k.0 k.2 ∙ same.0 ∙ given, given_kinds schemas right k.1 k.3 ∙ same.1 ∙ given)
+      let given = sym (given_as schemas (Concat left right) whole.0 whole.1) in
+      (given_as schemas left k.0 k.2 ∙ same.0 ∙ given, given_as schemas right k.1 k.3 ∙ same.1 ∙ given)
 
   tagged_of : (first : ℕ) (left right : PlainPlan) (on : List (ℕ × ℕ)) (lefts rights : Rows) → IsSome (plan_kinds schemas (Join left right on)) → FitRows schemas lefts left → FitRows schemas rights right
       → AreTagged (kinds_given schemas (Join left right on)) (tagged_from first on lefts rights)
@@ -282,7 +284,7 @@ module _ (law : GivesTypedRows) (schemas : List Kinds) where
       let kinds = kinds_given schemas (Order child keys) in
       let same : kept.Rows (order_rows keys (kept_rows old.kept ++ order_rows keys added.rows)) ≡ made.kept = let h = made_form (kept_of_grown (Order child keys) old.kept added.rows) (old.taken_in + taken_in_of added) made is in cc in
       let k = input_kinds schemas child (order_kinds keys) typed in
-      let as_input : (rows : Rows) → HaveKinds kinds rows → HaveKinds (kinds_given schemas child) rows = λ rows. subst (λ ks. HaveKinds ks rows) (given_kinds schemas (Order child keys) k.0 k.2 ∙ sym (ordered_same keys (kinds_given schemas child) k.0 k.1)) in
+      let as_input : (rows : Rows) → HaveKinds kinds rows → HaveKinds (kinds_given schemas child) rows = λ rows. subst (λ ks. HaveKinds ks rows) (given_as schemas (Order child keys) k.0 k.2 ∙ sym (ordered_same keys (kinds_given schemas child) k.0 k.1)) in
       let all = All-append (HasKinds kinds) (kept_rows old.kept) (order_rows keys added.rows) (old_rows schemas (Order child keys) old.kept fit.kinds_are) (ordered_kinds child keys added.rows typed have) in
       fit_rows schemas (Order child keys) (order_rows keys (kept_rows old.kept ++ order_rows keys added.rows)) made.kept tt
       (ordered_kinds child keys (kept_rows old.kept ++ order_rows keys added.rows) typed (as_input (kept_rows old.kept ++ order_rows keys added.rows) all)) same bounded

@@ -1,6 +1,6 @@
 -- Which operator a plan has, by the inputs that it lacks, and what is known of its parts at equal cuts.
 use Rattle.std.specs.Bool.{IsTrue}
-use Rattle.std.proofs.Common.{◌≡◌, ◌≢◌, true, false, refl, subst, rules}
+use Rattle.std.proofs.Common.{◌≡◌, ◌≢◌, true, refl, subst, rules}
 use Rattle.plan_core.specs.PlainPlan.{PlainPlan, Scan, Filter, Project, Distinct, Group, Join, Concat, Order}
 use Rattle.rewrite_core.specs.declared.rewriting.Hit.{Hit}
 use Rattle.rewrite_core.specs.Entries.{Entries, AreSound, IsEarlier}
@@ -61,6 +61,3 @@ no_right entries sound lengths q c hit here x y h differ none = none_grown_by_wa
 
 pub holds : IsTrue true
 holds = search rules
-
-pub never : IsTrue false → ⊥
-never h = search rules

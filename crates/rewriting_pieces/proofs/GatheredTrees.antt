@@ -1,5 +1,5 @@
 -- Which trees are gathered, by the way and then by the plan.
-use Rattle.std.proofs.Common.{◌≡◌, refl, true, false, ◌&&◌}
+use Rattle.std.proofs.Common.{◌≡◌, refl, false, ◌&&◌}
 use Rattle.plan_core.specs.PlainPlan.{PlainPlan}
 use Rattle.plan_core.specs.PlainPlan as plan
 use Rattle.estimator.specs.Cuts.{Cuts}
@@ -7,6 +7,7 @@ use Rattle.rewrite_core.specs.declared.rewriting.Hit.{Hit}
 use Rattle.rewrite_core.specs.declared.rewriting.Parts as parts
 use Rattle.rewrite_core.specs.PlainRewriting.{PlainRewriting, Node, PlainWay, Scan, One, Two, Read, grown_way}
 use Rattle.growth_laws.specs.Pieces.{is_chain_of, is_gathered}
+use Rattle.growth_laws.proofs.PieceFiles.{scan_is_gathered}
 use Rattle.rewriting_pieces.specs.Operators.{is_row_wise, gathers}
 
 pub chain_one : (p : PlainPlan) (c : Cuts) (r : PlainRewriting) → is_chain_of (Node p c (One r)) ≡ (is_row_wise p && is_chain_of r)
@@ -51,9 +52,6 @@ as_chain (plan.Join left right on) c way is = refl
 as_chain (plan.Concat left right) c way is = refl
 as_chain (plan.Order child keys) c way is = refl
 
-pub gathered_scan : (p : PlainPlan) (c : Cuts) → is_gathered (Node p c Scan) ≡ true
-gathered_scan p c = as_chain p c Scan tt
-
 pub gathered_two : (p : PlainPlan) (c : Cuts) (l r : PlainRewriting) → is_gathered (Node p c (Two l r)) ≡ false
 gathered_two p c l r = as_chain p c (Two l r) tt
 
@@ -66,4 +64,4 @@ gathered_grown p c hit (parts.LeftGrew' a b d e f g h) = as_chain p c (grown_way
 gathered_grown p c hit (parts.RightGrew' a b d e f g h) = as_chain p c (grown_way hit (parts.RightGrew' a b d e f g h)) tt
 gathered_grown p c hit (parts.BothGrew' a b d e f g h i j k l m n o) = as_chain p c (grown_way hit (parts.BothGrew' a b d e f g h i j k l m n o)) tt
 
-pub ruleset of_gathered = (gathered_scan, gathered_one, gathered_two, gathered_read, gathered_grown)
+pub ruleset of_gathered = (scan_is_gathered, gathered_one, gathered_two, gathered_read, gathered_grown)

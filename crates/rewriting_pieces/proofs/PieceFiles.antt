@@ -1,15 +1,11 @@
 -- How many files pieces have.
-use Rattle.std.proofs.Common.{◌≡◌, ◌≢◌, ℕ, zero, suc, ◌+◌, ◌-◌, ◌≤◌, List, [], ◌∷◌, ◌++◌, length, refl, ap, arith, length-append}
+use Rattle.std.proofs.Common.{◌≡◌, ◌≢◌, ℕ, ◌+◌, ◌-◌, ◌≤◌, List, [], ◌∷◌, ◌++◌, length, refl, arith, length-append}
 use Rattle.std.specs.List.{flat_map}
 use Rattle.plan_core.specs.PlainPlan.{PlainPlan, Scan, Filter, Project, Distinct, Group, Join, Concat, Order, leaves, leaf_count}
 use Rattle.rows_core.specs.declared.cut.Cut.{Cut}
 use Rattle.estimator.specs.Cuts.{Cuts}
-use Rattle.rewrite_core.specs.Files.{extents_from}
+use Rattle.rewrite_core.proofs.FileLemmas.{length_of_extents}
 use Rattle.growth_laws.specs.Pieces.{Piece, piece_files, gathered_files}
-
-length_of_extents : (stream number count : ℕ) → length (extents_from stream number count) ≡ count
-length_of_extents stream number zero = refl
-length_of_extents stream number (suc count) = ap suc (length_of_extents stream (number + 1) count)
 
 pub gathered_in_one : (streams : List ℕ) (cut : Cut) → length streams ≡ 1 → length (gathered_files streams (cut ∷ [])) ≡ cut.to - cut.from
 gathered_in_one [] cut is = absurd (cc)

@@ -36,11 +36,11 @@ joined None (Some k) false has = refl
 has_of : (schemas : List Kinds) (p : PlainPlan) → HasTyping schemas p → Has (absent_stream schemas p) (plan_kinds schemas p) (has_too_many schemas p)
 has_of schemas p is = parts (absent_stream schemas p) (plan_kinds schemas p) (has_too_many schemas p) is
 
-some_first : {A B : Type 0} (f : A → Option B) (o : Option A) → IsSome (option_and_then f o) → IsSome o
+pub some_first : {A B : Type 0} (f : A → Option B) (o : Option A) → IsSome (option_and_then f o) → IsSome o
 some_first f None is = absurd (cc)
 some_first f (Some x) is = refl
 
-some_both : {A B C : Type 0} (f : A → B → Option C) (x : Option A) (y : Option B) → IsSome (of_both f x y) → IsSome x × IsSome y
+pub some_both : {A B C : Type 0} (f : A → B → Option C) (x : Option A) (y : Option B) → IsSome (of_both f x y) → IsSome x × IsSome y
 some_both f None None is = absurd (cc)
 some_both f None (Some b) is = absurd (cc)
 some_both f (Some a) None is = absurd (cc)

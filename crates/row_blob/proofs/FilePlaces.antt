@@ -9,9 +9,10 @@ use Rattle.byte_formats.specs.Reading.{◌>>=◌, Read, literal_at, ended}
 use Rattle.row_blob.specs.Reading.{items_at}
 use Rattle.row_blob.specs.Kept.{AreInOrder}
 use Rattle.byte_formats.proofs.Readers.{IsBytes, bind_ok, HasFront, IsReader}
-use Rattle.row_blob.proofs.KeptLaws.{literal_takes, IsBytes-after}
+use Rattle.row_blob.proofs.KeptLaws.{literal_takes}
 use Rattle.byte_formats.proofs.Same.{Same, same_longer, same_behind, same_cancel}
 use Rattle.byte_formats.proofs.Stopping.{IsExact, bind_err, proper, goes_longer, behind_goes, behind_stops}
+use Rattle.byte_formats.proofs.Exact.{bytes_behind}
 use Rattle.row_blob.proofs.ItemPlaces.{IsPlaced, begin, fills, length-fills, fills_fit, all_within, all_go, all_stop}
 
 -- ---- fixed bytes
@@ -124,7 +125,7 @@ module _ {X A : Type 0} (form : ℕ) (header : List ℕ → Read X) (hs : X → 
   opened_stops bytes rest n ys e le same = same_cancel n (opening form) ys rest le (same ∙ ap (λ (l : List ℕ). take n l) (literal_takes (opening form) bytes rest e))
 
   rest_fits : (bytes rest : List ℕ) → IsBytes bytes → literal_at (opening form) bytes ≡ Ok rest → IsBytes rest
-  rest_fits bytes rest fits e = IsBytes-after (opening form) rest (subst IsBytes (literal_takes (opening form) bytes rest e) fits)
+  rest_fits bytes rest fits e = bytes_behind (opening form) rest (subst IsBytes (literal_takes (opening form) bytes rest e) fits)
 
   items_len : (rest : List ℕ) (h : X × List ℕ) → HasFront hs PX rest h → length rest ≡ length (hs h.0) + length h.1
   items_len rest h t = ap length t.parts ∙ length-append (hs h.0) h.1

@@ -21,6 +21,7 @@ use Rattle.row_blob.specs.Kept.{AreInOrder, IsRow, IsNextGroup, IsNextTagged, Is
 use Rattle.byte_formats.proofs.Readers.{IsBytes, bind_ok, ok_is, done, HasFront, IsReader}
 use Rattle.row_blob.proofs.Readers.{items_reader}
 use Rattle.byte_formats.proofs.Fields.{wide64, number_reader, bounded_reader}
+use Rattle.byte_formats.proofs.Exact.{bytes_behind}
 use Rattle.row_blob.proofs.RowLaws.{row_reader}
 use Rattle.row_blob.proofs.SumLaws.{sum_reader}
 use Rattle.row_blob.proofs.GroupLaws.{group_reader, tagged_reader}
@@ -42,10 +43,6 @@ literal_again : (cs rest : List ℕ) → literal_at cs (cs ++ rest) ≡ Ok rest
 literal_again [] rest = refl
 literal_again (c ∷ cs) rest =
     ap (λ (b : Bool). cond b (literal_at cs (cs ++ rest)) (Err (suc (length (cs ++ rest))))) (eq-eqb c c refl) ∙ literal_again cs rest
-
-pub IsBytes-after : (cs rest : List ℕ) → IsBytes (cs ++ rest) → IsBytes rest
-IsBytes-after [] rest fits = fits
-IsBytes-after (c ∷ cs) rest fits = IsBytes-after cs rest (λ i. fits (suc i))
 
 -- ---- items behind their count
 
@@ -146,7 +143,7 @@ wrapped_takes make form read spell P law bytes k fits e =
     let a = bind_ok (literal_at (opening form) bytes) (λ rest. read rest >>= λ x. ended (make x.0, x.1)) k e in
     let b = bind_ok (read a.0) (λ x. ended (make x.0, x.1)) k a.2 in
     let s = literal_takes (opening form) bytes a.0 a.1 in
-    let t = law a.0 b.0 (IsBytes-after (opening form) a.0 (subst IsBytes s fits)) b.1 in
+    let t = law a.0 b.0 (bytes_behind (opening form) a.0 (subst IsBytes s fits)) b.1 in
     let f = ended_ok make b.0.0 b.0.1 k b.2 in
     (b.0.0, f.1, t.fits, s ∙ ap (λ (l : List ℕ). opening form ++ l) (t.parts ∙ ap (λ (l : List ℕ). spell b.0.0 ++ l) f.0 ∙ append-nil (spell b.0.0)))
 

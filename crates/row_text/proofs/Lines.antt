@@ -1,7 +1,7 @@
 -- Reading a line stops only where no row is spelled so.
 use Prim.Native.Nat.{suc}
 use Rattle.std.proofs.Common.{◌≡◌, ◌≢◌, refl, sym, ap, ◌∙◌, ℕ, ◌<◌, ◌≤◌, List, [], ◌∷◌, ◌++◌, length, take, drop, get_or, map, ◌*◌, arith, append_assoc, append-nil, length-append, drop-cons, inl, inr}
-use Rattle.std.proofs.lemmas.List.{take-append-drop, map-append, drop_all}
+use Rattle.std.proofs.lemmas.List.{take-append-drop, map-append, drop_all, append_cancel_left}
 use Rattle.std.specs.List.{flat_map, AllByRecursion}
 use Rattle.rows_core.specs.declared.schema.Column.{Column}
 use Rattle.rows_core.specs.declared.value.Value.{Value}
@@ -13,10 +13,6 @@ use Rattle.row_text.specs.declared.field.Field.{Field}
 use Rattle.row_text.specs.RowSpelling.{byte_spelling, value_spelling, more_spelling, row_spelling, IsShort, IsLoose, IsLooseRow, IsLong, HasLong}
 use Rattle.row_text.specs.Fields.{value_of, values_of, Ends}
 use Rattle.row_text.proofs.Spellings.{Spelled, Escaped, Plain, byte_is, signed_decimal-nonempty, value_apart}
-
-append-cancel : {A : Type 0} (xs ys zs : List A) → xs ++ ys ≡ xs ++ zs → ys ≡ zs
-append-cancel [] ys zs e = e
-append-cancel (x ∷ xs) ys zs e = append-cancel xs ys zs cc
 
 Ends-more : (values : List Value) → Ends (more_spelling values)
 Ends-more [] = tt
@@ -45,7 +41,7 @@ left_over columns i done more rest bytes p e spelled q h =
     let front = more_front done more rest p.1 q.1 e (sym spelled ∙ h) in
     let kinds : map kind_of done ++ map kind_of front.0 ≡ kinds_of (take i columns) ++ kinds_of (drop i columns) =
     sym (map-append kind_of done front.0) ∙ ap (map kind_of) (sym front.1) ∙ q.0 ∙ ap kinds_of (sym (take-append-drop i columns)) ∙ map-append (λ column. column.kind) (take i columns) (drop i columns) in
-    (front.0, append-cancel (kinds_of (take i columns)) _ _ (ap (λ k. k ++ map kind_of front.0) (sym p.0) ∙ kinds), front.2, front.3)
+    (front.0, append_cancel_left (kinds_of (take i columns)) _ _ (ap (λ k. k ++ map kind_of front.0) (sym p.0) ∙ kinds), front.2, front.3)
 
 -- a column is left, and no value of its kind stands there
 pub no_next : (columns : List Column) (i : ℕ) (column : Column) (done more : List Value) (rest bytes : List ℕ) → i < length columns → column ≡ get_or columns i column →

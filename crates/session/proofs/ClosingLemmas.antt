@@ -29,6 +29,7 @@ use Rattle.row_blob.specs.Kept.{AreEach}
 use Rattle.job_table.specs.Jobs.{place_of}
 use Rattle.job_table.specs.declared.table.OpenJob.{OpenJob}
 use Rattle.later_states.specs.Later.{AreFree, IsLater}
+use Rattle.later_states.proofs.States.{same-rows}
 use Rattle.work_run.specs.Ends.{CountsRead, IsRefusedWork}
 use Rattle.work_run.specs.Opened.{HasRead, files_left}
 use Rattle.work_run.specs.Working.{Overflows, IsDear}
@@ -47,7 +48,6 @@ use Rattle.session.specs.Standing.{Stands, Performs, Breaks, folder_of, jobs_of}
 use Rattle.session.specs.Work.{IsNotClosed, IsStopped, IsWithin, IsEnded, IsRecorded}
 use Rattle.session.specs.declared.session.Session.{Session}
 use Rattle.session.proofs.CloseLemmas.{closed_step, dear_step, event_step, limit_step, overflow_step, removed_same, same_run, state_after}
-use Rattle.session.proofs.FolderSteps.{same_rows}
 use Rattle.session.proofs.GoneLemmas.{gone_by_work}
 use Rattle.session.proofs.GoingLemmas.{now, now_goes, now_is, now_whole}
 use Rattle.session.proofs.JobSteps.{same_at, same_name, same_whole}
@@ -204,7 +204,7 @@ module _ (care : Care) (u : View) (session : Session) (m : Machine) (stands : St
         breaks broke = record { answer = answer_of done.work; new = closed_machine; step = answers; recorded = broke.recorded; since = broke.since; left = broke.left }
 
         stand : StaysOpen → StaysRead → IsTable (table after) → ((held : List ℕ) → AreFree held dropped → IsLater held (table m.state) (table after)) → AreJobs after left.nexts news
-        stand open_stays read_stays is_next later = still_left m.state dropped open_stays read_stays is_table after is_next (same_rows m.state.streams) later others news left free
+        stand open_stays read_stays is_next later = still_left m.state dropped open_stays read_stays is_table after is_next (same-rows m.state.streams) later others news left free
 
       pub closed_performs : StaysOpen → StaysRead → (session' : Session) → IsTable (table_in (folder_of session')) → ((held : List ℕ) → AreFree held dropped → IsLater held (table m.state) (table_in (folder_of session')))
           → (given : Answer) → IsEnded (table m.state) done (Some at) now_open (jobs_of session') given → IsRecorded care w v session'.base m.state after given → Performs care u v session' m (command.Close name) given

@@ -1,10 +1,10 @@
 -- A step of the folder's machine, as one of the machine with jobs.
-use Rattle.std.proofs.Common.{◌≡◌, inl, inr, refl, sym, ap, subst, ℕ, zero, suc, Bool, true, false, nat_le, List, [], ◌∷◌, ◌++◌, Option, Some, None, Result, Ok, Err}
+use Rattle.std.proofs.Common.{◌≡◌, inl, inr, refl, sym, ap, subst, ℕ, Bool, true, false, nat_le, List, [], ◌∷◌, ◌++◌, Option, Some, None, Result, Ok, Err}
 use Rattle.std.proofs.lemmas.List.{append-nil}
 use Rattle.rows_core.specs.declared.schema.Column.{Column}
 use Rattle.catalog_types.specs.declared.change.Change.{Change}
 use Rattle.catalog_types.specs.declared.program.Program.{Program}
-use Rattle.catalog_core.specs.Table.{updated, most_ticks}
+use Rattle.catalog_core.specs.Table.{most_ticks}
 use Rattle.estimator.specs.Cuts.{Cuts}
 use Rattle.plan_core.specs.PlainPlan.{PlainPlan}
 use Rattle.planning.specs.Appending.{Append}
@@ -17,12 +17,13 @@ use Rattle.script_text.specs.declared.answer.Refusal.{Refusal}
 use Rattle.script_text.specs.declared.answer.Refusal.TheVariants as refusal
 use Rattle.script_text.specs.declared.item.Command.{Command}
 use Rattle.script_text.specs.declared.item.Command.TheVariants as command
-use Rattle.folder.specs.Next.{grown, new_extent}
+use Rattle.folder.specs.Next.{new_extent}
 use Rattle.folder.specs.Sound.{Care}
-use Rattle.folder.specs.State.{Extent, Stream, State, table}
+use Rattle.folder.specs.State.{Stream, State, table}
 use Rattle.folder_session.specs.Machine as folder
 use Rattle.folder_session.specs.Machine.{IsOfJobs, IsWork, RunsTo, FetchesTo, CollectsTo, IsWorkOn}
 use Rattle.later_states.specs.Later.{HaveMoreRows}
+use Rattle.later_states.proofs.States.{same-rows, added-rows}
 use Rattle.session.specs.Machine.{AreLeft, Machine, Step, Performs, IsEvent, Remains, gone_between, outcome, held_by}
 use Rattle.session.specs.MachineJob.{Job}
 use Rattle.session.proofs.GoneLemmas.{gone_by_none}
@@ -30,36 +31,27 @@ use Rattle.session.proofs.LeavingJobs.{all_stay}
 
 -- ---- the streams of the state after it
 
-pub same_rows : (xs : List Stream) → HaveMoreRows xs xs
-same_rows [] = tt
-same_rows (x ∷ xs) = (([], sym (append-nil x.extents)), same_rows xs)
-
 rows_behind : (xs : List Stream) (x : Stream) → HaveMoreRows xs (xs ++ x ∷ [])
 rows_behind [] x = tt
 rows_behind (y ∷ xs) x = (([], sym (append-nil y.extents)), rows_behind xs x)
-
-rows_grown : (e : Extent) (xs : List Stream) (place : ℕ) → HaveMoreRows xs (updated (grown e) xs place)
-rows_grown e [] place = tt
-rows_grown e (x ∷ xs) zero = ((e ∷ [], refl), same_rows xs)
-rows_grown e (x ∷ xs) (suc place) = (([], sym (append-nil x.extents)), rows_grown e xs place)
 
 abbrev More : State → State → Type 0
 More s u = HaveMoreRows s.streams u.streams
 
 kept_more : (s u : State) → u ≡ s → More s u
-kept_more s u same = subst (More s) (sym same) (same_rows s.streams)
+kept_more s u same = subst (More s) (sym same) (same-rows s.streams)
 
 module _ (s : State) where
   made_more : (name : List ℕ) (columns : List Column) (planned : Result Change Refusal) (given : folder.Outcome) → given ≡ folder.made s name columns planned → More s given.state
   made_more name columns (Ok change) given is = subst (λ (o : folder.Outcome). More s o.state) (sym is) (rows_behind s.streams _)
-  made_more name columns (Err why) given is = subst (λ (o : folder.Outcome). More s o.state) (sym is) (same_rows s.streams)
+  made_more name columns (Err why) given is = subst (λ (o : folder.Outcome). More s o.state) (sym is) (same-rows s.streams)
 
   appended_more : (planned : Result Append Refusal) (given : folder.Outcome) → given ≡ folder.appended s planned → More s given.state
-  appended_more (Ok a) given is = subst (λ (o : folder.Outcome). More s o.state) (sym is) (rows_grown (new_extent s.next_file a.rows) s.streams a.place)
-  appended_more (Err why) given is = subst (λ (o : folder.Outcome). More s o.state) (sym is) (same_rows s.streams)
+  appended_more (Ok a) given is = subst (λ (o : folder.Outcome). More s o.state) (sym is) (added-rows (new_extent s.next_file a.rows) s.streams a.place)
+  appended_more (Err why) given is = subst (λ (o : folder.Outcome). More s o.state) (sym is) (same-rows s.streams)
 
   worked_more : (care : Care) (program : Option Program) (plan : PlainPlan) (cuts : Cuts) (given : Answer) (new : State) → IsWorkOn care s program plan cuts given new → More s new
-  worked_more care program plan cuts (answer.Result rows used kept read) new works = subst (More s) (sym works.1.after) (same_rows s.streams)
+  worked_more care program plan cuts (answer.Result rows used kept read) new works = subst (More s) (sym works.1.after) (same-rows s.streams)
   worked_more care program plan cuts (answer.Refused refusal.Overflow) new works = kept_more s new works.1
   worked_more care program plan cuts (answer.Refused (refusal.Limit limit.Machine)) new works = kept_more s new works.1
   worked_more care program plan cuts _ new works = absurd works
@@ -74,7 +66,7 @@ module _ (s : State) where
 
   collected_more : (full : Bool) (held : List ℕ) (reclaim : ℕ) (given : folder.Outcome) → CollectsTo full held s reclaim given → More s given.state
   collected_more true held reclaim given is = kept_more s given.state (ap (λ (o : folder.Outcome). o.state) is)
-  collected_more false held reclaim given is = subst (λ (o : folder.Outcome). More s o.state) (sym is.3) (same_rows s.streams)
+  collected_more false held reclaim given is = subst (λ (o : folder.Outcome). More s o.state) (sym is.3) (same-rows s.streams)
 
   performed_more : (care : Care) (held : List ℕ) (c : Command) (given : folder.Outcome) → folder.Performs care held s c given → More s given.state
   performed_more care held (command.Stream name columns) given is = made_more name columns (making (table s) name columns) given is

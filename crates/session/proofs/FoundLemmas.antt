@@ -2,6 +2,7 @@
 use Rattle.std.proofs.Common.{◌≡◌, ◌⊎◌, inl, inr, refl, sym, ap, ◌∙◌, subst, ℕ, ◌+◌, ◌≤◌, Bool, true, List, [], ◌∷◌, Option, Some, None, get_or, append-nil, arith}
 use Rattle.std.proofs.Math.ListN.{set}
 use Rattle.std.specs.Bool.{IsTrue}
+use Rattle.std.proofs.lemmas.List.{append_cancel_left}
 use Rattle.outside_traits.specs.Counts.{Rose}
 use Rattle.outside_traits.specs.View.{View, Counts}
 use Rattle.plan_core.specs.PlainPlan.{PlainPlan}
@@ -45,7 +46,6 @@ use Rattle.session.specs.Causes.{IsFoundOf, IsOfJob, HasByteCause}
 use Rattle.session.specs.Jobs.{OpenJobs, IsHeldOver, AreHeldOver, open_named}
 use Rattle.session.specs.Taken.{TakesFirst, TakesGoingOn, TakesForJob, TakesFor, StepTakes, CloseTakes, TakesAsTold}
 use Rattle.session.specs.Work.{IsNotClosed, ReadsOn, StepsOn}
-use Rattle.session.proofs.GoingLemmas.{same_behind}
 use Rattle.session.proofs.Places.{first_at, none_at, within_first, opened_at, none_opened, each_at, each_set}
 
 -- ---- the job of the name
@@ -148,7 +148,7 @@ module _ (t : Table) (view : View) (plan : PlainPlan) (old new : JobWork) (first
   one_passed : work.IsJob t plan old → (one : ReadsOne old new) → (on : GoesOn true t plan old new) → on.passed ≡ (file_at t one.name).len
   one_passed is one on =
       let more = read-more t plan (leaving_out old.noted.items t) old.work new.work (rewriting-same old.work new.work one.same) is.is_open one.name one.next in
-      let none : on.ids ≡ [] = same_behind old.noted.items on.ids [] (sym on.noted ∙ ap (λ v. v.items) one.noted ∙ sym (append-nil old.noted.items)) in
+      let none : on.ids ≡ [] = append_cancel_left old.noted.items on.ids [] (sym on.noted ∙ ap (λ v. v.items) one.noted ∙ sym (append-nil old.noted.items)) in
       let passed = on.passed_is in
       let bytes = no_bytes on.ids none (opened_rewriting new.work) (files_left new.work) on.bytes on.turns in
       omega (arith, more, passed, bytes)

@@ -2,6 +2,7 @@
 use Rattle.std.proofs.Common.{◌≡◌, refl, sym, ap, ◌∙◌, subst, ℕ, ◌+◌, ◌-◌, ◌≤◌, Bool, true, List, [], ◌∷◌, ◌++◌, length, drop, length-append, length-drop, arith}
 use Rattle.std.proofs.Math.Path.{transport}
 use Rattle.std.specs.List.{AllByRecursion}
+use Rattle.std.proofs.lemmas.List.{append_cancel_left}
 use Rattle.plan_core.specs.PlainPlan.{PlainPlan}
 use Rattle.estimator.specs.Bytes.{capped}
 use Rattle.rewrite_core.specs.Files.{Result, files_of}
@@ -22,11 +23,6 @@ use Rattle.session.specs.Jobs.{IsJob}
 use Rattle.session.specs.MachineJob as machine
 use Rattle.session.specs.MachineJob.{Job, GoesOn, NotesNext, left_of, steps_of}
 use Rattle.session.proofs.ReadLemmas.{drop_more}
-
--- the two results of a list are one where what is before them is
-pub same_behind : {A : Type 0} (front xs ys : List A) → front ++ xs ≡ front ++ ys → xs ≡ ys
-same_behind [] xs ys is = is
-same_behind (x ∷ front) xs ys is = same_behind front xs ys (ap (drop 1) is)
 
 module _ (s : State) (job : Job) (o new : OpenJob JobWork) (is : IsJob s job o) (names : new.name ≡ o.name) (still : work.IsJob (table s) job.run.plan new.job) (read : HasRead s new.job.work) where
   -- ---- however many are noted
@@ -134,4 +130,4 @@ module _ (s : State) (job : Job) (o new : OpenJob JobWork) (is : IsJob s job o) 
 -- where it noted this result alone, it is the one whose file shows damage
 pub shown_alone : (tells : Bool) (care : Care) (s : State) (plan : PlainPlan) (id : ℕ) (old new : JobWork) (on : turns.GoesOn tells (table s) plan old new) → new.noted.items ≡ old.noted.items ++ id ∷ [] → AllByRecursion (IsLost care s) on.ids → IsLost care s id
 shown_alone tells care s plan id old new on noted shown =
-    (subst (AllByRecursion (IsLost care s)) (same_behind old.noted.items on.ids (id ∷ []) (sym on.noted ∙ noted)) shown).0
+    (subst (AllByRecursion (IsLost care s)) (append_cancel_left old.noted.items on.ids (id ∷ []) (sym on.noted ∙ noted)) shown).0

@@ -19,6 +19,7 @@ use Rattle.folder_session.specs.Working.{IsPlannedOver, IsWorkedOff, answer_of}
 use Rattle.folder_session.proofs.RefusalLemmas.{want_causes}
 use Rattle.folder_session.proofs.StepLemmas.{breaks_behind, records_behind, want_event}
 use Rattle.later_states.specs.Later.{AreFree, IsLater}
+use Rattle.later_states.proofs.States.{same-rows}
 use Rattle.script_text.specs.declared.answer.Answer.{Answer}
 use Rattle.script_text.specs.declared.answer.Answer.TheVariants as answer
 use Rattle.script_text.specs.declared.answer.Refusal.{Refusal}
@@ -37,7 +38,7 @@ use Rattle.session.specs.Taken.{TakesAsTold, TakesFor}
 use Rattle.session.specs.Work.{IsEnded, IsRecorded}
 use Rattle.session.specs.declared.session.Session.{Session}
 use Rattle.session.proofs.EndedLemmas.{IsAnsweredBy}
-use Rattle.session.proofs.FolderSteps.{same_rows, work_event, work_refused, working}
+use Rattle.session.proofs.FolderSteps.{work_event, work_refused, working}
 use Rattle.session.proofs.GoneLemmas.{gone_by_work}
 use Rattle.session.proofs.LeavingJobs.{LeftJobs, behind_free, jobs_over, left_jobs, still_left}
 use Rattle.session.proofs.StayLemmas.{StaysOpen, StaysRead}
@@ -71,7 +72,7 @@ module _ (care : Care) (u w v : View) (session : Session) (m : Machine) (stands 
 
     stand : StaysOpen → StaysRead → IsTable (table after) → ((held : List ℕ) → AreFree held dropped → IsLater held (table m.state) (table after)) → AreJobs after left.nexts news
     stand open_stays read_stays is_next later =
-        still_left m.state dropped open_stays read_stays is_table after is_next (same_rows m.state.streams) later m.jobs news left (behind_free (table m.state) dropped (jobs_of session) (jobs_over m.state m.jobs (jobs_of session) stands.jobs) None news behind)
+        still_left m.state dropped open_stays read_stays is_table after is_next (same-rows m.state.streams) later m.jobs news left (behind_free (table m.state) dropped (jobs_of session) (jobs_over m.state m.jobs (jobs_of session) stands.jobs) None news behind)
 
   worked_performs : StaysOpen → StaysRead → (session' : Session) → IsTable (table_in (folder_of session')) → ((held : List ℕ) → AreFree held dropped → IsLater held (table m.state) (table_in (folder_of session'))) → (given : Answer)
       → IsEnded (table m.state) done None (jobs_of session) (jobs_of session') given → IsRecorded care w v session'.base m.state after given → Performs care u v session' m c given

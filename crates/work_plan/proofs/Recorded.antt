@@ -16,10 +16,10 @@ use Rattle.catalog_types.specs.declared.change.Change.{Change}
 use Rattle.catalog_types.specs.declared.change.Change.TheVariants.{Work}
 use Rattle.catalog_types.specs.declared.program.Program.{Program}
 use Rattle.catalog_types.specs.declared.snapshot.StreamState.{StreamState}
+use Rattle.entry_table.proofs.Growth.{all-map}
 use Rattle.entry_table.specs.Ids.{AreIdsOf, are_apart, without}
 use Rattle.entry_table.specs.Results.{most_entries, file_end, MayBeKept}
 use Rattle.entry_table.proofs.Files.{files-fit}
-use Rattle.entry_table.proofs.Growth.{all-map}
 use Rattle.catalog_core.specs.IsTable.{IsTable}
 use Rattle.catalog_core.specs.Results.{IsResultOver}
 use Rattle.catalog_core.specs.Table.{Table, Fits, FitsProgram, most_ticks}

@@ -19,13 +19,14 @@ use Rattle.catalog_types.specs.PlainEntry.{PlainEntry}
 use Rattle.catalog_core.specs.IsTable.{IsTable}
 use Rattle.catalog_core.specs.Named.{HasFile, file_at, machine_at}
 use Rattle.catalog_core.specs.Table.{Table}
+use Rattle.catalog_core.proofs.AskedResults.{all-at}
 use Rattle.kept_files.specs.declared.refusal.ReadRefusal.TheVariants as read
 use Rattle.executor.specs.Running.{EndsBy, EndsOver, IsShapeOf}
 use Rattle.folder.specs.Files.{IsPieceIn}
 use Rattle.folder.specs.Sound.{Care, Shown, Whole, Holds, IsSound}
 use Rattle.folder.specs.State.{State, Names, table, kinds_in, extents_in, file_bytes}
 use Rattle.folder.specs.Damage.{ShowsDamage}
-use Rattle.folder.proofs.GrownStreams.{all-at, as-long, entry-in}
+use Rattle.folder.proofs.GrownStreams.{as-long, entry-in}
 use Rattle.folder.proofs.HeldForms.{slice_has, extent-at, shape-there}
 use Rattle.work_run.specs.Ends.{sources_of}
 use Rattle.work_run.proofs.Held.{extent-file}

@@ -5,14 +5,16 @@ use Rattle.std.proofs.lemmas.Bool.Decides.{nat_tests}
 use Rattle.std.proofs.lemmas.List.{length-map}
 use Rattle.std.specs.List.{AllByRecursion, list_all}
 use Rattle.std.proofs.lemmas.List.Elements.{All-from_recursion, recursion_from_All}
+use Rattle.std.proofs.lemmas.Option.{cond_some}
 use Rattle.rows_core.specs.Value.{kind_of}
 use Rattle.plan_core.specs.declared.refusal.PlanRefusal.TheVariants.{TooMany}
 use Rattle.plan_core.specs.PlainPlan.{PlainPlan, Scan, Filter, Project, Distinct, Group, Join, Concat, Order}
 use Rattle.plan_core.specs.PlanTyping.{Kinds, all_there, absent_stream, plan_typing, is_empty, column_kind_of, agg_kind, filter_kinds, project_kinds, group_kinds, join_kinds, concat_kinds, order_kinds, plan_kinds, column_count, is_above_limit, has_too_many, present_or, typed_or}
 use Rattle.plan_core.specs.Columns.{Rows}
 use Rattle.plan_core.specs.TypedRows.{HaveKinds}
+use Rattle.plan_core.proofs.ValueKinds.{unless_some}
 use Rattle.plan_laws.specs.PlanShape.{kinds_given}
-use Rattle.plan_laws.proofs.Answers.{both_some, tested, otherwise, there_front}
+use Rattle.plan_laws.proofs.Answers.{both_some, there_front}
 use Rattle.plan_laws.proofs.TypedOperators.{filter_same_kinds, join_kinds_are, concat_kinds_are}
 use Rattle.plan_laws.proofs.TypedPlans.{and_then}
 use Rattle.result_ops.specs.Fitting.{FitRows}
@@ -40,12 +42,12 @@ module _ (schemas : List Kinds) where
       omega (arith, few_kinds child j.0 j.1 h, ap length (filter_same_kinds test j.0 k j.2))
   few_kinds (Project child columns) k e h =
       let j = and_then (project_kinds columns) (plan_kinds schemas child) k e in
-      let all = all_there-length (map (column_kind_of j.0) columns) k (otherwise (is_empty columns) _ k j.2) in
+      let all = all_there-length (map (column_kind_of j.0) columns) k (unless_some (is_empty columns) _ k j.2) in
       omega (arith, few (length columns) (or_parts (is_above_limit (length columns)) (has_too_many schemas child) h).0, all, length-map columns (column_kind_of j.0))
   few_kinds (Distinct child) k e h = few_kinds child k e h
   few_kinds (Group child keys aggs) k e h =
       let j = and_then (group_kinds keys aggs) (plan_kinds schemas child) k e in
-      let both = both_some (λ key_kinds agg_kinds. Some (key_kinds ++ agg_kinds)) (all_there (map (slice_get j.0) keys)) (all_there (map (agg_kind j.0) aggs)) k (otherwise (is_empty keys || is_empty aggs) _ k j.2) in
+      let both = both_some (λ key_kinds agg_kinds. Some (key_kinds ++ agg_kinds)) (all_there (map (slice_get j.0) keys)) (all_there (map (agg_kind j.0) aggs)) k (unless_some (is_empty keys || is_empty aggs) _ k j.2) in
       let same : both.0 ++ both.1 ≡ k = let is = both.4 in cc in
       omega (
         arith,
@@ -69,7 +71,7 @@ module _ (schemas : List Kinds) where
       omega (arith, few_kinds left both.0 both.2 (or_parts (has_too_many schemas left) (has_too_many schemas right) h).0, ap length (concat_kinds_are both.0 both.1 k both.4).0)
   few_kinds (Order child keys) k e h =
       let j = and_then (order_kinds keys) (plan_kinds schemas child) k e in
-      let same : j.0 ≡ k = (tested (list_all _ keys) j.0 k (otherwise (is_empty keys) _ k j.2)).1 in
+      let same : j.0 ≡ k = (cond_some (list_all _ keys) j.0 k (unless_some (is_empty keys) _ k j.2)).1 in
       omega (arith, few_kinds child j.0 j.1 (or_parts (is_above_limit (length keys)) (has_too_many schemas child) h).1, ap length same)
 
 -- it isn't refused for its columns

@@ -11,9 +11,9 @@ use Rattle.growth_laws.specs.Parts.{plan_at, cuts_at}
 use Rattle.catalog_types.specs.declared.snapshot.StreamState.{StreamState}
 use Rattle.catalog_core.specs.Programs.{AreCuts, kinds_of_streams}
 use Rattle.catalog_core.specs.Table.{Table}
+use Rattle.catalog_core.proofs.AskedResults.{all-at}
 use Rattle.executor.specs.Outcomes.{IsKeptFrom}
 use Rattle.executor.specs.declared.outcome.KeptPlace.{KeptPlace}
-use Rattle.folder.proofs.GrownStreams.{all-at}
 use Rattle.plan_choice.specs.Taken.{IsTaken, Serves}
 use Rattle.plan_choice.specs.declared.choosing.Choice.{Choice}
 use Rattle.work_plan.specs.Fitting.{IsFit}

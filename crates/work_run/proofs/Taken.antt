@@ -10,6 +10,7 @@ use Rattle.row_blob.specs.declared.kept.Kept.TheVariants as kept
 use Rattle.outside_traits.specs.View.{Counts}
 use Rattle.estimator.specs.Bytes.{capped}
 use Rattle.rewrite_core.specs.Files.{FileName, Extent, Result}
+use Rattle.rewrite_core.proofs.Looking.{Contains-first, Contains-behind}
 use Rattle.growth_laws.specs.KeptResults.{KeptResult}
 use Rattle.growth_laws.specs.Lists.{extents_of}
 use Rattle.catalog_types.specs.PlainEntry.{PlainEntry}
@@ -22,7 +23,6 @@ use Rattle.folder.specs.State.{State, IsValid, table, extents_in, file_bytes}
 use Rattle.folder.specs.Files.{form_of, results_in}
 use Rattle.folder.proofs.GrownStreams.{as-long, entry-in}
 use Rattle.folder.proofs.HeldForms.{slice_has, result-with, extent-at, rows-there}
-use Rattle.folder.proofs.NextStates.{Contains-first, Contains-behind}
 use Rattle.work_run.specs.Ends.{CountsRead}
 use Rattle.work_run.proofs.Held.{extent-file}
 

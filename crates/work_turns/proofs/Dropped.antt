@@ -1,13 +1,14 @@
 -- The ids of entries that are among others.
-use Rattle.std.proofs.Common.{◌≡◌, refl, sym, ap, ◌∙◌, ℕ, ◌<◌, ◌≤◌, ◌==◌, ◌&&◌, ◌||◌, nat_lt, Bool, true, false, not, cond, List, [], ◌∷◌, ◌++◌, ◌+◌, length, map, take, get_or, arith}
+use Rattle.std.proofs.Common.{◌≡◌, refl, sym, ap, ◌∙◌, ℕ, ◌<◌, ◌==◌, ◌&&◌, ◌||◌, nat_lt, Bool, true, false, not, cond, List, [], ◌∷◌, ◌++◌, ◌+◌, length, map, take, get_or, arith}
 use Rattle.std.specs.List.{filter, list_all}
-use Rattle.std.proofs.lemmas.Bool.{eqb-true, ltb-true, lt-ltb, not-true, and_from, and_parts}
+use Rattle.std.proofs.lemmas.Bool.{eqb-true, ltb-true, not-true, and_from, and_parts}
 use Rattle.std.proofs.lemmas.List.{map-append}
 use Rattle.std.proofs.lemmas.List.Elements.{filter_more}
-use Rattle.std.proofs.lemmas.Map.Views.{any-filter_same}
 use Rattle.std.proofs.Math.Bool.{and-true, or-true, and-false}
 use Rattle.catalog_types.specs.PlainEntry.{PlainEntry}
 use Rattle.entry_table.specs.Ids.{AreIdsOf, ids_of, ascend_above, are_apart, is_among, is_there, without}
+use Rattle.entry_table.proofs.Growth.{ascend-lower}
+use Rattle.plan_choice.proofs.LeftOut.{left-there}
 use Rattle.work_turns.specs.Ends.{entries_among, those_among}
 
 -- ---- which they are
@@ -63,20 +64,13 @@ there-those ids (e ∷ es) = by (is_among ids e.id) (there-more e es (those_amon
 
 -- ---- they ascend
 
-lower : (low bound : ℕ) (ids : List ℕ) → low ≤ bound → ascend_above bound ids ≡ true → ascend_above low ids ≡ true
-lower low bound [] most up = refl
-lower low bound (id ∷ ids) most up =
-    let parts = and_parts (nat_lt bound id) (ascend_above id ids) up in
-    let less = ltb-true bound id parts.0 in
-    and_from (nat_lt low id) (ascend_above id ids) (lt-ltb low id (omega (arith, most, less))) parts.1
-
 ascend-those : (ids : List ℕ) (low : ℕ) (es : List PlainEntry) → ascend_above low (ids_of es) ≡ true → ascend_above low (those_among ids es) ≡ true
 ascend-those ids low [] up = refl
 ascend-those ids low (e ∷ es) up =
     let parts = and_parts (nat_lt low e.id) (ascend_above e.id (ids_of es)) up in
     let less = ltb-true low e.id parts.0 in
     let rest = ascend-those ids e.id es parts.1 in
-    by (is_among ids e.id) parts.0 rest (lower low e.id (those_among ids es) (omega (arith, less)) rest)
+    by (is_among ids e.id) parts.0 rest (ascend-lower low e.id (those_among ids es) (omega (arith, less)) rest)
   where
     by : (b : Bool) → nat_lt low e.id ≡ true → ascend_above e.id (those_among ids es) ≡ true → ascend_above low (those_among ids es) ≡ true
         → ascend_above low (ids_of (cond b (e ∷ filter (λ e. is_among ids e.id) es) (filter (λ e. is_among ids e.id) es))) ≡ true
@@ -108,9 +102,6 @@ pub among-twice : (ids : List ℕ) (es : List PlainEntry) → entries_among (tho
 among-twice ids es = agree (those_among ids es) ids es (among-those ids es) (λ b. b) es (all-there es)
 
 -- ---- ids of the entries that are left are apart from them
-
-left-there : (ids : List ℕ) (es : List PlainEntry) (id : ℕ) → is_there (without ids es) id ≡ true → (not (is_among ids id) ≡ true) × (is_there es id ≡ true)
-left-there ids es id there = and_parts (not (is_among ids id)) (is_there es id) (sym (any-filter_same (λ (e : PlainEntry). e.id == id) (λ (e : PlainEntry). not (is_among ids e.id)) (not (is_among ids id)) (λ e same. ap (λ (i : ℕ). not (is_among ids i)) (eqb-true e.id id same)) es) ∙ there)
 
 all-left-there : (ids : List ℕ) (es : List PlainEntry) (used : List ℕ) → list_all (is_there (without ids es)) used ≡ true → list_all (is_there es) used ≡ true
 all-left-there ids es [] there = refl

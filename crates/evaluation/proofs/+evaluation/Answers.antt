@@ -6,7 +6,7 @@ use Rattle.rewrite_core.specs.declared.rewriting.Delta.{Delta}
 use Rattle.rewrite_core.specs.declared.rewriting.Rewriting.{Rewriting}
 use Rattle.rewrite_core.specs.PlainRewriting.{Node, One, Two, Tail, LeftGrew, RightGrew, BothGrew, Change, OfChild, OfDistinct, OfJoin, rewriting_of, way_of, grown_way, delta_of, delta_way_of}
 use Rattle.growth_laws.specs.Pieces.{is_gathered, is_chain_delta}
-use Rattle.rewriting_pieces.proofs.GatheredTrees.{gathered_scan}
+use Rattle.growth_laws.proofs.PieceFiles.{scan_is_gathered}
 use Rattle.evaluation.proofs.Arms.{stopped}
 use Rattle.evaluation.proofs.DeltaArms as deltas
 use Rattle.evaluation.proofs.GrownArms as grown
@@ -441,11 +441,11 @@ rewritings::made_unrecorded-returns-else-is_gathered t c =
 
 pub rewritings::made_in-unreachable-requires : goal.rewritings::made_in-unreachable-requires
 rewritings::made_in-unreachable-requires t c =
-    false≢true (sym (subst (λ way. is_gathered (Node (plan_of c.args.plan.now) c.args.cuts.now way) ≡ false) (ap way_of c.in-Scan.is) c.requires.parts) ∙ gathered_scan (plan_of c.args.plan.now) c.args.cuts.now)
+    false≢true (sym (subst (λ way. is_gathered (Node (plan_of c.args.plan.now) c.args.cuts.now way) ≡ false) (ap way_of c.in-Scan.is) c.requires.parts) ∙ scan_is_gathered (plan_of c.args.plan.now) c.args.cuts.now)
 
 pub rewritings::made_in-unreachable-unreachable : goal.rewritings::made_in-unreachable-unreachable
 rewritings::made_in-unreachable-unreachable t c =
-    false≢true (sym (subst (λ way. is_gathered (Node (plan_of c.args.plan.now) c.args.cuts.now way) ≡ false) (ap way_of c.in-Scan.is) c.requires.parts) ∙ gathered_scan (plan_of c.args.plan.now) c.args.cuts.now)
+    false≢true (sym (subst (λ way. is_gathered (Node (plan_of c.args.plan.now) c.args.cuts.now way) ≡ false) (ap way_of c.in-Scan.is) c.requires.parts) ∙ scan_is_gathered (plan_of c.args.plan.now) c.args.cuts.now)
 
 pub rewritings::made_in-made-requires : goal.rewritings::made_in-made-requires
 rewritings::made_in-made-requires t c =

@@ -2,7 +2,8 @@
 use Rattle.std.proofs.Common.{sym, ap, ◌∙◌, subst, All}
 use Rattle.row_blob.specs.declared.kept.Kept.TheVariants as kept
 use Rattle.plan_laws.specs.GrowthOfGroups.{merged_groups}
-use Rattle.result_ops.proofs.BoundedGroups.{AreAccs, holds, never, bounded_groups}
+use Rattle.rewrite_core.proofs.Looking.{never}
+use Rattle.result_ops.proofs.BoundedGroups.{AreAccs, holds, bounded_groups}
 use Rattle.result_ops.proofs.FitMerged.{merged_keys_differ}
 use Rattle.result_ops.proofs.grown.merged.Goals as goal
 

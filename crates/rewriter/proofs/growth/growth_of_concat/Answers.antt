@@ -1,9 +1,10 @@
 use Rattle.std.proofs.Common.{sym, ap, ◌∙◌}
 use Rattle.plan_core.specs.PlainPlan.{plan_of}
 use Rattle.rewrite_core.specs.IsRewriting.{lefts, rights}
+use Rattle.rewrite_core.proofs.Looking.{never}
 use Rattle.rewriter.proofs.Growths.{tail_of_concat, no_concat}
 use Rattle.rewriter.proofs.Ranges.{left_fits, two_of_concat}
-use Rattle.rewriter.proofs.Shapes.{holds, never}
+use Rattle.rewriter.proofs.Shapes.{holds}
 use Rattle.rewriter.proofs.growth.growth_of_concat.Goals as goal
 
 pub sides-requires-2 : goal.sides-requires-2

@@ -1,10 +1,11 @@
 use Rattle.std.proofs.Common.{subst, sym}
 use Rattle.plan_core.specs.PlainPlan.{plan_of}
+use Rattle.rewrite_core.proofs.Looking.{never}
 use Rattle.rewriter.specs.declared.parts.Growth.TheVariants as growth
 use Rattle.rewriter.specs.Growing.{Grows}
 use Rattle.rewriter.specs.Stretches.{before}
 use Rattle.rewriter.proofs.Growths.{left_grew, right_grew, both_grew}
-use Rattle.rewriter.proofs.Shapes.{holds, never}
+use Rattle.rewriter.proofs.Shapes.{holds}
 use Rattle.rewriter.proofs.growth.growth_of_inputs.Goals as goal
 
 pub returns-then-are_same_cuts : goal.returns-then-are_same_cuts

@@ -1,9 +1,10 @@
 use Rattle.std.proofs.Common.{sym, ◌∙◌}
 use Rattle.plan_core.specs.PlainPlan.{plan_of}
+use Rattle.rewrite_core.proofs.Looking.{never}
 use Rattle.rewriter.proofs.Growths.{child_of_concat}
 use Rattle.rewriter.proofs.LeastParts as law
 use Rattle.rewriter.proofs.Ranges.{left_fits, two_of_concat}
-use Rattle.rewriter.proofs.Shapes.{holds, never}
+use Rattle.rewriter.proofs.Shapes.{holds}
 use Rattle.rewriter.proofs.increase.increase_of_concat.Goals as goal
 
 pub sides-requires : goal.sides-requires

@@ -1,8 +1,9 @@
 use Rattle.std.proofs.Common.{refl, ap}
 use Rattle.plan_core.specs.PlainPlan.{plan_of}
+use Rattle.rewrite_core.proofs.Looking.{never}
 use Rattle.rewriter.proofs.Growths.{child_of_row, child_of_distinct}
 use Rattle.rewriter.proofs.LeastParts as law
-use Rattle.rewriter.proofs.Shapes.{whole_if, holds, never}
+use Rattle.rewriter.proofs.Shapes.{whole_if, holds}
 use Rattle.rewriter.proofs.increase.increase_of_one.Goals as goal
 
 pub returns-then-is_by_row : goal.returns-then-is_by_row

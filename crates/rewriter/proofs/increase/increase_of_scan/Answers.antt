@@ -1,6 +1,6 @@
 use Rattle.plan_core.specs.PlainPlan.{plan_of}
+use Rattle.rewrite_core.proofs.Looking.{never}
 use Rattle.rewriter.proofs.LeastParts as law
-use Rattle.rewriter.proofs.Shapes.{never}
 use Rattle.rewriter.proofs.increase.increase_of_scan.Goals as goal
 
 pub returns : goal.returns

@@ -7,10 +7,11 @@ use Rattle.folder.specs.Next.{new_extent, with_rows}
 use Rattle.folder.specs.Standing.{IsNext}
 use Rattle.folder.specs.State.{extent_of, table, file_bytes}
 use Rattle.folder.proofs.NextStates.{table-with_rows}
+use Rattle.folder.proofs.FilesWritten.{counted_on}
 use Rattle.folder_session.specs.Standing.{Stands, folder_of}
 use Rattle.folder_session.proofs.FileLemmas.{file_is, change_of, next_number, none_ahead}
 use Rattle.folder_session.proofs.StepLemmas.{records_behind, breaks_behind, breaks_before}
-use Rattle.folder_session.proofs.LeavingLemmas.{count_then, appends_both, appends_file}
+use Rattle.folder_session.proofs.LeavingLemmas.{appends_both, appends_file}
 use Rattle.later_states.specs.Later.{SparesHeld}
 use Rattle.folder_session.proofs.session.FolderSession.record_file.Goals as goal
 
@@ -57,7 +58,7 @@ pub returns-in-Ok-clause-crash : goal.returns-in-Ok-clause-crash
 returns-in-Ok-clause-crash g c = λ told stands. c.record.ensures.crash told (c.write_next.ensures.stands stands)
 
 pub returns-in-Ok-clause-no_fault : goal.returns-in-Ok-clause-no_fault
-returns-in-Ok-clause-no_fault g c = count_then _ _ _ _ c.in-Ok.ensures.no_fault c.record.ensures.no_fault
+returns-in-Ok-clause-no_fault g c = counted_on _ _ _ _ c.in-Ok.ensures.no_fault c.record.ensures.no_fault
 
 pub returns-in-Ok-clause-alone : goal.returns-in-Ok-clause-alone
 returns-in-Ok-clause-alone g c = appends_both (folder_of c.args.self) _ _ _ c.write_next.ensures.alone c.record.ensures.alone

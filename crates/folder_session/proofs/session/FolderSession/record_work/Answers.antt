@@ -12,9 +12,10 @@ use Rattle.folder.specs.Removing.{IsFree}
 use Rattle.folder.proofs.NextStates.{table-with_work}
 use Rattle.folder.specs.Standing.{IsNext}
 use Rattle.folder.specs.Written.{AreWritten}
+use Rattle.folder.proofs.FilesWritten.{counted_on}
 use Rattle.folder_session.specs.Standing.{Stands, folder_of}
 use Rattle.folder_session.proofs.DroppedLemmas.{FilesOfTables, dropped_files_free, gone_behind}
-use Rattle.folder_session.proofs.LeavingLemmas.{count_then, writes_and_removes, writes_more}
+use Rattle.folder_session.proofs.LeavingLemmas.{writes_and_removes, writes_more}
 use Rattle.folder_session.proofs.StepLemmas.{records_behind, breaks_behind, breaks_before}
 use Rattle.folder_session.proofs.WorkLemmas.{are-ready, numbered, recorded, no_checkpoint, work_fits}
 use Rattle.work_turns.specs.Ends.{files_among}
@@ -80,7 +81,7 @@ pub returns-in-Ok-clause-crash : goal.returns-in-Ok-clause-crash
 returns-in-Ok-clause-crash g c = λ told stands. c.record_and_remove.ensures.crash told (c.write_files.ensures.stands stands)
 
 pub returns-in-Ok-clause-no_fault : goal.returns-in-Ok-clause-no_fault
-returns-in-Ok-clause-no_fault g c = count_then _ _ _ _ c.in-Ok.ensures.no_fault c.record_and_remove.ensures.no_fault
+returns-in-Ok-clause-no_fault g c = counted_on _ _ _ _ c.in-Ok.ensures.no_fault c.record_and_remove.ensures.no_fault
 
 pub returns-in-Ok-clause-alone : goal.returns-in-Ok-clause-alone
 returns-in-Ok-clause-alone g c =
