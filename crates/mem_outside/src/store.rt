@@ -64,6 +64,7 @@ impl MemStore {
     pub fn new(alloc: Global, fails: Vec<u64>) -> MemStore
         ensures files { (file : ℕ) → (⟦<MemStore as Store>⟧.view result).files file ≡ [] }
         ensures there { (file : ℕ) → (⟦<MemStore as Store>⟧.view result).there file ≡ false }
+        ensures moment { (⟦<MemStore as Store>⟧.view result).moment ≡ 0 }
         ensures counts { ⟦<MemStore as Store>⟧.counts result
             ≡ record { reads = 0; writes = 0; removes = 0; taken = 0 } }
         ensures shown { ⟦<MemStore as InMemory>⟧.shown result ≡ [] }
@@ -148,6 +149,7 @@ impl MemStore {
             → (⟦<MemStore as Store>⟧.view store).files g
             ≡ (left_of (pick % 2 == 1) (pick / 2 % 2) (pick / 4 % 2 == 1)
             (state_in (⟦<MemStore as InMemory>⟧.shown self.now) g)).bytes) }
+        ensures moment { IfOk result (λ store. (⟦<MemStore as Store>⟧.view store).moment ≡ 0) }
         ensures refused { IfOk result (λ store. ⟦<MemStore as InMemory>⟧.refused store ≡ 0) }
         ensures schedule { IfOk result
             (λ store. ⟦<MemStore as InMemory>⟧.schedule store
