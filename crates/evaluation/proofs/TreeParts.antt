@@ -14,8 +14,6 @@ use Rattle.made_places.proofs.Formed.{formed, formed_delta, plan_is, delta_plan_
 use Rattle.evaluation.specs.Parts.{IsFormed, IsFormedDelta, delta_plan}
 use Rattle.evaluation.proofs.PlanParts.{IsTypedOver, in_one, in_two, in_sides, in_distinct, in_grown, in_passed, tail_as, passed_as, from_typed_one, from_typed_two, from_typed_sides, from_typed_distinct, from_typed_tail}
 
-)
-
 module _ (schemas : List Kinds) where
   -- a formed input with a typing
   abbrev pub IsInput : PlainRewriting → Type 0

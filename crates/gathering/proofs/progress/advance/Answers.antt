@@ -3,11 +3,11 @@ use Rattle.plan_core.specs.Columns.{Rows}
 use Rattle.plan_core.specs.MachineTime.{rows_taken_in}
 use Rattle.plan_core.specs.PlainPlan.{plan_of}
 use Rattle.growth_laws.specs.Growth.{whole_made}
-use Rattle.group_fold.proofs.Tables.{on_ok}
 use Rattle.result_ops.specs.declared.stop.Stop.TheVariants as stop
 use Rattle.gathering.specs.Holding.{came_of, Follows, made_of_chain}
 use Rattle.gathering.specs.Steps.{counted, Passes}
 use Rattle.gathering.proofs.Extents.{given, passed_follow, failed_follow, stopped_follow}
+use Rattle.gathering.proofs.OnOk.{on_ok}
 use Rattle.gathering.proofs.progress.advance.Goals as goal
 
 pub returns-then-has_overflowed-clause-follows : goal.returns-then-has_overflowed-clause-follows

@@ -4,10 +4,10 @@ use Rattle.plan_core.specs.PlainPlan.{plan_of, leaves}
 use Rattle.plan_core.specs.PlanTyping.{Kinds}
 use Rattle.plan_core.specs.TypedRows.{AreOfStreams}
 use Rattle.growth_laws.specs.Growth.{whole_made}
-use Rattle.group_fold.proofs.Tables.{on_ok}
 use Rattle.gathering.specs.Gathered.{Gathers}
 use Rattle.gathering.specs.Holding.{came_of, Follows}
 use Rattle.gathering.proofs.Gatherings.{further_gathers}
+use Rattle.gathering.proofs.OnOk.{on_ok}
 use Rattle.gathering.proofs.gathering.Gathering.feed.Goals as goal
 
 pub returns-clause-fed : goal.returns-clause-fed
