@@ -1,18 +1,33 @@
 -- The inputs of a node are formed and have a typing, and what is fit for them is fit for the plan's inputs.
-use Rattle.std.proofs.Common.{sym, subst, List}
+use Rattle.std.proofs.Common.{◌≡◌, refl, sym, subst, List}
 use Rattle.row_blob.specs.declared.kept.Kept.{Kept}
 use Rattle.plan_core.specs.Columns.{Rows}
 use Rattle.plan_core.specs.PlainPlan.{PlainPlan}
 use Rattle.plan_core.specs.PlanTyping.{Kinds}
 use Rattle.estimator.specs.Cuts.{Cuts}
 use Rattle.rewrite_core.specs.declared.rewriting.Hit.{Hit}
-use Rattle.rewrite_core.specs.IsRewriting.{IsRewriting, IsDelta, OfOne, OfTwo, OfSides, OfDistinctChild, whichever}
+use Rattle.rewrite_core.specs.IsRewriting.{IsRewriting, IsWay, IsDelta, IsDeltaWay, OfOne, OfTwo, OfSides, OfDistinctChild, whichever}
 use Rattle.rewrite_core.specs.PlainRewriting.{PlainRewriting, Node, One, Two, Tail, LeftGrew, RightGrew, BothGrew, PlainDelta, Change, OfChild, OfDistinct, OfJoin}
 use Rattle.growth_laws.specs.Parts.{plan_at}
+use Rattle.growth_laws.proofs.PieceResults.{subst_both}
 use Rattle.result_ops.specs.Fitting.{IsFit, FitRows, OfPassed, OfGrown}
-use Rattle.made_places.proofs.Formed.{formed, formed_delta, plan_is, delta_plan_is}
+use Rattle.made_places.proofs.Formed.{plan_is}
 use Rattle.evaluation.specs.Parts.{IsFormed, IsFormedDelta, delta_plan}
 use Rattle.evaluation.proofs.PlanParts.{IsTypedOver, in_one, in_two, in_sides, in_distinct, in_grown, in_passed, tail_as, passed_as, from_typed_one, from_typed_two, from_typed_sides, from_typed_distinct, from_typed_tail}
+
+pub formed : (r : PlainRewriting) (plan : PlainPlan) (cuts : Cuts) → IsRewriting whichever plan cuts r → IsFormed r
+formed (Node p c way) plan cuts is = (refl, refl, subst_both (λ q d. IsWay whichever q d way) plan p cuts c (sym is.0) (sym is.1) is.2)
+
+pub formed_delta : (d : PlainDelta) (plan : PlainPlan) (old new : Cuts) → IsDelta whichever plan old new d → IsFormedDelta d
+formed_delta (Change p o n way) plan old new is = (
+  refl,
+  refl,
+  refl,
+  subst (λ q. IsDeltaWay whichever q o n way) (sym is.0) (subst_both (λ o n. IsDeltaWay whichever plan o n way) old o new n (sym is.1) (sym is.2) is.3),
+)
+
+pub delta_plan_is : (d : PlainDelta) (plan : PlainPlan) (old new : Cuts) → IsDelta whichever plan old new d → delta_plan d ≡ plan
+delta_plan_is (Change p o n way) plan old new is = is.0
 
 module _ (schemas : List Kinds) where
   -- a formed input with a typing

@@ -13,12 +13,12 @@ use Rattle.journal_store.specs.Readings.{generation_file, IsJournalFile}
 use Rattle.journal_store.specs.Making.{IsLoading}
 use Rattle.journal_store.specs.declared.journal.Journal.{Journal}
 use Rattle.folder.specs.State.{Stream, State, Names, table, stream_of}
-use Rattle.folder.specs.Replay.{Replays, ReadsAs, StopsReading, due_in, is_checkpoint}
+use Rattle.folder.specs.Replay.{Replays, ReadsAs, StopsReplay, StopsReading, due_in, is_checkpoint}
 use Rattle.folder.specs.Sound.{Care, IsSound}
 use Rattle.folder.specs.Left.{Follows, Near, IsSoundForOneOf, IsLeft, Everything, Since}
 use Rattle.folder.specs.Standing.{Stands, Means}
-use Rattle.folder.proofs.Replays.{replays_once, replays_or_stops}
-use Rattle.journal_store.proofs.OneReading.{have_once, have_or_stop}
+use Rattle.folder.proofs.Replays.{replays_once, replays_or_stops, stops_once}
+use Rattle.journal_store.proofs.OneReading.{have_once, have_or_stop, stop_once as stop_once_in_journal}
 use Rattle.folder.proofs.JournalLemmas.{none_of_unfinished}
 
 -- files read as one table
@@ -35,6 +35,18 @@ reads_or_stops files x file at a (inr b) =
     let same = have_once files a.generation b.generation a.bodies b.bodies a.logs b.logs in
     let due : Replays (due_in b.generation) empty_table a.bodies x = subst (λ g. Replays (due_in g) empty_table a.bodies x) same.0 a.replays in
     replays_or_stops (due_in b.generation) empty_table x 8 at b.bodies (subst (λ l. Replays (due_in b.generation) empty_table l x) same.1 due) b.stops
+
+-- reading stops at one place
+pub stop_once : (files : ℕ → List ℕ) (file at g b : ℕ) → StopsReading files file at → StopsReading files g b → (file ≡ g) × (at ≡ b)
+stop_once files file at g b (inl x) (inl y) = stop_once_in_journal files file at g b x y
+stop_once files file at g b (inl x) (inr y) = absurd (have_or_stop files y.generation y.bodies file at y.logs x)
+stop_once files file at g b (inr x) (inl y) = absurd (have_or_stop files x.generation x.bodies g b x.logs y)
+stop_once files file at g b (inr x) (inr y) =
+    let same = have_once files x.generation y.generation x.bodies y.bodies x.logs y.logs in
+    let due : StopsReplay (due_in y.generation) empty_table 8 x.bodies at = subst (λ n. StopsReplay (due_in n) empty_table 8 x.bodies at) same.0 x.stops in (
+      x.file_is ∙ ap generation_file same.0 ∙ sym y.file_is,
+      stops_once (due_in y.generation) empty_table 8 at b y.bodies (subst (λ l. StopsReplay (due_in y.generation) empty_table 8 l at) same.1 due) y.stops,
+    )
 
 -- the files now and after each crash read as the table of a journal that stands
 pub stands_reads : (v : View) (t : Table) (journal : Journal) (image : ℕ → List ℕ) → Stands v t journal → IsImageAt v v.moment image → ReadsAs image t

@@ -1,5 +1,4 @@
-use Rattle.journal_store.proofs.OneReading.{stop_once}
-use Rattle.folder.proofs.Loading.{reads_once, reads_or_stops}
+use Rattle.folder.proofs.Loading.{reads_once, reads_or_stops, stop_once}
 use Rattle.folder.proofs.laws.one_table.Goals as goal
 
 pub returns-clause-once : goal.returns-clause-once

@@ -3,11 +3,10 @@ use Rattle.folder.specs.Folders.{journal_of, table_in}
 use Rattle.folder.specs.declared.folder.Folder.{Folder}
 use Rattle.folder.specs.declared.refusal.LoadRefusal.TheVariants.{NotAStore}
 use Rattle.journal_store.specs.Journals.{had_root_of}
-use Rattle.journal_store.proofs.OneReading.{stop_once}
 use Rattle.folder.proofs.Crash.{left_of_since}
 use Rattle.folder.proofs.Freed.{short_of_unfinished, had_none, gone_before, freed_alone, freed_finished, freed_since, freed_left}
 use Rattle.folder.proofs.Going.{err_same}
-use Rattle.folder.proofs.Loading.{reads_or_stops}
+use Rattle.folder.proofs.Loading.{reads_or_stops, stop_once}
 use Rattle.folder.proofs.LoadLemmas.{taken_of}
 use Rattle.folder.proofs.Strays.{logs_or_unnamed, strays_mean, strays_stand, strays_use, unnamed_narrowed}
 use Rattle.folder.proofs.folder.Folder.load.Goals as goal
