@@ -78,7 +78,7 @@ stream-keeps name columns t fits is = record {
   first_file = is.first_file;
   last_file = is.last_file;
   names = ap (λ names. not (has_repeat names)) (names-added t.streams (new_stream name columns))
-      ∙ ap not (no-repeat-push (names_of t.streams) name (untrue _ is.names) (absent-name t.streams name fits.absent));
+      ∙ ap not (no-repeat-push (names_of t.streams) name (not-true _ is.names) (absent-name t.streams name fits.absent));
   are_streams = all-push IsStream t.streams (new_stream name columns) is.are_streams (record { schema = fits.schema; extents = omega arith; are_extents = tt; rows = omega arith });
   few_streams = let n = length-append t.streams (new_stream name columns ∷ []) in omega (arith, n, fits.room);
   few_extents = let n = sum_by-append (λ (s : StreamState). length s.extents) t.streams (new_stream name columns ∷ []) in omega (arith, n, is.few_extents);

@@ -30,7 +30,7 @@ pub enum Part {
 
 impl Part {
     /// How many files are still to be read of it.
-    #[tactic(auto, using(crate::proofs::Lengths::extent_count))]
+    #[tactic(auto, using(rewrite_core::proofs::FileLemmas::length_of_extents))]
     pub fn left(&self) -> u64
         ensures { result ≡ length (files_left self.now) }
     {
