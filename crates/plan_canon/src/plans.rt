@@ -28,44 +28,27 @@ pub fn normal_plan(alloc: Global, schemas: &Schemas, plan: &Plan) -> Result<Plan
             let columns = normal_exprs(alloc, columns.items())?;
             project_of(alloc, schemas, &child, columns)
         }
-        Plan::Distinct { child } => {
-            let child = normal_plan(alloc, schemas, child)?;
-            Ok(Plan::Distinct {
-                child: Box::new(alloc, child)?,
-            })
-        }
-        Plan::Group { child, keys, aggs } => {
-            let child = normal_plan(alloc, schemas, child)?;
-            Ok(Plan::Group {
-                child: Box::new(alloc, child)?,
-                keys: keys.try_copy(alloc)?,
-                aggs: aggs.try_copy(alloc)?,
-            })
-        }
-        Plan::Join { left, right, on } => {
-            let left = normal_plan(alloc, schemas, left)?;
-            let right = normal_plan(alloc, schemas, right)?;
-            Ok(Plan::Join {
-                left: Box::new(alloc, left)?,
-                right: Box::new(alloc, right)?,
-                on: on.try_copy(alloc)?,
-            })
-        }
-        Plan::Concat { left, right } => {
-            let left = normal_plan(alloc, schemas, left)?;
-            let right = normal_plan(alloc, schemas, right)?;
-            Ok(Plan::Concat {
-                left: Box::new(alloc, left)?,
-                right: Box::new(alloc, right)?,
-            })
-        }
-        Plan::Order { child, keys } => {
-            let child = normal_plan(alloc, schemas, child)?;
-            Ok(Plan::Order {
-                child: Box::new(alloc, child)?,
-                keys: keys.try_copy(alloc)?,
-            })
-        }
+        Plan::Distinct { child } => Ok(Plan::Distinct {
+            child: Box::new(alloc, normal_plan(alloc, schemas, child)?)?,
+        }),
+        Plan::Group { child, keys, aggs } => Ok(Plan::Group {
+            child: Box::new(alloc, normal_plan(alloc, schemas, child)?)?,
+            keys: keys.try_copy(alloc)?,
+            aggs: aggs.try_copy(alloc)?,
+        }),
+        Plan::Join { left, right, on } => Ok(Plan::Join {
+            left: Box::new(alloc, normal_plan(alloc, schemas, left)?)?,
+            right: Box::new(alloc, normal_plan(alloc, schemas, right)?)?,
+            on: on.try_copy(alloc)?,
+        }),
+        Plan::Concat { left, right } => Ok(Plan::Concat {
+            left: Box::new(alloc, normal_plan(alloc, schemas, left)?)?,
+            right: Box::new(alloc, normal_plan(alloc, schemas, right)?)?,
+        }),
+        Plan::Order { child, keys } => Ok(Plan::Order {
+            child: Box::new(alloc, normal_plan(alloc, schemas, child)?)?,
+            keys: keys.try_copy(alloc)?,
+        }),
     }
 }
 

@@ -1,5 +1,5 @@
 //! The one spelling of a plan.
-ghost use Rattle.std.specs.Prelude.{◌≡◌, ◌++◌, ◌<◌, IfOk, OnOk, length, map};
+ghost use Rattle.std.specs.Prelude.{◌≡◌, ◌++◌, ◌∷◌, ◌<◌, IfOk, OnOk, length, map};
 ghost use Rattle.std.specs.Int.{w32, to_be_bytes};
 ghost use Rattle.std.specs.List.{flat_map};
 ghost use Rattle.plan_core.specs.PlainExpr.{expr_of};
@@ -29,48 +29,52 @@ fn put_plan(out: &mut Vec<u8>, plan: &Plan) -> Result<(), Memory>
     ensures { OnOk result (out.new.items ≡ out.old.items ++ plan_spelling (plan_of plan.now)) }
 {
     match plan {
-        Plan::Scan { stream } => {
-            put_byte(out, 0x01)?;
-            put_u32(out, *stream)?;
-        }
+        Plan::Scan { stream } => put_numbered(out, 0x01, *stream),
         Plan::Filter { child, test } => {
             put_byte(out, 0x02)?;
             put_plan(out, child)?;
-            put_expr(out, test)?;
+            put_expr(out, test)
         }
         Plan::Project { child, columns } => {
             put_byte(out, 0x03)?;
             put_plan(out, child)?;
-            put_exprs(out, columns.items())?;
+            put_exprs(out, columns.items())
         }
         Plan::Distinct { child } => {
             put_byte(out, 0x04)?;
-            put_plan(out, child)?;
+            put_plan(out, child)
         }
         Plan::Group { child, keys, aggs } => {
             put_byte(out, 0x05)?;
             put_plan(out, child)?;
             put_columns(out, keys.items())?;
-            put_aggs(out, aggs.items())?;
+            put_aggs(out, aggs.items())
         }
         Plan::Join { left, right, on } => {
             put_byte(out, 0x06)?;
             put_plan(out, left)?;
             put_plan(out, right)?;
-            put_pairs(out, on.items())?;
+            put_pairs(out, on.items())
         }
         Plan::Concat { left, right } => {
             put_byte(out, 0x07)?;
             put_plan(out, left)?;
-            put_plan(out, right)?;
+            put_plan(out, right)
         }
         Plan::Order { child, keys } => {
             put_byte(out, 0x08)?;
             put_plan(out, child)?;
-            put_keys(out, keys.items())?;
+            put_keys(out, keys.items())
         }
     }
-    Ok(())
+}
+
+// Puts a node whose one part is a number.
+fn put_numbered(out: &mut Vec<u8>, tag: u8, number: u32) -> Result<(), Memory>
+    ensures { OnOk result (out.new.items ≡ out.old.items ++ (tag ∷ to_be_bytes w32 number)) }
+{
+    put_byte(out, tag)?;
+    put_u32(out, number)
 }
 
 fn put_expr(out: &mut Vec<u8>, expr: &Expr) -> Result<(), Memory>
@@ -78,10 +82,7 @@ fn put_expr(out: &mut Vec<u8>, expr: &Expr) -> Result<(), Memory>
     ensures { OnOk result (out.new.items ≡ out.old.items ++ expr_spelling (expr_of expr.now)) }
 {
     match expr {
-        Expr::Column(column) => {
-            put_byte(out, 0x11)?;
-            put_u32(out, *column)?;
-        }
+        Expr::Column(column) => put_numbered(out, 0x11, *column)?,
         Expr::Literal(cell) => put_cell(out, cell)?,
         Expr::Call1 { row, arg } => {
             put_byte(out, 0x15)?;
@@ -203,6 +204,5 @@ fn put_agg(out: &mut Vec<u8>, agg: Agg) -> Result<(), Memory>
         Agg::Last(column) => (6, column),
         Agg::Avg(column) => (7, column),
     };
-    put_byte(out, tag)?;
-    put_u32(out, column)
+    put_numbered(out, tag, column)
 }
