@@ -13,23 +13,13 @@ mod shapes;
 
 use crate::shapes::shape_of;
 use anyhow::{Context, Result};
+use case_text::cases::answer_each;
 use row_blob::{BlobRefusal, Shape, decode, encode, encoded_len};
 use std::alloc::Global;
 use std::io;
 
 fn main(rt: HostRuntime) -> io::Result<()> {
-    let alloc = rt.alloc();
-    for line in rt.lines(alloc) {
-        let line = line?;
-        if line.is_empty() || line.starts_with('#') {
-            continue;
-        }
-        match answer(alloc, line.as_str()) {
-            Ok(answer) => println!(rt; "{answer}")?,
-            Err(refusal) => println!(rt; "{refusal}")?,
-        }
-    }
-    Ok(())
+    answer_each(rt, answer)
 }
 
 fn answer(alloc: Global, case: &str) -> Result<String> {

@@ -8,6 +8,7 @@
 mod given;
 
 use anyhow::{Context, Result};
+use case_text::cases::answer_each;
 use collector::{ratio_cmp, victims};
 use given::{entries_of, entry_of, numbers_of};
 use std::alloc::Global;
@@ -15,18 +16,7 @@ use std::cmp::Ordering;
 use std::io;
 
 fn main(rt: HostRuntime) -> io::Result<()> {
-    let alloc = rt.alloc();
-    for line in rt.lines(alloc) {
-        let line = line?;
-        if line.is_empty() || line.starts_with('#') {
-            continue;
-        }
-        match answer(alloc, line.as_str()) {
-            Ok(answer) => println!(rt; "{answer}")?,
-            Err(refusal) => println!(rt; "{refusal}")?,
-        }
-    }
-    Ok(())
+    answer_each(rt, answer)
 }
 
 fn answer(alloc: Global, case: &str) -> Result<String> {

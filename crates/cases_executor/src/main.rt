@@ -24,24 +24,14 @@ mod steps;
 mod within;
 
 use anyhow::Result;
+use case_text::cases::answer_each;
 use given::case_of;
 use std::alloc::Global;
 use std::io;
 use steps::{held_at_steps, run_at_steps};
 
 fn main(rt: HostRuntime) -> io::Result<()> {
-    let alloc = rt.alloc();
-    for line in rt.lines(alloc) {
-        let line = line?;
-        if line.is_empty() || line.starts_with('#') {
-            continue;
-        }
-        match answer(alloc, line.as_str()) {
-            Ok(answer) => println!(rt; "{answer}")?,
-            Err(refusal) => println!(rt; "{refusal}")?,
-        }
-    }
-    Ok(())
+    answer_each(rt, answer)
 }
 
 fn answer(alloc: Global, case: &str) -> Result<String> {

@@ -1,10 +1,10 @@
 //! Logs of which some bytes are others: what the project's loading and the plain reader make of them.
 
-use crate::draw::Draw;
 use crate::logs::{Logs, Reading, Why, read_logs};
 use crate::runs::folder_of;
 use crate::table::Held;
 use anyhow::{Context, Result, bail};
+use case_text::draw::Draw;
 use folder::{Folder, LoadRefusal};
 use mem_outside::MemStore;
 use std::alloc::Global;
@@ -40,8 +40,8 @@ impl Recorded {
         let mut log = Vec::from_slice(alloc, &self.log)?;
         for _ in 0..=draw.below(3) {
             match draw.below(16) {
-                0 => draw.change(&mut root),
-                _ => draw.change(&mut log),
+                0 => change(draw, &mut root),
+                _ => change(draw, &mut log),
             }
         }
         Ok(Recorded {
@@ -49,6 +49,19 @@ impl Recorded {
             file: self.file,
             log,
         })
+    }
+}
+
+// Makes one of the bytes one more, one less, or any other.
+fn change(draw: &mut Draw, bytes: &mut [u8]) {
+    let place = draw.below(bytes.len() as u64) as usize;
+    let by = match draw.below(4) {
+        0 => 1,
+        1 => 255,
+        _ => draw.below(255).saturating_add(1),
+    };
+    if let Some(byte) = bytes.get_mut(place) {
+        *byte = byte.wrapping_add((by & 0xFF) as u8);
     }
 }
 

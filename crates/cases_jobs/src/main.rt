@@ -6,7 +6,6 @@
 //! on those of its opening. A line that is empty or begins with `#` is no case.
 #![tactic(auto)]
 
-mod draw;
 mod judging;
 mod making;
 mod meant;
@@ -14,6 +13,7 @@ mod plans;
 mod running;
 
 use anyhow::{Context, Result};
+use case_text::cases::answer_each;
 use judging::judged;
 use making::commands_of;
 use running::answers;
@@ -21,18 +21,7 @@ use std::alloc::Global;
 use std::io;
 
 fn main(rt: HostRuntime) -> io::Result<()> {
-    let alloc = rt.alloc();
-    for line in rt.lines(alloc) {
-        let line = line?;
-        if line.is_empty() || line.starts_with('#') {
-            continue;
-        }
-        match answer(alloc, line.as_str()) {
-            Ok(answer) => println!(rt; "{answer}")?,
-            Err(refusal) => println!(rt; "{refusal}")?,
-        }
-    }
-    Ok(())
+    answer_each(rt, answer)
 }
 
 fn answer(alloc: Global, case: &str) -> Result<String> {

@@ -1,10 +1,10 @@
 //! The commands of a case. None of them is refused: where the name that is drawn for a fetch stands for no
 //! plan, a run takes its place; and a job that isn't open is opened, and else stepped, closed or dropped.
 
-use crate::draw::Draw;
 use crate::meant::{Meant, Rows};
 use crate::plans::{PLAN_COUNT, plan};
 use anyhow::Result;
+use case_text::draw::Draw;
 use std::alloc::Global;
 
 const NAME_COUNT: u64 = 6;

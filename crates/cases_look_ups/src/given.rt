@@ -3,7 +3,7 @@
 use anyhow::{Context, Result};
 use catalog_types::Entry;
 use plan_core::Plan;
-use postfix_plans::plan_of;
+use postfix_plans::{cuts_of, plan_of};
 use rows_core::{Cut, Digest, FileRef, Seq};
 use std::alloc::Global;
 
@@ -39,22 +39,6 @@ fn ids_of(alloc: Global, text: &str) -> Result<Vec<u32>> {
         ids.push(id.parse::<u32>().ok().context("no id")?)?;
     }
     Ok(ids)
-}
-
-/// Intervals, as `0-2,1-3`.
-fn cuts_of(alloc: Global, text: &str) -> Result<Seq<Cut>> {
-    let mut cuts = Vec::new(alloc);
-    for cut in text.split(',') {
-        cuts.push(cut_of(cut).context("no interval")?)?;
-    }
-    Ok(Seq::new(cuts))
-}
-
-fn cut_of(text: &str) -> Option<Cut> {
-    let (from, to) = text.split_once('-')?;
-    let from = from.parse::<u32>().ok()?;
-    let to = to.parse::<u32>().ok()?;
-    Some(Cut { from, to })
 }
 
 fn entries_of(alloc: Global, text: &str) -> Result<Vec<Entry>> {

@@ -10,22 +10,12 @@ mod forms;
 mod meaning;
 
 use anyhow::Result;
+use case_text::cases::answer_each;
 use std::alloc::Global;
 use std::io;
 
 fn main(rt: HostRuntime) -> io::Result<()> {
-    let alloc = rt.alloc();
-    for line in rt.lines(alloc) {
-        let line = line?;
-        if line.is_empty() || line.starts_with('#') {
-            continue;
-        }
-        match answer(alloc, line.as_str()) {
-            Ok(answer) => println!(rt; "{answer}")?,
-            Err(refusal) => println!(rt; "{refusal}")?,
-        }
-    }
-    Ok(())
+    answer_each(rt, answer)
 }
 
 /// What the case gives.

@@ -2,7 +2,7 @@
 
 use anyhow::{Context, Result};
 use plan_core::{Plan, Schemas, Typed, type_plan};
-use postfix_plans::plan_of;
+use postfix_plans::{cuts_of, plan_of};
 use result_list::{ExtentLens, ListedResult, ResultList};
 use rows_core::{Cut, Kind, Seq};
 use std::alloc::Global;
@@ -64,22 +64,6 @@ fn lens_of(alloc: Global, text: &str) -> Result<Seq<u64>> {
         lens.push(len.parse::<u64>().ok().context("no length")?)?;
     }
     Ok(Seq::new(lens))
-}
-
-/// Intervals, as `0-2,1-3`.
-fn cuts_of(alloc: Global, text: &str) -> Result<Seq<Cut>> {
-    let mut cuts = Vec::new(alloc);
-    for cut in text.split(',') {
-        cuts.push(cut_of(cut).context("no interval")?)?;
-    }
-    Ok(Seq::new(cuts))
-}
-
-fn cut_of(text: &str) -> Option<Cut> {
-    let (from, to) = text.split_once('-')?;
-    let from = from.parse::<u32>().ok()?;
-    let to = to.parse::<u32>().ok()?;
-    Some(Cut { from, to })
 }
 
 fn kept_of(alloc: Global, text: &str) -> Result<ResultList> {

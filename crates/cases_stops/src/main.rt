@@ -13,23 +13,13 @@ mod watched;
 mod worked;
 
 use anyhow::{Context, Result};
+use case_text::cases::answer_each;
 use std::alloc::Global;
 use std::io;
 use tables::Table;
 
 fn main(rt: HostRuntime) -> io::Result<()> {
-    let alloc = rt.alloc();
-    for line in rt.lines(alloc) {
-        let line = line?;
-        if line.is_empty() || line.starts_with('#') {
-            continue;
-        }
-        match answer(alloc, line.as_str()) {
-            Ok(answer) => println!(rt; "{answer}")?,
-            Err(refusal) => println!(rt; "{refusal}")?,
-        }
-    }
-    Ok(())
+    answer_each(rt, answer)
 }
 
 /// What a case gives; a refusal is the error that its type prints.

@@ -1,23 +1,17 @@
 //! Cases of generated scripts: a number a line on standard input, and on standard output for each the length
-//! of its script, how many lines the script has, and its SHA-256 digest (FIPS 180-4) in hex.
+//! of its script, how many lines the script has, and its SHA-256 digest (FIPS 180-4) in hex. A line that is empty
+//! or begins with `#` is no case.
 #![tactic(auto)]
 
 use anyhow::Result;
+use case_text::cases::answer_each;
 use sha2::{Digest, Sha256};
 use std::alloc::Global;
 use std::io;
 use workload_gen::script_of;
 
 fn main(rt: HostRuntime) -> io::Result<()> {
-    let alloc = rt.alloc();
-    for line in rt.lines(alloc) {
-        let line = line?;
-        match answer(alloc, line.as_str()) {
-            Ok(answer) => println!(rt; "{answer}")?,
-            Err(refusal) => println!(rt; "{refusal}")?,
-        }
-    }
-    Ok(())
+    answer_each(rt, answer)
 }
 
 /// What is told of the number's script; a refusal is the error that its type prints.
