@@ -58,11 +58,15 @@ fn stream_of(alloc: Global, text: &str) -> Result<(Seq<Kind>, Seq<Seq<Row>>)> {
 fn put_rows(written: &mut String, rows: &str) -> Result<()> {
     for word in rows.split_whitespace() {
         let (count, row) = word.split_once('*').unwrap_or(("1", word));
-        let count = count.parse::<u32>().ok().context("no count")?;
-        for _ in 0..count {
-            written.push_str(" ")?;
-            written.push_str(row)?;
-        }
+        put_row(written, count.parse::<u32>().ok().context("no count")?, row)?;
+    }
+    Ok(())
+}
+
+fn put_row(written: &mut String, count: u32, row: &str) -> Result<()> {
+    for _ in 0..count {
+        written.push_str(" ")?;
+        written.push_str(row)?;
     }
     Ok(())
 }
@@ -71,12 +75,16 @@ fn put_rows(written: &mut String, rows: &str) -> Result<()> {
 fn steps_of(alloc: Global, text: &str) -> Result<Vec<Seq<Cut>>> {
     let mut steps = Vec::new(alloc);
     for step in text.split(" ; ") {
-        let mut cuts = Vec::new(alloc);
-        for count in step.split(',') {
-            let to = count.parse::<u32>().ok().context("no count")?;
-            cuts.push(Cut { from: 0, to })?;
-        }
-        steps.push(Seq::new(cuts))?;
+        steps.push(step_of(alloc, step)?)?;
     }
     Ok(steps)
+}
+
+fn step_of(alloc: Global, text: &str) -> Result<Seq<Cut>> {
+    let mut cuts = Vec::new(alloc);
+    for count in text.split(',') {
+        let to = count.parse::<u32>().ok().context("no count")?;
+        cuts.push(Cut { from: 0, to })?;
+    }
+    Ok(Seq::new(cuts))
 }

@@ -26,19 +26,32 @@ pub fn damaged_results(alloc: Global, arguments: &str) -> Result<String> {
     let whole = answers(alloc, text, &mut folder.image(0)?)?;
     let mut others = 0u64;
     for file in &files {
-        for damage in [Damage::Changed, Damage::Short, Damage::Removed] {
-            let mut store = damaged(alloc, &folder, *file, damage)?;
-            let given = answers(alloc, text, &mut store)?;
-            if rows_of(alloc, &given)? != rows_of(alloc, &whole)? {
-                bail!("other rows with file {file} {damage:?}");
-            }
-            others = others.saturating_add(u64::from(given != whole));
-        }
+        others = others.saturating_add(other_answers(alloc, &folder, *file, text, &whole)?);
     }
     let count = files.len();
     Ok(format!(in alloc;
         "{count} results, each changed, short and removed: the same rows, {others} times other lines"
     )?)
+}
+
+// With how many kinds of damage to the file the answers have other lines. None of them has other rows.
+fn other_answers(
+    alloc: Global,
+    folder: &MemStore,
+    file: u64,
+    text: &str,
+    whole: &[u8],
+) -> Result<u64> {
+    let mut others = 0u64;
+    for damage in [Damage::Changed, Damage::Short, Damage::Removed] {
+        let mut store = damaged(alloc, folder, file, damage)?;
+        let given = answers(alloc, text, &mut store)?;
+        if rows_of(alloc, &given)? != rows_of(alloc, whole)? {
+            bail!("other rows with file {file} {damage:?}");
+        }
+        others = others.saturating_add(u64::from(given.as_slice() != whole));
+    }
+    Ok(others)
 }
 
 /// The answers of a script over the folder that runs leave, of which one file is damaged: the kind of damage and

@@ -112,12 +112,16 @@ fn replay(alloc: Global, file: u64, bodies: &[Body<'_>], is_due: bool) -> Result
     Ok(Reading::Loaded(table.held()))
 }
 
-// The bodies behind open gates up to the first closed one, or where the file is no log.
-fn read_log<'a>(alloc: Global, file: &'a [u8]) -> Result<Log<'a>> {
-    let mut reader = Reader::new(file);
+fn read_header(reader: &mut Reader<'_>) {
     for byte in HEADER {
         reader.number(1, byte, byte);
     }
+}
+
+// The bodies behind open gates up to the first closed one, or where the file is no log.
+fn read_log<'a>(alloc: Global, file: &'a [u8]) -> Result<Log<'a>> {
+    let mut reader = Reader::new(file);
+    read_header(&mut reader);
     let mut bodies = Vec::new(alloc);
     for _ in 0..=file.len() {
         let place = reader.at();

@@ -86,9 +86,13 @@ fn expressions(reader: &mut Reader<'_>, levels: u32) {
 /// Items behind their count, each of which is these numbers: how many bytes, the least and the greatest.
 fn counted(reader: &mut Reader<'_>, item: &[(u32, u64, u64)]) {
     for _ in 0..reader.number(1, 0, 255) {
-        for (len, least, greatest) in item {
-            reader.number(*len, *least, *greatest);
-        }
+        numbers(reader, item);
+    }
+}
+
+fn numbers(reader: &mut Reader<'_>, all: &[(u32, u64, u64)]) {
+    for (len, least, greatest) in all {
+        reader.number(*len, *least, *greatest);
     }
 }
 

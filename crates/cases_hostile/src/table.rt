@@ -84,22 +84,17 @@ impl<'a> Table<'a> {
     }
 
     pub fn held(&self) -> Held {
-        let (mut extents, mut uses) = (0u64, 0u64);
-        for stream in &self.streams {
-            extents = extents.saturating_add(stream.extents);
-        }
-        for kept in &self.kept {
-            uses = uses.saturating_add(kept.uses);
-        }
+        let extents = self.streams.iter().map(|stream| stream.extents);
+        let uses = self.kept.iter().map(|kept| kept.uses);
         Held {
             tick: self.tick,
             next_file: self.next_file,
             next_id: self.next_id,
             streams: self.streams.len() as u64,
-            extents,
+            extents: extents.fold(0, u64::saturating_add),
             programs: self.programs.len() as u64,
             results: self.kept.len() as u64,
-            uses,
+            uses: uses.fold(0, u64::saturating_add),
         }
     }
 
@@ -189,11 +184,7 @@ impl<'a> Table<'a> {
         let reads = self.ids(reader)?;
         let dropped = self.ids(reader)?;
         self.ask(reads.iter().all(|id| !dropped.contains(id)));
-        for kept in &mut self.kept {
-            if reads.contains(&kept.id) {
-                kept.uses = kept.uses.saturating_add(1);
-            }
-        }
+        self.count_uses(&reads);
         self.let_go(&dropped);
         for _ in 0..reader.word() {
             if reader.is_stopped() {
@@ -233,6 +224,14 @@ impl<'a> Table<'a> {
             last = id;
         }
         Ok(ids)
+    }
+
+    fn count_uses(&mut self, ids: &[u64]) {
+        for kept in &mut self.kept {
+            if ids.contains(&kept.id) {
+                kept.uses = kept.uses.saturating_add(1);
+            }
+        }
     }
 
     fn let_go(&mut self, ids: &[u64]) {

@@ -7,7 +7,7 @@ use anyhow::Result;
 use plan_core::{Plan, Schemas, type_plan};
 use plan_spelling::unspell;
 use plan_text::{bind, parse_plan, print_plan};
-use rows_core::{Column, Name, Schema, Seq};
+use rows_core::{Column, Kind, Name, Schema, Seq};
 use std::alloc::Global;
 
 /// A stream as a plan's text names it.
@@ -106,13 +106,17 @@ fn are_cuts(streams: &[Stream<'_>], leaves: &[u32], cuts: &[u8]) -> bool {
 fn schemas(alloc: Global, streams: &[Stream<'_>]) -> Result<Schemas> {
     let mut all = Vec::new(alloc);
     for stream in streams {
-        let mut kinds = Vec::new(alloc);
-        for (_, kind) in &stream.columns {
-            kinds.push(*kind)?;
-        }
-        all.push(Seq::new(kinds))?;
+        all.push(kinds(alloc, stream)?)?;
     }
     Ok(Schemas {
         kinds: Seq::new(all),
     })
+}
+
+fn kinds(alloc: Global, stream: &Stream<'_>) -> Result<Seq<Kind>> {
+    let mut kinds = Vec::new(alloc);
+    for (_, kind) in &stream.columns {
+        kinds.push(*kind)?;
+    }
+    Ok(Seq::new(kinds))
 }

@@ -10,9 +10,14 @@ pub fn expanded(alloc: Global, short: &str) -> Result<String> {
         let (before, repeated) = part.split_once('{').unwrap_or((part, "0 "));
         text.push_str(before)?;
         let (count, part) = repeated.split_once(' ').unwrap_or(("0", ""));
-        for _ in 0..count.parse::<u32>()? {
-            text.push_str(part)?;
-        }
+        push_times(&mut text, count.parse::<u32>()?, part)?;
     }
     Ok(text)
+}
+
+fn push_times(text: &mut String, count: u32, part: &str) -> Result<()> {
+    for _ in 0..count {
+        text.push_str(part)?;
+    }
+    Ok(())
 }

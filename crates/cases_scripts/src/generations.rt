@@ -28,13 +28,19 @@ pub fn logs(alloc: Global, runs: &str) -> Result<String> {
         done(alloc, run, &mut store)?;
         let root = store.bytes(0).len();
         lines.extend_from_slice(format!(in alloc; "root {root}, logs")?.as_bytes())?;
-        for file in FIRST_LOG..FIRST_LOG + GENERATIONS {
-            let log = store.bytes(file).len();
-            lines.extend_from_slice(format!(in alloc; " {log}")?.as_bytes())?;
-        }
+        push_lens(alloc, &store, &mut lines)?;
         lines.push(b'\n')?;
     }
     shown::lines(alloc, &lines)
+}
+
+// Appends the lengths of the first generations' logs.
+fn push_lens(alloc: Global, store: &MemStore, lines: &mut Vec<u8>) -> Result<()> {
+    for file in FIRST_LOG..FIRST_LOG + GENERATIONS {
+        let log = store.bytes(file).len();
+        lines.extend_from_slice(format!(in alloc; " {log}")?.as_bytes())?;
+    }
+    Ok(())
 }
 
 /// How many calls of the store loading makes of the folder that a run leaves. From each of them on the store
@@ -49,16 +55,22 @@ pub fn loading(alloc: Global, arguments: &str) -> Result<String> {
         let mut store = folder.image(0)?;
         store.fail_from(call);
         let (exit, _) = outcome(alloc, b"", &mut store)?;
-        for pick in 0..IMAGES {
-            if done(alloc, probe, &mut store.image(pick)?)? != state {
-                return None.context("another state");
-            }
-        }
+        check_images(alloc, probe, &store, &state)?;
         if exit == Exit::Done {
             return Ok(format!(in alloc; "{call} calls")?);
         }
     }
     None.context("too many calls")
+}
+
+// It is an error that the probe is answered something else over an image of the store.
+fn check_images(alloc: Global, probe: &str, store: &MemStore, state: &[u8]) -> Result<()> {
+    for pick in 0..IMAGES {
+        if done(alloc, probe, &mut store.image(pick)?)?.as_slice() != state {
+            return None.context("another state");
+        }
+    }
+    Ok(())
 }
 
 // The answers of a run that is done.

@@ -122,10 +122,19 @@ fn many_answer(store: &mut impl Store) -> Result<bool, Failed> {
         store.write(3 * number, 0, &[number as u8; 3])?;
         store.sync(3 * number)?;
     }
+    Ok(are_read_back(store)? && are_listed(store)?)
+}
+
+fn are_read_back(store: &mut impl Store) -> Result<bool, Failed> {
     let mut all = true;
     for number in 0..40 {
         all = all && reads(store, 3 * number, 1, &[number as u8; 2])?;
     }
+    Ok(all)
+}
+
+fn are_listed(store: &mut impl Store) -> Result<bool, Failed> {
+    let mut all = true;
     for from in 0..118 {
         all = all && store.next_file(from)? == Some(from.div_ceil(3) * 3);
     }
