@@ -5,7 +5,7 @@ ghost use Rattle.byte_formats.specs.declared.unread.Unread.TheVariants.{Memory};
 use std::alloc::{AllocError, AllocFailed};
 
 /// Why a field was not read.
-#[derive(Debug, Drop)]
+#[derive(Drop)]
 pub enum Unread {
     Memory,
     /// How many bytes are left from the place where reading stops.

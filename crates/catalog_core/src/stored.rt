@@ -14,7 +14,7 @@ use std::alloc::Global;
 
 /// The plan of a program, with its typing over the streams, and the extents of the last run: one interval for
 /// each leaf, from the left.
-#[derive(Debug, Drop)]
+#[derive(Drop)]
 pub struct StoredPlan {
     pub typed: Typed,
     pub cuts: Seq<Cut>,

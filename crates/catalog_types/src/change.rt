@@ -9,7 +9,7 @@ use rows_core::{Column, Memory, Name, Seq, copy_columns};
 use std::alloc::Global;
 
 /// What one command changes.
-#[derive(Debug, Drop)]
+#[derive(Drop)]
 pub enum Change {
     /// A new stream.
     Stream {

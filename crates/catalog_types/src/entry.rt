@@ -7,7 +7,7 @@ use std::alloc::Global;
 use std::marker::Model;
 
 /// A result that is kept. Contracts see it with its plain plan.
-#[derive(Debug, Drop)]
+#[derive(Drop)]
 pub struct Entry {
     pub id: u32,
     pub plan: Plan,
@@ -52,7 +52,7 @@ impl Model for Entry {
 }
 
 /// A result to be kept, which has no id yet. Contracts see it with its plain plan.
-#[derive(Debug, Drop)]
+#[derive(Drop)]
 pub struct NewEntry {
     pub plan: Plan,
     /// For each leaf of the plan, from the left, the extents that the result is of.

@@ -6,7 +6,7 @@ use std::alloc::Global;
 
 /// A stored query: its name, the canonical text of its plan, and for each leaf, from the left, the extents
 /// that it was last run over.
-#[derive(Debug, PartialEq, Eq, Drop)]
+#[derive(PartialEq, Eq, Drop)]
 pub struct Program {
     pub name: Name,
     pub text: Text,

@@ -8,7 +8,7 @@ use rows_core::{Column, Memory, Name, Seq, copy_columns};
 use std::alloc::Global;
 
 /// A stream: its columns, and its extents in the order of their appending.
-#[derive(Debug, PartialEq, Eq, Drop)]
+#[derive(PartialEq, Eq, Drop)]
 pub struct StreamState {
     pub name: Name,
     pub columns: Seq<Column>,
@@ -16,7 +16,7 @@ pub struct StreamState {
 }
 
 /// All that the catalogue holds.
-#[derive(Debug, Drop)]
+#[derive(Drop)]
 pub struct Snapshot {
     /// How many commands have changed it.
     pub tick: u32,

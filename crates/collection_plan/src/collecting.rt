@@ -21,7 +21,7 @@ const MAX_TICKS: u32 = 4_294_967_295;
 const NO_LEASE: u32 = 0;
 
 /// A collection that is to be recorded.
-#[derive(Debug, Drop)]
+#[derive(Drop)]
 pub struct CollectionPlan {
     /// The change, and the bytes that are recorded of it.
     pub change: Change,

@@ -11,7 +11,7 @@ use rows_core::Memory;
 use std::alloc::Global;
 
 /// What the words of the command line ask for: `FOLDER [--quiet] [--generate NUMBER]`.
-#[derive(Clone, Copy, Debug, PartialEq, Eq)]
+#[derive(Clone, Copy, PartialEq, Eq)]
 pub struct Words<'a> {
     /// The folder, which isn't empty.
     pub folder: &'a str,

@@ -12,7 +12,7 @@ use rows_core::{Cut, Digest, Memory};
 use std::alloc::Global;
 
 /// What a kept result is looked up by.
-#[derive(Clone, Copy, Debug, PartialEq, Eq)]
+#[derive(Clone, Copy, PartialEq, Eq)]
 pub struct Keys {
     /// The digest of the plan's spelling.
     pub program: Digest,

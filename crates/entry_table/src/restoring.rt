@@ -16,7 +16,7 @@ use rows_core::{Cut, Memory, Seq, Text};
 use std::alloc::Global;
 
 /// What no two entries of a table share.
-#[derive(Debug, PartialEq, Eq, Hash, Drop)]
+#[derive(PartialEq, Eq, Hash, Drop)]
 struct PlanAndCut {
     /// Of the plan, which no other plan has.
     spelling: Text,

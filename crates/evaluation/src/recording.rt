@@ -5,7 +5,7 @@ use result_ops::Made;
 use rows_core::{Cut, Seq};
 
 /// A result that was made on the way: of this plan at this cut.
-#[derive(Debug, Drop)]
+#[derive(Drop)]
 pub struct MadePlace {
     pub plan: Plan,
     pub cuts: Seq<Cut>,
@@ -13,7 +13,7 @@ pub struct MadePlace {
 }
 
 /// The results that were made on the way, in the order in which they were made, where they are recorded.
-#[derive(Debug, Drop)]
+#[derive(Drop)]
 pub enum Recording {
     Off,
     On(Vec<MadePlace>),

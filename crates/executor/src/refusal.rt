@@ -43,7 +43,7 @@ pub enum RunRefusal {
 }
 
 /// A kept result whose file, when it was read, was damaged or unreadable.
-#[derive(Clone, Copy, Debug, PartialEq, Eq)]
+#[derive(Clone, Copy, PartialEq, Eq)]
 pub struct LostResult {
     pub id: u32,
     /// How many bytes count of the files that were read before, and how many this one gave, cut at the greatest
@@ -52,7 +52,7 @@ pub struct LostResult {
 }
 
 /// Why a run ended without an outcome, and at which kept result's file, if it ended at that of one.
-#[derive(Clone, Copy, Debug, PartialEq, Eq)]
+#[derive(Clone, Copy, PartialEq, Eq)]
 pub struct EndedRun {
     pub why: RunRefusal,
     pub lost: Option<LostResult>,

@@ -14,7 +14,7 @@ use rows_core::{Cut, Memory};
 use std::alloc::Global;
 
 /// What is taken of a plan: its normal form, and a choice of it.
-#[derive(Debug, Drop)]
+#[derive(Drop)]
 pub struct NormalChoice {
     pub normal: Typed,
     pub choice: Choice,

@@ -21,7 +21,7 @@ pub struct JobWork {
 }
 
 /// What a step comes to.
-#[derive(Clone, Copy, Debug, PartialEq, Eq)]
+#[derive(Clone, Copy, PartialEq, Eq)]
 pub enum JobStep {
     /// The next file was read whole.
     Read,

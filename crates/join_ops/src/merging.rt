@@ -1,11 +1,10 @@
 //! The rows of a join and those that have come.
-ghost use Rattle.std.specs.Prelude.{◌≡◌, ◌≤◌, ℕ, ◌+◌, List, ◌++◌, length, All, IfOk, nat_le};
-ghost use Rattle.itertools.specs.List.{merge_by};
+ghost use Rattle.std.specs.Prelude.{◌≡◌, ◌≤◌, ℕ, ◌+◌, List, ◌++◌, length, All, IfOk};
 ghost use Rattle.plan_core.specs.Columns.{Rows};
-ghost use Rattle.plan_laws.specs.GrowthOfJoins.{AscendsByPosition, IsMergedByPosition};
+ghost use Rattle.plan_laws.specs.GrowthOfJoins.{AscendsByPosition, IsMergedByPosition, merge_by_position};
 ghost use Rattle.plan_laws.specs.KeptForm.{tagged_from};
 
-use itertools::Itertools;
+use plan_laws::one_merge_by_position;
 use row_blob::TaggedRow;
 use rows_core::Memory;
 use std::alloc::Global;
@@ -25,20 +24,22 @@ pub fn merge_tagged(
         → old.items ≡ tagged_from first on lefts rights → new.items ≡ tagged_from first on lefts more
         → merged.items ≡ tagged_from first on lefts (rights ++ more)) }
 {
-    let merged = merge_rows(alloc, old, new)?;
+    let merged = merge_rows(old, new)?;
     Ok(merged)
 }
 
-fn merge_rows(
-    alloc: Global,
-    old: Vec<TaggedRow>,
-    new: Vec<TaggedRow>,
-) -> Result<Vec<TaggedRow>, Memory>
-    ensures { IfOk result (λ merged.
-        merged.items ≡ merge_by (λ a b. nat_le a.left b.left) old.items new.items) }
+/// The one stable order of both by position: std's sort merges the two in one pass.
+fn merge_rows(old: Vec<TaggedRow>, new: Vec<TaggedRow>) -> Result<Vec<TaggedRow>, Memory>
+    requires old { AscendsByPosition old.items }
+    requires new { AscendsByPosition new.items }
+    ensures { IfOk result (λ merged. merged.items ≡ merge_by_position old.items new.items) }
 {
-    let merged = old.into_iter().merge_by(new, |a, b| a.left <= b.left);
-    Ok(merged.collect(alloc)?)
+    one_merge_by_position();
+    let mut rows = old;
+    let mut others = new;
+    rows.append(&mut others)?;
+    rows.sort_by(|a, b| a.left.cmp(&b.left))?;
+    Ok(rows)
 }
 
 /// The rows of both lists, the old ones first: what a join gives with a longer left list, where the new rows

@@ -5,7 +5,7 @@ ghost use Rattle.nectar_top.specs.Summary.{of_answer, plain, summary_lines, summ
 use script_text::Answer;
 
 /// What the answers of a run come to. Each number stands still at the greatest of 64 bits.
-#[derive(Clone, Copy, Debug, PartialEq, Eq)]
+#[derive(Clone, Copy, PartialEq, Eq)]
 pub struct Summary {
     /// The commands that were answered.
     pub commands: u64,

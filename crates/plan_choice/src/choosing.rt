@@ -26,7 +26,7 @@ use rows_core::{Cut, Memory};
 use std::alloc::Global;
 
 /// What a run takes of a plan.
-#[derive(Debug, Drop)]
+#[derive(Drop)]
 pub struct Choice {
     /// Of the plan's normal form.
     pub rewriting: Rewriting,

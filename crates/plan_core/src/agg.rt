@@ -1,7 +1,7 @@
 //! Aggregates.
 
 /// What a group gives of its rows, the columns counted from 0. `Sum` and `Avg` are of numbers.
-#[derive(Clone, Copy, Debug, PartialEq, Eq, Hash)]
+#[derive(Clone, Copy, Debug, PartialEq, Eq)]
 pub enum Agg {
     /// How many rows the group has.
     Count,

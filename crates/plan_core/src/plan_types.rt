@@ -23,7 +23,7 @@ use std::alloc::Global;
 const MAX_COUNT: usize = 32;
 
 /// The kinds of a plan's columns, and whether the plan has too many columns, keys or pairs.
-#[derive(Debug, Drop)]
+#[derive(Drop)]
 pub struct Typing {
     pub kinds: Seq<Kind>,
     pub too_many: bool,

@@ -3,7 +3,7 @@
 use rows_core::{Kind, Seq};
 
 /// The kinds of the columns of each stream, by its number.
-#[derive(Debug, Drop)]
+#[derive(Drop)]
 pub struct Schemas {
     pub kinds: Seq<Seq<Kind>>,
 }

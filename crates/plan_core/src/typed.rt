@@ -16,7 +16,7 @@ use std::marker::Model;
 
 /// A plan that has a typing, with the kinds of its columns and the streams of its leaves. Contracts see the
 /// three.
-#[derive(Debug, Drop)]
+#[derive(Drop)]
 pub struct Typed {
     plan: Plan,
     kinds: Seq<Kind>,

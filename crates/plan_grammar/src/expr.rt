@@ -6,7 +6,7 @@ use scalar_ops::{Cell, Op};
 
 /// An expression over the columns of an operator's input, which it names. Contracts see it as `expr_of` says
 /// it, without its boxes.
-#[derive(Debug, Drop)]
+#[derive(Drop)]
 pub enum NamedExpr {
     Column(Name),
     Literal(Cell),

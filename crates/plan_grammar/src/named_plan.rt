@@ -10,7 +10,7 @@ use std::marker::Model;
 
 /// A plan with names that some text within the limits spells. The grammar and the limits are this project's
 /// own. Contracts see it as its operators, without their boxes.
-#[derive(Debug, Drop)]
+#[derive(Drop)]
 pub struct NamedPlan {
     tree: NamedTree,
     streams: Seq<Name>,

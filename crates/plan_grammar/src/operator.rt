@@ -24,7 +24,7 @@ pub const CONJUNCTION: u8 = 6;
 pub const EXPRESSION: u8 = 7;
 
 /// What makes one of two operands: an operation of two arguments, `and` or `or`.
-#[derive(Clone, Copy, Debug, PartialEq, Eq)]
+#[derive(Clone, Copy, PartialEq, Eq)]
 pub enum Operator {
     Call(Op),
     And,
@@ -32,7 +32,7 @@ pub enum Operator {
 }
 
 /// An operator between two operands, with the rule that has it and those of the operands.
-#[derive(Clone, Copy, Debug, PartialEq, Eq)]
+#[derive(Clone, Copy, PartialEq, Eq)]
 pub struct Infix {
     pub rule: u8,
     pub left: u8,
@@ -41,7 +41,7 @@ pub struct Infix {
 }
 
 /// An operation before its operand, with the rule of both.
-#[derive(Clone, Copy, Debug, PartialEq, Eq)]
+#[derive(Clone, Copy, PartialEq, Eq)]
 pub struct Prefix {
     pub rule: u8,
     pub op: Op,

@@ -6,14 +6,14 @@ use crate::expr::NamedExpr;
 use rows_core::{Name, Seq};
 
 /// A column of a projection, with the name of the result's column.
-#[derive(Debug, Drop)]
+#[derive(Drop)]
 pub struct NamedColumn {
     pub name: Name,
     pub expr: NamedExpr,
 }
 
 /// What an aggregate takes of a column's values.
-#[derive(Clone, Copy, Debug, PartialEq, Eq)]
+#[derive(Clone, Copy, PartialEq, Eq)]
 pub enum AggFunction {
     Sum,
     Min,
@@ -24,35 +24,35 @@ pub enum AggFunction {
 }
 
 /// An aggregate of a group: the count of its rows, or a function of a column that it names.
-#[derive(Debug, Drop)]
+#[derive(Drop)]
 pub enum NamedAgg {
     Count,
     Of(AggFunction, Name),
 }
 
 /// An aggregate, with the name of the result's column.
-#[derive(Debug, Drop)]
+#[derive(Drop)]
 pub struct NamedResult {
     pub name: Name,
     pub agg: NamedAgg,
 }
 
 /// Two columns that must be equal, of the left and of the right input of a join.
-#[derive(Debug, Drop)]
+#[derive(Drop)]
 pub struct NamedPair {
     pub left: Name,
     pub right: Name,
 }
 
 /// A key of an order, from the greatest value down where it is `down`.
-#[derive(Debug, Drop)]
+#[derive(Drop)]
 pub struct NamedKey {
     pub column: Name,
     pub down: bool,
 }
 
 /// The operators of a plan with names. Contracts see it as `tree_of` says it, without its boxes.
-#[derive(Debug, Drop)]
+#[derive(Drop)]
 pub enum NamedTree {
     /// The rows of a stream.
     From {

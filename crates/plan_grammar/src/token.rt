@@ -6,7 +6,7 @@ ghost use Rattle.plan_grammar.specs.Token.{word_bytes, mark_bytes, word_with};
 use rows_core::{Name, Txt};
 
 /// A word, a number, a text or a mark. Spaces part tokens and mean nothing else.
-#[derive(Debug, Drop)]
+#[derive(Drop)]
 pub enum Token {
     /// A word that is a name.
     Name(Name),
@@ -20,7 +20,7 @@ pub enum Token {
 }
 
 /// The reserved words that a plan has. The other ones, `as end int text bool`, stand in no plan.
-#[derive(Clone, Copy, Debug, PartialEq, Eq)]
+#[derive(Clone, Copy, PartialEq, Eq)]
 pub enum Word {
     And,
     Or,
@@ -47,7 +47,7 @@ pub enum Word {
 }
 
 /// What stands between words.
-#[derive(Clone, Copy, Debug, PartialEq, Eq)]
+#[derive(Clone, Copy, PartialEq, Eq)]
 pub enum Mark {
     Bar,
     Comma,

@@ -1,5 +1,6 @@
 -- The merge of two lists that ascend, in which of two elements that tie the one of the left list comes first.
-use Rattle.std.proofs.Common.{◌≡◌, refl, sym, ap, ◌∙◌, subst, Bool, true, false, cond, not, ◌&&◌, List, [], ◌∷◌, ◌++◌, append-nil}
+use Rattle.std.proofs.Common.{◌≡◌, refl, sym, ap, ◌∙◌, subst, zero, suc, ◌+◌, Bool, true, false, cond, not, ◌&&◌, List, [], ◌∷◌, ◌++◌, append-nil, get_or, arith}
+use Rattle.std.specs.Bool.{⊤}
 use Rattle.std.specs.Cmp.{IsTotalOrder, IsStrictWeakOrder}
 use Rattle.std.specs.List.{filter}
 use Rattle.std.specs.List.Sorted.{IsPermutation, IsSorted, IsSortedBy, IsStable, IsStableBy, ties}
@@ -9,8 +10,7 @@ use Rattle.std.specs.declared.cmp.Ordering.TheVariants.{Less, Equal, Greater}
 use Rattle.std.proofs.lemmas.List.Elements.{filter-append}
 use Rattle.std.proofs.lemmas.List.Sorted.{ranks_by, IsPermutation-refl, IsPermutation-cons, IsPermutation-trans, IsPermutation-middle}
 use Rattle.std.proofs.lemmas.Bool.{not-false, not-true}
-use Rattle.itertools.specs.List.{merge_at, merge_by}
-use Rattle.itertools.proofs.ListFactLemmas.{merge_by-sorted}
+use Rattle.plan_laws.specs.Merge.{merge_at, merge_by}
 use Rattle.plan_laws.proofs.StableLists.{Ascends, ascends_from_sorted, none_below_itself, none_ties, one_list}
 
 -- ---- the elements of both lists
@@ -30,6 +30,50 @@ module _ {X : Type 0} (first : X → X → Bool) where
   merge_has_both [] ys = IsPermutation-refl ys
   merge_has_both (x ∷ xs) ys = has_both_at x xs (merge_has_both xs) ys
 
+-- ---- in order
+
+module _ {X : Type 0} (lt : X → X → Bool) where
+  -- P holds of the first element, and no element is less than the one before it
+  abbrev Rises : (X → Type 0) → List X → Type 0
+  Rises P [] = ⊤
+  Rises P (x ∷ xs) = P x × Rises (λ y. lt y x ≡ false) xs
+
+  rises_from_ascends : (x : X) (xs : List X) → Ascends lt (x ∷ xs) → Rises (λ y. lt y x ≡ false) xs
+  rises_from_ascends x [] up = tt
+  rises_from_ascends x (y ∷ ys) up = (up.0.0, rises_from_ascends y ys up.1)
+
+  rises : (xs : List X) → Ascends lt xs → Rises (λ y. ⊤) xs
+  rises [] up = tt
+  rises (x ∷ xs) up = (tt, rises_from_ascends x xs up)
+
+  sorted : (P : X → Type 0) (xs : List X) → Rises P xs → IsSortedBy lt xs
+  sorted P [] h k d _ within = absurd (omega (arith, within))
+  sorted P (x ∷ []) h k d _ within = absurd (omega (arith, within))
+  sorted P (x ∷ y ∷ ys) h zero d _ within = h.1.0
+  sorted P (x ∷ y ∷ ys) h (suc k) d _ within =
+      let e : suc k + 1 ≡ suc (k + 1) = omega arith in
+      subst (λ n. lt (get_or (x ∷ y ∷ ys) n d) (get_or (y ∷ ys) k d) ≡ false) (sym e)
+      (sorted (λ z. lt z x ≡ false) (y ∷ ys) h.1 k d (omega arith) (omega (arith, within)))
+
+  module _ (first : X → X → Bool) (left : (x y : X) → first x y ≡ true → lt y x ≡ false) (right : (x y : X) → first x y ≡ false → lt x y ≡ false) where
+    rises_at : (x : X) (xs : List X) (after : List X → List X) → Rises (λ y. lt y x ≡ false) xs
+        → ((ys : List X) → Rises (λ y. lt y x ≡ false) ys → Rises (λ y. lt y x ≡ false) (after ys))
+        → (ys : List X) (P : X → Type 0) → P x → Rises P ys → Rises P (merge_at first x xs after ys)
+    rises_at x xs after rest go [] P p h = (p, rest)
+    rises_at x xs after rest go (y ∷ ys) P p h = by (first x y) refl
+      where
+        by : (b : Bool) → first x y ≡ b → Rises P (cond b (x ∷ after (y ∷ ys)) (y ∷ merge_at first x xs after ys))
+        by true e = (p, go (y ∷ ys) (left x y e, h.1))
+        by false e = (h.0, rises_at x xs after rest go ys (λ z. lt z y ≡ false) (right x y e) h.1)
+
+    rises_merge : (xs ys : List X) (P : X → Type 0) → Rises P xs → Rises P ys → Rises P (merge_by first xs ys)
+    rises_merge [] ys P a b = b
+    rises_merge (x ∷ xs) ys P a b =
+        rises_at x xs (merge_by first xs) a.1 (λ zs h. rises_merge xs zs (λ y. lt y x ≡ false) a.1 h) ys P a.0 b
+
+    merge_rises : (xs ys : List X) → Ascends lt xs → Ascends lt ys → IsSortedBy lt (merge_by first xs ys)
+    merge_rises xs ys a b = sorted (λ y. ⊤) (merge_by first xs ys) (rises_merge xs ys (λ y. ⊤) (rises xs a) (rises ys b))
+
 -- ---- in order, and as they were
 
 module _ {X : Type 0} (lt first : X → X → Bool) (o : IsStrictWeakOrder lt) (is_first : (x y : X) → first x y ≡ not (lt y x)) where
@@ -40,7 +84,8 @@ module _ {X : Type 0} (lt first : X → X → Bool) (o : IsStrictWeakOrder lt) (
   less x y h = not-false (lt y x) (sym (is_first x y) ∙ h)
 
   pub merge_sorted : (xs ys : List X) → IsSortedBy lt xs → IsSortedBy lt ys → IsSortedBy lt (merge_by first xs ys)
-  merge_sorted = merge_by-sorted lt first not_less (λ x y h. o.one_way y x (less x y h))
+  merge_sorted xs ys a b =
+      merge_rises lt first not_less (λ x y h. o.one_way y x (less x y h)) xs ys (ascends_from_sorted lt o xs a) (ascends_from_sorted lt o ys b)
 
   -- what ties with an element that is less than x is itself less than x
   less_too : (z y x : X) → ties lt z y ≡ true → lt y x ≡ true → lt z x ≡ true

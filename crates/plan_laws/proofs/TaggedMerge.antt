@@ -7,7 +7,7 @@ use Rattle.std.proofs.lemmas.Bool.{leb-true, le-leb, ltb-true, ltb-false, le-ltb
 use Rattle.std.proofs.lemmas.List.{map-append}
 use Rattle.std.proofs.lemmas.List.Elements.{filter-append, All-from_recursion}
 use Rattle.std.proofs.lemmas.List.MinMax.{IsStrictWeakOrder-by_number}
-use Rattle.itertools.specs.List.{merge_by}
+use Rattle.plan_laws.specs.Merge.{merge_by}
 use Rattle.row_blob.specs.declared.kept.TaggedRow.{TaggedRow}
 use Rattle.plan_core.specs.Columns.{Row, Rows}
 use Rattle.plan_core.specs.Join.{rows_agree}

@@ -1,7 +1,7 @@
 -- The rows of a join whose lists have grown: how they come from the rows that are kept and from those that are new.
 use Rattle.std.specs.Prelude.{ℕ, ◌<◌, ◌≤◌, Bool, List, ◌++◌, nat_le, nat_lt, All, IsPermutation}
 use Rattle.std.specs.List.Sorted.{IsSortedBy, IsStableBy}
-use Rattle.itertools.specs.List.{merge_by}
+use Rattle.plan_laws.specs.Merge.{merge_by}
 use Rattle.row_blob.specs.declared.kept.TaggedRow.{TaggedRow}
 
 -- a stands at an earlier left row than b

@@ -4,6 +4,7 @@ pub mod GrowthOfGroups
 pub mod GrowthOfJoins
 pub mod GrowthOfRows
 pub mod KeptForm
+pub mod Merge
 pub mod PlanShape
 pub mod TypedOn
 pub mod ValidRows

@@ -1,7 +1,6 @@
 //! Rows that are added behind others.
 ghost use Rattle.std.specs.Prelude.{◌≡◌, ℕ, ◌+◌, List, ◌++◌, length, Ok, Err, IsSorted};
 ghost use Rattle.std.specs.Ordering.{is_le};
-ghost use Rattle.itertools.specs.List.{merge_by};
 ghost use Rattle.rows_core.specs.declared.order.Key.{Key};
 ghost use Rattle.rows_core.specs.RowOrder.{row_cmp};
 ghost use Rattle.scalar_ops.specs.Meaning.{overflow};
@@ -15,6 +14,7 @@ ghost use Rattle.plan_core.specs.PlanMeaning.{plan_meaning};
 ghost use Rattle.plan_core.specs.Project.{project_rows};
 ghost use Rattle.plan_core.specs.StableOrder.{order_rows};
 ghost use Rattle.plan_laws.specs.GrowthOfRows.{Grows, joined, new_rows};
+ghost use Rattle.plan_laws.specs.Merge.{merge_by};
 
 use rows_core::total_order;
 

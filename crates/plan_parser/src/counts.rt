@@ -14,7 +14,7 @@ const MOST_WIDE: u32 = 8;
 const MOST_EXPRS: u32 = 512;
 
 /// How many operators and leaves, wide operators and expression nodes there are.
-#[derive(Clone, Copy, Debug, PartialEq, Eq)]
+#[derive(Clone, Copy, PartialEq, Eq)]
 pub struct Counts {
     pub nodes: u32,
     pub wide: u32,

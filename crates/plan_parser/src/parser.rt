@@ -10,7 +10,7 @@ use rows_core::Name;
 use std::alloc::Global;
 
 /// A mark or word of the grammar that has no value of its own.
-#[derive(Clone, Copy, Debug, PartialEq, Eq)]
+#[derive(Clone, Copy, PartialEq, Eq)]
 pub enum Terminal {
     Comma,
     Open,

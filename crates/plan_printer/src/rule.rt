@@ -33,7 +33,7 @@ const MARKS: [Mark; 16] = [
 ];
 
 /// How an operation of two arguments is written: between them, before them as a function, or in no text.
-#[derive(Clone, Copy, Debug, PartialEq, Eq)]
+#[derive(Clone, Copy, PartialEq, Eq)]
 pub enum Form {
     Between(Mark, Infix),
     Function(Word),

@@ -4,7 +4,7 @@ ghost use Rattle.byte_formats.specs.Format.{beside};
 ghost use Rattle.plan_spelling.specs.Tags.{expr_tags, expr_leaves, expr_tags_above, plan_tags, plan_leaves};
 ghost use Rattle.plan_spelling.specs.Tags.{plan_tags_above, agg_tags};
 
-#[derive(Clone, Copy, Debug, PartialEq, Eq)]
+#[derive(Clone, Copy, PartialEq, Eq)]
 pub enum PlanTag {
     Scan,
     Filter,
@@ -16,7 +16,7 @@ pub enum PlanTag {
     Order,
 }
 
-#[derive(Clone, Copy, Debug, PartialEq, Eq)]
+#[derive(Clone, Copy, PartialEq, Eq)]
 pub enum ExprTag {
     Column,
     Int,
@@ -28,7 +28,7 @@ pub enum ExprTag {
     If,
 }
 
-#[derive(Clone, Copy, Debug, PartialEq, Eq)]
+#[derive(Clone, Copy, PartialEq, Eq)]
 pub enum AggTag {
     Count,
     Sum,

@@ -18,7 +18,7 @@ use script_text::Refusal;
 use std::alloc::Global;
 
 /// Rows that are appended, and the place of the stream that gets them.
-#[derive(Debug, Drop)]
+#[derive(Drop)]
 pub struct Accepted {
     pub place: usize,
     /// The rows, as their file keeps them.

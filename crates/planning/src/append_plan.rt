@@ -25,7 +25,7 @@ use script_text::Refusal;
 use std::alloc::Global;
 
 /// An append: what it records, the bytes of its extent's file, and the rows that the stream then holds.
-#[derive(Debug, Drop)]
+#[derive(Drop)]
 pub struct AppendPlan {
     pub recording: Recording,
     pub bytes: Vec<u8>,

@@ -18,7 +18,7 @@ use std::alloc::Global;
 const MAX_TICKS: u32 = 4_294_967_295;
 
 /// A fetch of a plan.
-#[derive(Debug, Drop)]
+#[derive(Drop)]
 pub struct FetchPlan {
     /// The plan, and its typing.
     pub typed: Typed,

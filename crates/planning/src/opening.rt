@@ -24,7 +24,7 @@ use std::alloc::Global;
 const MAX_JOBS: usize = 64;
 
 /// The open jobs, as the opening of one more sees them.
-#[derive(Clone, Copy, Debug)]
+#[derive(Clone, Copy)]
 pub struct OpenJobs {
     /// Whether a job of the new one's name is open.
     pub exists: bool,

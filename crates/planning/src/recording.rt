@@ -9,7 +9,7 @@ use script_text::Refusal;
 use std::alloc::Global;
 
 /// A change that fits the table, and the bytes that are recorded of it.
-#[derive(Debug, Drop)]
+#[derive(Drop)]
 pub struct Recording {
     pub change: Change,
     pub body: Vec<u8>,

@@ -18,7 +18,7 @@ use script_text::Refusal;
 use std::alloc::Global;
 
 /// A run of a plan.
-#[derive(Debug, Drop)]
+#[derive(Drop)]
 pub struct RunPlan {
     /// The plan with numbers for its names, and its typing.
     pub typed: Typed,

@@ -6,14 +6,14 @@ use rows_core::Row;
 
 /// What is kept of a plan's result, and how many rows the plan's operators take in. The machine time is one
 /// more.
-#[derive(Debug, Drop)]
+#[derive(Drop)]
 pub struct Made {
     pub kept: Kept,
     pub taken_in: u64,
 }
 
 /// The rows that came behind those of a plan's earlier result, and how many rows more its operators take in.
-#[derive(Debug, Drop)]
+#[derive(Drop)]
 pub struct Added {
     pub rows: Vec<Row>,
     pub taken_in: u64,

@@ -3,7 +3,7 @@ use plan_core::Plan;
 use rows_core::{Cut, Seq};
 
 /// A kept result, by its id, its cut and the length of its file.
-#[derive(Debug, Drop)]
+#[derive(Drop)]
 pub struct Hit {
     pub id: u32,
     pub cuts: Seq<Cut>,
@@ -11,7 +11,7 @@ pub struct Hit {
 }
 
 /// How the result of a plan on a cut is made. Contracts see it as `rewriting_of` says it.
-#[derive(Debug, Drop)]
+#[derive(Drop)]
 #[cycle(rewriting)]
 pub struct Rewriting {
     pub plan: Plan,
@@ -19,7 +19,7 @@ pub struct Rewriting {
     pub way: Way,
 }
 
-#[derive(Debug, Drop)]
+#[derive(Drop)]
 #[cycle(rewriting)]
 pub enum Way {
     /// The extents of the cut are read.
@@ -35,7 +35,7 @@ pub enum Way {
 }
 
 /// What a grown result is made of beside the earlier one.
-#[derive(Debug, Drop)]
+#[derive(Drop)]
 #[cycle(rewriting)]
 pub enum Parts {
     /// The delta of the child, or of the right child of a concatenation.
@@ -60,7 +60,7 @@ pub enum Parts {
 }
 
 /// The rows that a plan's result has at the new cut behind those at the old one.
-#[derive(Debug, Drop)]
+#[derive(Drop)]
 #[cycle(rewriting)]
 pub struct Delta {
     pub plan: Plan,
@@ -69,7 +69,7 @@ pub struct Delta {
     pub way: DeltaWay,
 }
 
-#[derive(Debug, Drop)]
+#[derive(Drop)]
 #[cycle(rewriting)]
 pub enum DeltaWay {
     /// Nothing came.

@@ -11,7 +11,7 @@ use rows_core::{Cut, Memory, Seq};
 use std::alloc::Global;
 
 /// What is read on its own. Contracts see it as `piece_of` says it.
-#[derive(Debug, Drop)]
+#[derive(Drop)]
 pub enum Piece {
     /// The kept result of this plan, by its id.
     Entry { plan: Box<Plan>, id: u32 },

@@ -5,7 +5,7 @@ use rows_core::{Memory, Row, Seq, Value, copy_rows};
 use std::alloc::Global;
 
 /// What a group keeps for one of its aggregates.
-#[derive(Debug, Drop)]
+#[derive(Drop)]
 pub enum Acc {
     /// How many rows the group has.
     Count(u64),
@@ -18,14 +18,14 @@ pub enum Acc {
 }
 
 /// The key of a group and what is kept for each of its aggregates.
-#[derive(Debug, Drop)]
+#[derive(Drop)]
 pub struct GroupRow {
     pub key: Row,
     pub accs: Seq<Acc>,
 }
 
 /// A row of a join, and the position of its left row in the left list.
-#[derive(Debug, Drop)]
+#[derive(Drop)]
 pub struct TaggedRow {
     pub left: u64,
     pub row: Row,
@@ -33,7 +33,7 @@ pub struct TaggedRow {
 
 /// What a file holds: plain rows, the groups of a grouping, or the rows of a join with the length of its left
 /// list.
-#[derive(Debug, Drop)]
+#[derive(Drop)]
 pub enum Kept {
     Rows(Seq<Row>),
     Groups(Seq<GroupRow>),

@@ -3,7 +3,7 @@
 use rows_core::{Kind, Seq};
 
 /// What kind of accumulator an aggregate keeps.
-#[derive(Clone, Copy, Debug, PartialEq, Eq)]
+#[derive(Clone, Copy, PartialEq, Eq)]
 pub enum AccKind {
     Count,
     Sum,
@@ -13,7 +13,7 @@ pub enum AccKind {
 }
 
 /// The form of what a file holds, with the kinds of its columns.
-#[derive(Debug, Drop)]
+#[derive(Drop)]
 pub enum Shape {
     Rows(Seq<Kind>),
     Groups { keys: Seq<Kind>, accs: Seq<AccKind> },

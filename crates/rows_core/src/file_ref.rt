@@ -4,7 +4,7 @@ ghost use Rattle.std.specs.Prelude.{◌≡◌, ◌↔◌, IsTrue};
 use crate::exact_eq::ExactEq;
 
 /// A SHA-256 digest (FIPS 180-4).
-#[derive(Clone, Copy, Debug, PartialEq, Eq, Hash)]
+#[derive(Clone, Copy, PartialEq, Eq, Hash)]
 pub struct Digest {
     pub bytes: [u8; 32],
 }
@@ -19,7 +19,7 @@ impl Digest {
 }
 
 /// A file of the store, by its number, with the length in bytes and the digest of the first bytes that count.
-#[derive(Clone, Copy, Debug, PartialEq, Eq, Hash)]
+#[derive(Clone, Copy, PartialEq, Eq)]
 pub struct FileRef {
     pub file: u64,
     pub len: u64,

@@ -6,7 +6,7 @@ ghost use Rattle.rows_core.specs.declared.kind.Kind.{Kind};
 use crate::exact_eq::ExactEq;
 
 /// What a column's values are: numbers in i64, or texts.
-#[derive(Clone, Copy, Debug, PartialEq, Eq, PartialOrd, Ord, Hash)]
+#[derive(Clone, Copy, PartialEq, Eq)]
 pub enum Kind {
     Int,
     Text,

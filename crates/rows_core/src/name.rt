@@ -22,7 +22,7 @@ const MAX_NAME_LEN: usize = 64;
 
 /// A lower-case letter followed by lower-case letters, digits and `_`, of 64 bytes at most, that is no
 /// reserved word. The rule is this project's own. Contracts see it as its bytes.
-#[derive(Debug, PartialEq, Eq, PartialOrd, Ord, Hash, Drop)]
+#[derive(Debug, PartialEq, Eq, Hash, Drop)]
 pub struct Name {
     bytes: Seq<u8>,
 }

@@ -9,7 +9,7 @@ use crate::row::Row;
 use std::cmp::Ordering;
 
 /// A column by which rows are ordered, counted from 0, and whether its order is reversed.
-#[derive(Clone, Copy, Debug, PartialEq, Eq, Hash)]
+#[derive(Clone, Copy, Debug, PartialEq, Eq)]
 pub struct Key {
     pub column: u32,
     pub down: bool,

@@ -9,7 +9,7 @@ use std::marker::Model;
 
 /// Values in the order of their columns. Contracts see a row as the list of its values. `==` is equality of
 /// rows, so a row may be a key.
-#[derive(Debug, PartialEq, Eq, PartialOrd, Ord, Hash, Drop)]
+#[derive(PartialEq, Eq, Hash, Drop)]
 pub struct Row {
     values: Seq<Value>,
 }

@@ -19,7 +19,7 @@ use thiserror::Error;
 const MAX_COLUMNS: usize = 32;
 
 /// A column's name and the kind of its values.
-#[derive(Debug, PartialEq, Eq, Drop)]
+#[derive(PartialEq, Eq, Drop)]
 pub struct Column {
     pub name: Name,
     pub kind: Kind,
@@ -46,7 +46,7 @@ impl Column {
 
 /// From 1 to 32 columns with different names. The limit is this project's own. Contracts see a schema as the
 /// list of its columns.
-#[derive(Debug, PartialEq, Eq, Drop)]
+#[derive(PartialEq, Eq, Drop)]
 pub struct Schema {
     columns: Seq<Column>,
 }

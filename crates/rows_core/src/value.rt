@@ -8,7 +8,7 @@ use crate::txt::Txt;
 use std::alloc::Global;
 
 /// A number in i64 or a text. Numbers are ordered by value and texts by bytes; a number stands before a text.
-#[derive(Debug, PartialEq, Eq, PartialOrd, Ord, Hash, Drop)]
+#[derive(PartialEq, Eq, PartialOrd, Ord, Hash, Drop)]
 pub enum Value {
     Int(i64),
     Text(Txt),

@@ -14,7 +14,7 @@ pub enum Cell {
 }
 
 /// What a cell is.
-#[derive(Clone, Copy, Debug, PartialEq, Eq)]
+#[derive(Clone, Copy, PartialEq, Eq)]
 pub enum CellKind {
     Int,
     Text,

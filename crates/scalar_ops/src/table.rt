@@ -31,14 +31,14 @@ pub enum Op {
 }
 
 /// The kinds of an operation's arguments, in their order.
-#[derive(Clone, Copy, Debug, PartialEq, Eq)]
+#[derive(Clone, Copy, PartialEq, Eq)]
 pub enum Args {
     One(CellKind),
     Two(CellKind, CellKind),
 }
 
 /// An operation at some kinds: the kind of its result, and whether it may overflow.
-#[derive(Clone, Copy, Debug, PartialEq, Eq)]
+#[derive(Clone, Copy, PartialEq, Eq)]
 pub struct OpRow {
     pub op: Op,
     pub args: Args,
@@ -47,7 +47,7 @@ pub struct OpRow {
 }
 
 /// Operations by the number of their row, counted from 0.
-#[derive(Clone, Copy, Debug, PartialEq, Eq)]
+#[derive(Clone, Copy, PartialEq, Eq)]
 pub struct OpTable<const N: usize> {
     pub rows: [OpRow; N],
 }

@@ -13,7 +13,7 @@ use itoa::Buffer;
 use rows_core::{Digest, Memory, Name, Row, Seq, Text};
 
 /// What a command has more of than it may. Each has its word and its number in the answer's line.
-#[derive(Clone, Copy, Debug, PartialEq, Eq)]
+#[derive(Clone, Copy, PartialEq, Eq)]
 pub enum LimitKind {
     /// `line 65536`: the bytes of a line of the command, without its LF.
     Line,
@@ -53,7 +53,7 @@ pub enum LimitKind {
 }
 
 /// Why a command changed nothing.
-#[derive(Debug, PartialEq, Eq, Drop)]
+#[derive(PartialEq, Eq, Drop)]
 pub enum Refusal {
     /// `refused limit WHAT N`: there would be more than N.
     Limit(LimitKind),
@@ -95,7 +95,7 @@ pub enum Refusal {
 }
 
 /// What is told of a kept result.
-#[derive(Clone, Copy, Debug, PartialEq, Eq)]
+#[derive(Clone, Copy, PartialEq, Eq)]
 pub struct EntrySummary {
     pub id: u32,
     /// The bytes of its file.
@@ -111,7 +111,7 @@ pub struct EntrySummary {
 }
 
 /// What a command is answered.
-#[derive(Debug, PartialEq, Eq, Drop)]
+#[derive(PartialEq, Eq, Drop)]
 pub enum Answer {
     /// `ok`
     Ok,

@@ -27,7 +27,7 @@ use std::alloc::Global;
 
 /// What a piece of work records: the change with its bytes, the bytes of the files of the new results in the
 /// order of their numbers, and the ids that the results get.
-#[derive(Debug, Drop)]
+#[derive(Drop)]
 pub struct WorkPlan {
     pub change: Change,
     pub body: Vec<u8>,

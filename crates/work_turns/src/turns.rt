@@ -38,7 +38,7 @@ use std::alloc::Global;
 use work_plan::places_of_fit_plans;
 
 /// What a turn comes to that ends at no kept result's file.
-#[derive(Debug, Drop)]
+#[derive(Drop)]
 pub struct Turn {
     pub outcome: Outcome,
     /// The ids of the kept results that it read, ascending, each once.
@@ -48,7 +48,7 @@ pub struct Turn {
 }
 
 /// How a turn ends.
-#[derive(Debug, Drop)]
+#[derive(Drop)]
 pub enum TurnEnd {
     /// All its files were read.
     Last(Turn),
@@ -57,7 +57,7 @@ pub enum TurnEnd {
 }
 
 /// What the last turn comes to.
-#[derive(Debug, Drop)]
+#[derive(Drop)]
 pub struct LastTurn {
     pub turn: Turn,
     /// The bytes that all turns took, cut at the greatest u64.

@@ -25,7 +25,7 @@ use work_plan::{places_of_fit_plans, plan_work};
 use work_run::Work;
 
 /// The work of turns, and what goes with it.
-#[derive(Debug, Drop)]
+#[derive(Drop)]
 pub struct WorkInTurns {
     pub work: Work,
     /// The ids of the kept results that are dropped.

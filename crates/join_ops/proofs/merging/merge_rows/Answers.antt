@@ -1,17 +1,15 @@
-use Rattle.std.proofs.Common.{Bool, Ok, rules, ◌∙◌}
-use Rattle.std.specs.Prelude.{nat_le}
-use Rattle.std.proofs.lemmas.Iterator.{items_from_collect}
-use Rattle.std.proofs.lemmas.Iterator.Adapters.{YieldsList-from_vec}
-use Rattle.itertools.specs.List.{merge_by}
-use Rattle.itertools.proofs.TwoLemmas.{YieldsList-from_gives_of_both}
-use Rattle.row_blob.specs.declared.kept.TaggedRow.{TaggedRow}
+use Rattle.std.proofs.Common.{rules, subst, IsPermutation}
+use Rattle.std.specs.List.Sorted.{IsStableBy}
+use Rattle.std.proofs.lemmas.Fn.{always_returns_same}
+use Rattle.plan_laws.specs.GrowthOfJoins.{is_earlier}
+use Rattle.plan_laws.proofs.TaggedMerge.{earlier_weak}
 use Rattle.join_ops.proofs.merging.merge_rows.Goals as goal
 
 pub returns : goal.returns
 returns c =
-    let old_first : TaggedRow → TaggedRow → Bool = λ a b. nat_le a.left b.left in
-    items_from_collect {E = Unit {0}} (Ok c.in_ok-collect.field-0) c.in_ok-collect.ensures.ran
-    (YieldsList-from_gives_of_both (merge_by old_first)
-    (λ p on at. let r = c.merge_by-merged.ensures.runs p on at in (r.0, r.1, (r.2.0, r.2.1, r.2.2.1 old_first (λ x y b f k. search rules))))
-    (YieldsList-from_vec c.args.old.items c.into_iter.ensures.rest (c.into_iter.ensures.len ∙ c.args.old.ok.0))
-    (YieldsList-from_vec c.args.new.items c.merge_by-merged.ensures.second.0.0 (c.merge_by-merged.ensures.second.0.1 ∙ c.args.new.ok.0)))
+    let compares = always_returns_same _ _ _ (λ a r q k. search rules) in
+    c.one_merge_by_position.ensures.only c.args.old.items c.args.new.items _ c.requires.old c.requires.new (record {
+      permutation = subst (λ l. IsPermutation l c.sort_by.new.self.items) c.in_ok-append.ensures.items c.sort_by.ensures.permutation;
+      ascends = c.in_ok-sort_by.ensures.sorted is_earlier earlier_weak compares;
+      stable = subst (λ l. IsStableBy is_earlier l c.sort_by.new.self.items) c.in_ok-append.ensures.items (c.sort_by.ensures.stable is_earlier earlier_weak compares);
+    })
