@@ -13,7 +13,7 @@ use crate::stream::CatalogStream;
 use catalog_types::{Entry, StreamState};
 use indexmap::IndexSet;
 use plan_core::Schemas;
-use plan_text::Stream;
+use plan_binder::Stream;
 use rows_core::{Memory, Name, Seq};
 use std::alloc::Global;
 

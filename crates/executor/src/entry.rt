@@ -9,12 +9,12 @@ ghost use Rattle.plan_laws.specs.PlanShape.{plan_shape};
 ghost use Rattle.outside_traits.specs.View.{View, Counts};
 ghost use Rattle.outside_traits.specs.Calls.{Idles, MayRaiseReads};
 ghost use Rattle.rewrite_core.specs.Files.{Result};
-ghost use Rattle.kept_files.specs.Reads.{HasCause, FoundIn};
+ghost use Rattle.extent_files.specs.Reads.{HasCause, FoundIn};
 ghost use Rattle.result_ops.specs.Bounds.{IsBounded};
 ghost use Rattle.result_ops.specs.Fitting.{IsFit, StandsInOrder};
 ghost use Rattle.executor.specs.Reads.{IsOfForm, LoadsEntry};
 
-use kept_files::{ReadRefusal, read_kept};
+use extent_files::{ReadRefusal, read_kept};
 use outside_traits::Store;
 use plan_core::Plan;
 use result_ops::{Made, are_bounded};

@@ -11,10 +11,10 @@ ghost use Rattle.plan_laws.specs.PlanShape.{plan_shape};
 ghost use Rattle.outside_traits.specs.View.{View, Counts};
 ghost use Rattle.outside_traits.specs.Calls.{Idles, MayRaiseReads, CountsTaken};
 ghost use Rattle.rewrite_core.specs.Files.{Extent};
-ghost use Rattle.kept_files.specs.Reads.{HasCause, FoundIn};
+ghost use Rattle.extent_files.specs.Reads.{HasCause, FoundIn};
 ghost use Rattle.executor.specs.Reads.{MayBeRead};
 
-use kept_files::{ReadRefusal, read_kept};
+use extent_files::{ReadRefusal, read_kept};
 use outside_traits::Store;
 use plan_core::Plan;
 use rewrite_core::Places;

@@ -4,7 +4,7 @@ ghost use Rattle.std.specs.List.{AllByRecursion};
 ghost use Rattle.rows_core.specs.declared.file_ref.FileRef.{FileRef};
 ghost use Rattle.row_blob.specs.declared.kept.Kept.{Kept};
 ghost use Rattle.row_blob.specs.declared.shape.Shape.{Shape};
-ghost use Rattle.kept_files.specs.Reads.{Spells};
+ghost use Rattle.extent_files.specs.Reads.{Spells};
 ghost use Rattle.plan_core.specs.PlainPlan.{PlainPlan, leaf_count};
 ghost use Rattle.plan_core.specs.PlanTyping.{Kinds};
 ghost use Rattle.estimator.specs.Cuts.{Cuts};

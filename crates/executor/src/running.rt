@@ -24,7 +24,7 @@ use crate::job::{Job, prepare};
 use crate::outcome::Outcome;
 use crate::refusal::{EndedRun, LostResult, RunRefusal};
 use crate::rest::read_rest;
-use kept_files::ReadRefusal;
+use extent_files::ReadRefusal;
 use outside_traits::Store;
 use rewrite_core::{Places, Rewriting};
 use std::alloc::Global;

@@ -7,7 +7,7 @@ ghost use Rattle.outside_traits.specs.View.{View, Counts};
 ghost use Rattle.outside_traits.specs.Calls.{Idles, MayRaiseReads};
 ghost use Rattle.rewrite_core.specs.Files.{Extent, Result};
 ghost use Rattle.rewriting_pieces.specs.Pieces.{HasTyping};
-ghost use Rattle.kept_files.specs.Reads.{HasCause, FoundIn};
+ghost use Rattle.extent_files.specs.Reads.{HasCause, FoundIn};
 ghost use Rattle.evaluation.specs.Loading.{IsFitLoad};
 ghost use Rattle.executor.specs.Progress.{loaded_as, IsStreamPart, LoadsNow, FeedsNow};
 
@@ -15,7 +15,7 @@ use crate::entry::read_entry;
 use crate::extent::read_extent;
 use evaluation::Loaded;
 use gathering::Gathering;
-use kept_files::ReadRefusal;
+use extent_files::ReadRefusal;
 use outside_traits::Store;
 use plan_core::Plan;
 use result_ops::{Made, Stop};
