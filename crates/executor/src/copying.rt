@@ -4,7 +4,7 @@ ghost use Rattle.executor.specs.Loads.{load_of_rows, load_of_part};
 ghost use Rattle.executor.specs.Progress.{files_left, left_in};
 
 use crate::part::Part;
-use evaluation::Loaded;
+use crate::Loaded;
 use gathering::Gathering;
 use result_ops::Made;
 use rows_core::Memory;

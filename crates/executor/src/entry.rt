@@ -4,7 +4,7 @@ ghost use Rattle.rows_core.specs.declared.file_ref.FileRef.{FileRef};
 ghost use Rattle.row_blob.specs.Kept.{IsKept};
 ghost use Rattle.plan_core.specs.PlainPlan.{plan_of};
 ghost use Rattle.plan_core.specs.PlanTyping.{Kinds};
-ghost use Rattle.rewriting_pieces.specs.Pieces.{HasTyping};
+ghost use Rattle.executor.specs.Pieces.{HasTyping};
 ghost use Rattle.plan_laws.specs.PlanShape.{plan_shape};
 ghost use Rattle.outside_traits.specs.View.{View, Counts};
 ghost use Rattle.outside_traits.specs.Calls.{Idles, MayRaiseReads};
@@ -19,7 +19,7 @@ use outside_traits::Store;
 use plan_core::Plan;
 use result_ops::{Made, are_bounded};
 use rewrite_core::Places;
-use rewriting_pieces::shape_of;
+use crate::shape_of;
 use row_blob::Kept;
 use std::alloc::Global;
 

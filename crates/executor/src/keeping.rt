@@ -13,7 +13,7 @@ ghost use Rattle.executor.specs.Outcomes.{AreKeptFrom};
 
 use crate::outcome::KeptPlace;
 use estimator::are_same_cuts;
-use evaluation::MadePlace;
+use crate::MadePlace;
 use made_places::{Place, made_places};
 use plan_core::Plan;
 use rewrite_core::Rewriting;

@@ -6,14 +6,14 @@ ghost use Rattle.plan_laws.specs.PlanShape.{plan_shape};
 ghost use Rattle.outside_traits.specs.View.{View, Counts};
 ghost use Rattle.outside_traits.specs.Calls.{Idles, MayRaiseReads};
 ghost use Rattle.rewrite_core.specs.Files.{Extent, Result};
-ghost use Rattle.rewriting_pieces.specs.Pieces.{HasTyping};
+ghost use Rattle.executor.specs.Pieces.{HasTyping};
 ghost use Rattle.extent_files.specs.Reads.{HasCause, FoundIn};
-ghost use Rattle.evaluation.specs.Loading.{IsFitLoad};
+ghost use Rattle.executor.specs.Loading.{IsFitLoad};
 ghost use Rattle.executor.specs.Progress.{loaded_as, IsStreamPart, LoadsNow, FeedsNow};
 
 use crate::entry::read_entry;
 use crate::extent::read_extent;
-use evaluation::Loaded;
+use crate::Loaded;
 use gathering::Gathering;
 use extent_files::ReadRefusal;
 use outside_traits::Store;

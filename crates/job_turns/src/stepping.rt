@@ -19,7 +19,7 @@ use folder::{files_of_states, left_stores};
 use extent_files::ReadRefusal;
 use outside_traits::Store;
 use plan_choice::{results_are_left_out, serving_rewritings, taken_rewritings};
-use rewriting_pieces::pieces_of_typed_rewritings;
+use executor::pieces_of_typed_rewritings;
 use std::alloc::Global;
 
 impl JobWork {

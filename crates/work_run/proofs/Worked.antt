@@ -19,7 +19,7 @@ use Rattle.extent_files.specs.declared.read_refusal.ReadRefusal.{ReadRefusal}
 use Rattle.extent_files.specs.declared.read_refusal.ReadRefusal.TheVariants as read
 use Rattle.result_ops.specs.declared.refusal.MakeRefusal.{MakeRefusal}
 use Rattle.result_ops.specs.declared.refusal.MakeRefusal.TheVariants as make
-use Rattle.rewriting_pieces.specs.Pieces.{HasTyping, IsPiece}
+use Rattle.executor.specs.Pieces.{HasTyping, IsPiece}
 use Rattle.cache_index.specs.Asked.{asked}
 use Rattle.catalog_types.specs.PlainEntry.{PlainEntry}
 use Rattle.catalog_types.specs.declared.snapshot.StreamState.{StreamState}
