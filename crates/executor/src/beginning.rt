@@ -8,10 +8,10 @@ ghost use Rattle.growth_laws.specs.Chains.{IsOneStream};
 ghost use Rattle.executor.specs.Pieces.{piece_of, pieces_said, IsPiece};
 ghost use Rattle.executor.specs.Beginning.{IsOnlyInterval, IsBegun};
 
+use crate::Piece;
 use crate::part::Part;
 use gathering::Gathering;
 use plan_core::Plan;
-use crate::Piece;
 use rows_core::{Cut, Memory};
 use std::alloc::Global;
 

@@ -9,13 +9,13 @@ ghost use Rattle.executor.specs.Evaluating.{IsReady, DeltaAnswers, DeltaWayAnswe
 ghost use Rattle.executor.specs.Parts.{IsFormedDelta};
 
 use crate::evaluation_laws::results_are_made;
+use crate::is_chain_delta;
 use crate::loaded::{Loaded, taken};
 use crate::recording::Recording;
 use crate::rewritings::made;
 use plan_core::Plan;
 use result_ops::{Added, Made, MakeRefusal, added_of_child, added_of_distinct, added_of_join};
 use rewrite_core::{Delta, DeltaWay};
-use crate::is_chain_delta;
 use row_blob::Kept;
 use rows_core::Cut;
 use std::alloc::Global;

@@ -14,12 +14,12 @@ ghost use Rattle.result_ops.specs.Bounds.{IsBounded};
 ghost use Rattle.result_ops.specs.Fitting.{IsFit, StandsInOrder};
 ghost use Rattle.executor.specs.Reads.{IsOfForm, LoadsEntry};
 
+use crate::shape_of;
 use extent_files::{ReadRefusal, read_kept};
 use outside_traits::Store;
 use plan_core::Plan;
 use result_ops::{Made, are_bounded};
 use rewrite_core::Places;
-use crate::shape_of;
 use row_blob::Kept;
 use std::alloc::Global;
 

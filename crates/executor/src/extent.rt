@@ -14,11 +14,11 @@ ghost use Rattle.rewrite_core.specs.Files.{Extent};
 ghost use Rattle.extent_files.specs.Reads.{HasCause, FoundIn};
 ghost use Rattle.executor.specs.Reads.{MayBeRead};
 
+use crate::shape_of;
 use extent_files::{ReadRefusal, read_kept};
 use outside_traits::Store;
 use plan_core::Plan;
 use rewrite_core::Places;
-use crate::shape_of;
 use row_blob::Kept;
 use rows_core::Row;
 use std::alloc::Global;

@@ -15,9 +15,9 @@ ghost use Rattle.executor.specs.Progress.{left_in, held_in, ArePartsOf, HaveRead
 
 use crate::beginning::parts_of;
 use crate::part::Part;
+use crate::{pieces, pieces_of_typed_rewritings};
 use growth_laws::files_of_pieces;
 use rewrite_core::Rewriting;
-use crate::{pieces, pieces_of_typed_rewritings};
 use rows_core::Memory;
 use std::alloc::Global;
 

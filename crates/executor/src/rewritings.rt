@@ -10,6 +10,7 @@ ghost use Rattle.executor.specs.Recording.{recorded_of, recorded_below};
 
 use crate::deltas::added;
 use crate::evaluation_laws::results_are_made;
+use crate::is_gathered;
 use crate::loaded::{Loaded, taken};
 use crate::recorded::recorded;
 use crate::recording::Recording;
@@ -19,7 +20,6 @@ use result_ops::{
     made_of_two,
 };
 use rewrite_core::{Hit, Parts, Rewriting, Way};
-use crate::is_gathered;
 use rows_core::Cut;
 use std::alloc::Global;
 

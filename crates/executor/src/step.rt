@@ -11,11 +11,11 @@ ghost use Rattle.extent_files.specs.Reads.{HasCause, FoundIn};
 ghost use Rattle.executor.specs.Loading.{IsFitLoad};
 ghost use Rattle.executor.specs.Progress.{loaded_as, IsStreamPart, LoadsNow, FeedsNow};
 
+use crate::Loaded;
 use crate::entry::read_entry;
 use crate::extent::read_extent;
-use crate::Loaded;
-use gathering::Gathering;
 use extent_files::ReadRefusal;
+use gathering::Gathering;
 use outside_traits::Store;
 use plan_core::Plan;
 use result_ops::{Made, Stop};

@@ -8,8 +8,8 @@ ghost use Rattle.outside_traits.specs.Calls.{Idles, MayRaiseReads, CountsTaken};
 ghost use Rattle.extent_files.specs.Files.{digest_of};
 ghost use Rattle.extent_files.specs.Reads.{Spells, IsFaultOrMemory, HasCause, FoundIn};
 
-use crate::read_refusal::{ReadRefusal, of_blob, of_file};
 use crate::read_file;
+use crate::read_refusal::{ReadRefusal, of_blob, of_file};
 use outside_traits::Store;
 use row_blob::{Kept, Shape, decode};
 use rows_core::FileRef;

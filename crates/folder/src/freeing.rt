@@ -17,10 +17,10 @@ ghost use Rattle.folder.specs.State.{State};
 
 use crate::folder::Folder;
 use crate::refusal::LoadRefusal;
+use crate::remove_strays;
 use outside_traits::{Failed, Store};
 use rows_core::Memory;
 use std::alloc::Global;
-use crate::remove_strays;
 
 impl Folder {
     ghost use Rattle.folder.specs.Folders.{journal_of, table_in, FolderStands, FolderMeans};

@@ -11,8 +11,8 @@ ghost use Rattle.plan_text.specs.Canonical.{Space, One, escaped, quoted, text_of
 ghost use Rattle.plan_text.specs.Canonical.{literal, bare, canonical_expr, function};
 
 use crate::rule::{Form, rule_of};
-use itoa::Buffer;
 use crate::{CONJUNCTION, EXPRESSION, NEGATION, NamedExpr, Operator, SIGNED, Word};
+use itoa::Buffer;
 use rows_core::Memory;
 use scalar_ops::{Cell, Op};
 
