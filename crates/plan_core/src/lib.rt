@@ -14,7 +14,7 @@ pub mod typed;
 pub mod typing;
 
 pub use agg::Agg;
-pub use executor::ev;
+pub use evaluation::ev;
 pub use expr::Expr;
 pub use laws::{rows_taken_in_are_those_below, values_have_their_kinds};
 pub use plan::Plan;
