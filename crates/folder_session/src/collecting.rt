@@ -17,10 +17,9 @@ ghost use Rattle.folder_session.specs.WorkRefusals.{collection_refusal};
 
 use crate::refusals::collection_refusal;
 use crate::session::FolderSession;
-use planning::{CollectionPlan, plan_collection, same_collection_in_any_order};
 use folder::{files_that_went, next_states};
 use outside_traits::{Failed, Store};
-use planning::Recording;
+use planning::{CollectionPlan, Recording, plan_collection, same_collection_in_any_order};
 use rows_core::Seq;
 use script_text::{Answer, Refusal};
 

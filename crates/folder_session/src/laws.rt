@@ -15,9 +15,9 @@ ghost use Rattle.folder_session.specs.Machine.{Outcome, outcome, refused, Perfor
 ghost use Rattle.folder_session.specs.Outcomes.{Agree};
 ghost use Rattle.folder_session.specs.Refusals.{HasNoChoice, IsRefusedFor, IsOtherEvent};
 
-use planning::one_collection;
 use plan_canon::laws::one_normal_form;
 use plan_text::plan_laws::one_plan;
+use planning::one_collection;
 
 /// Where the files hold their bytes no command is refused for damage, and no run or fetch loses a kept result;
 /// where they are a state's no command is refused for unreadable bytes.

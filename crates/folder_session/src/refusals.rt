@@ -2,8 +2,8 @@
 ghost use Rattle.std.specs.Prelude.{◌≡◌};
 ghost use Rattle.folder_session.specs.WorkRefusals.{collection_refusal, refusal_of};
 
-use planning::CollectionRefusal;
 use executor::RunRefusal;
+use planning::CollectionRefusal;
 use script_text::{LimitKind, Refusal};
 
 /// Why a command is refused whose work isn't done.

@@ -14,12 +14,11 @@ ghost use Rattle.job_turns.specs.Turns.{Reads, Halts, IsTurnEnd};
 
 use crate::job::{JobStep, JobWork};
 use catalog_core::{Catalog, kept_results_of_tables, know_table};
-use executor::read_next;
-use folder::{files_of_states, left_stores};
+use executor::{pieces_of_typed_rewritings, read_next};
 use extent_files::ReadRefusal;
+use folder::{files_of_states, left_stores};
 use outside_traits::Store;
 use plan_choice::{results_are_left_out, serving_rewritings, taken_rewritings};
-use executor::pieces_of_typed_rewritings;
 use std::alloc::Global;
 
 impl JobWork {

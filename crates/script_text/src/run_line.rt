@@ -9,8 +9,7 @@ use crate::answer::{LimitKind, Refusal};
 use crate::item::Command;
 use crate::stream_line::split_at_mark;
 use crate::words::only_name;
-use plan_text::{NamedPlan, PlanLimit};
-use plan_text::{TextRefusal, parse_plan};
+use plan_text::{NamedPlan, PlanLimit, TextRefusal, parse_plan};
 use rows_core::{Memory, Name};
 use std::alloc::Global;
 

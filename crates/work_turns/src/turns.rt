@@ -24,7 +24,7 @@ ghost use Rattle.work_turns.specs.Ends.{IsToldLast};
 ghost use Rattle.work_turns.specs.Turns.{IsChosenOf, EndsTurn, IsTold, IsLastTurn, TookInTurns, HasCauseInTurns};
 
 use catalog_core::{Catalog, kept_results_of_tables, know_table};
-use executor::{LostResult, Outcome, RunRefusal, run};
+use executor::{LostResult, Outcome, RunRefusal, pieces_of_typed_rewritings, run};
 use folder::{files_of_states, left_stores};
 use outside_traits::Store;
 use plan_choice::{
@@ -32,7 +32,6 @@ use plan_choice::{
 };
 use plan_core::Typed;
 use plan_laws::kept_forms_have_their_shape;
-use executor::pieces_of_typed_rewritings;
 use rows_core::{Cut, Memory};
 use std::alloc::Global;
 use work_plan::places_of_fit_plans;
