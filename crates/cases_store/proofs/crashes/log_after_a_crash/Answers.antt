@@ -2,8 +2,8 @@ use Rattle.std.proofs.Common.{[], ◌∷◌, List, ℕ, length, slice_index_or, 
 use Rattle.mem_outside.specs.Shown.{Shown}
 use Rattle.mem_outside.specs.Outcomes.{Outcome, state_in}
 use Rattle.mem_outside.specs.History.{current_of, past_of}
-use Rattle.store_tests.proofs.Commits.{left_of_run, outcome_of_committed, bodies_left, is_log_left, same_error}
-use Rattle.store_tests.proofs.crashes.log_after_a_crash.Goals as goal
+use Rattle.cases_store.proofs.Commits.{left_of_run, outcome_of_committed, bodies_left, is_log_left, same_error}
+use Rattle.cases_store.proofs.crashes.log_after_a_crash.Goals as goal
 
 pub returns-in-Ok-read-clause-bodies : goal.returns-in-Ok-read-clause-bodies
 returns-in-Ok-read-clause-bodies c =

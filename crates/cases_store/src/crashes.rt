@@ -8,7 +8,7 @@ ghost use Rattle.outside_traits.specs.Runs.{ChangesOnly};
 ghost use Rattle.rows_core.specs.declared.file_ref.Digest.{Digest};
 ghost use Rattle.gated_log.specs.Logs.{IsBody, Reads, contents};
 ghost use Rattle.mem_outside.specs.Outcomes.{left_of, state_in};
-ghost use Rattle.store_tests.specs.Counting.{none};
+ghost use Rattle.cases_store.specs.Counting.{none};
 
 use extent_files::{FileRefusal, read_file, write_file};
 use gated_log::{Log, LogRefusal, one_reading};
