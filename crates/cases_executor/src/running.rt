@@ -39,10 +39,10 @@ pub fn run_at(
     requires { IsTypedOver shelf.now.schemas.kinds typed.now }
 {
     let tree = searched(alloc, typed, cuts, shelf)?;
-    ran(alloc, tree, shelf, disk)
+    run_of(alloc, tree, shelf, disk)
 }
 
-fn ran(alloc: Global, tree: Rewriting, shelf: &Shelf, disk: &mut Disk) -> Result<Ran>
+fn run_of(alloc: Global, tree: Rewriting, shelf: &Shelf, disk: &mut Disk) -> Result<Ran>
     requires { CanRun shelf.now tree }
 {
     let reads = reads_shown(alloc, &tree, shelf)?;

@@ -1,6 +1,6 @@
 use Rattle.plan_core.specs.PlainPlan.{plan_of, leaves}
 use Rattle.estimator.proofs.Sums.{streams_length}
-use Rattle.cases_executor.proofs.running.ran.Goals as goal
+use Rattle.cases_executor.proofs.running.run_of.Goals as goal
 
 pub run-requires-clause-formed : goal.run-requires-clause-formed
 run-requires-clause-formed c = c.requires.formed
