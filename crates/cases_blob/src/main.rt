@@ -41,14 +41,22 @@ fn file_of(alloc: Global, arguments: &str) -> Result<(Shape, Vec<u8>)> {
 
 fn file(alloc: Global, arguments: &str) -> Result<String> {
     let (shape, bytes) = file_of(alloc, arguments)?;
-    let kept = match decode(alloc, &bytes, &shape) {
-        Ok(kept) => kept,
-        Err(BlobRefusal::NotBlob { at }) => return Ok(format!(in alloc; "stops at {at}")?),
-        Err(refusal) => return Err(anyhow::Error::from(refusal)),
-    };
-    let written = encode(alloc, &kept)?;
-    let len = encoded_len(&kept);
-    let answer = if written.as_slice() == bytes.as_slice() {
+    read_and_written(alloc, &bytes, &shape)
+}
+
+fn read_and_written(alloc: Global, bytes: &[u8], shape: &Shape) -> Result<String> {
+    match decode(alloc, bytes, shape) {
+        Ok(kept) => {
+            let written = encode(alloc, &kept)?;
+            compared(alloc, bytes, &written, encoded_len(&kept))
+        }
+        Err(BlobRefusal::NotBlob { at }) => stops_at(alloc, at),
+        Err(refusal) => Err(anyhow::Error::from(refusal)),
+    }
+}
+
+fn compared(alloc: Global, bytes: &[u8], written: &[u8], len: u64) -> Result<String> {
+    let answer = if written == bytes {
         "the same bytes"
     } else {
         "others"
@@ -56,10 +64,18 @@ fn file(alloc: Global, arguments: &str) -> Result<String> {
     Ok(format!(in alloc; "length {len}, written as {answer}")?)
 }
 
+fn stops_at(alloc: Global, at: u64) -> Result<String> {
+    Ok(format!(in alloc; "stops at {at}")?)
+}
+
 fn prefixes(alloc: Global, arguments: &str) -> Result<String> {
     let (shape, bytes) = file_of(alloc, arguments)?;
+    prefixes_of(alloc, &bytes, &shape)
+}
+
+fn prefixes_of(alloc: Global, bytes: &[u8], shape: &Shape) -> Result<String> {
     for len in 0..bytes.len() {
-        if place(alloc, &bytes[..len], &shape)? != Some(len as u64) {
+        if place(alloc, &bytes[..len], shape)? != Some(len as u64) {
             return Ok(format!(in alloc; "the first {len} bytes stop elsewhere")?);
         }
     }
@@ -69,8 +85,12 @@ fn prefixes(alloc: Global, arguments: &str) -> Result<String> {
 
 fn bytes(alloc: Global, arguments: &str) -> Result<String> {
     let (shape, bytes) = file_of(alloc, arguments)?;
+    changes_of(alloc, &bytes, &shape)
+}
+
+fn changes_of(alloc: Global, bytes: &[u8], shape: &Shape) -> Result<String> {
     for at in 0..bytes.len() {
-        if !stops_as_plain(alloc, &bytes, at, &shape)? {
+        if !stops_as_plain(alloc, bytes, at, shape)? {
             return Ok(format!(in alloc; "a change of byte {at} stops elsewhere")?);
         }
     }
@@ -96,9 +116,13 @@ fn change(alloc: Global, arguments: &str) -> Result<String> {
     let mut digits = [0; 1];
     hex::decode_to_slice(byte, &mut digits)?;
     let (shape, bytes) = file_of(alloc, arguments)?;
-    let changed = changed(alloc, &bytes, at, digits[0])?;
-    match place(alloc, &changed, &shape)? {
-        Some(at) => Ok(format!(in alloc; "stops at {at}")?),
+    change_of(alloc, &bytes, at, digits[0], &shape)
+}
+
+fn change_of(alloc: Global, bytes: &[u8], at: usize, byte: u8, shape: &Shape) -> Result<String> {
+    let changed = changed(alloc, bytes, at, byte)?;
+    match place(alloc, &changed, shape)? {
+        Some(at) => stops_at(alloc, at),
         None => Ok(String::from_str(alloc, "read")?),
     }
 }

@@ -7,8 +7,11 @@
 
 mod given;
 
+ghost use Rattle.collector.specs.Ratio.{CanBeRanked};
+
 use anyhow::{Context, Result};
 use case_text::cases::answer_each;
+use catalog_types::Entry;
 use collector::{ratio_cmp, victims};
 use given::{entries_of, entry_of, numbers_of};
 use std::alloc::Global;
@@ -60,12 +63,22 @@ fn shown(alloc: Global, ids: &[u32]) -> Result<String> {
 /// Which of two entries goes first.
 fn ordered(alloc: Global, now: &str, first: &str, second: &str) -> Result<String> {
     let now = now.parse::<u32>().ok().context("no tick")?;
-    let first = entry_of(alloc, first, now)?;
-    let second = entry_of(alloc, second, now)?;
-    let answer = match ratio_cmp(&first, &second, now) {
+    let answer = match order_by_texts(alloc, now, first, second)? {
         Ordering::Less => "the first",
         Ordering::Equal => "neither",
         Ordering::Greater => "the second",
     };
     Ok(String::from_str(alloc, answer)?)
+}
+
+fn order_by_texts(alloc: Global, now: u32, first: &str, second: &str) -> Result<Ordering> {
+    let first = entry_of(alloc, first, now)?;
+    order_of(alloc, now, &first, second)
+}
+
+fn order_of(alloc: Global, now: u32, first: &Entry, second: &str) -> Result<Ordering>
+    requires { CanBeRanked now first.now }
+{
+    let second = entry_of(alloc, second, now)?;
+    Ok(ratio_cmp(first, &second, now))
 }

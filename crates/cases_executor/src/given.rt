@@ -6,9 +6,20 @@ use postfix_plans::{Streams, streams_of};
 use rows_core::{Cut, Kind, Row, Seq};
 use std::alloc::Global;
 
+/// What is asked of a case: what is held at each step; what each step gives, reads and keeps; or the rows of
+/// its one step, or how many they are.
+#[derive(Clone, Copy)]
+pub enum Asked {
+    Held,
+    Steps,
+    Rows,
+    Count,
+}
+
 /// A plan, the kinds and the extents of the streams, and a cut for each step.
 #[derive(Drop)]
 pub struct Case {
+    pub asked: Asked,
     pub plan: String,
     pub schemas: Schemas,
     pub extents: Seq<Seq<Seq<Row>>>,
@@ -16,28 +27,49 @@ pub struct Case {
 }
 
 /// The case that is written so.
-pub fn case_of(alloc: Global, text: &str) -> Result<Case> {
+pub fn case_of(alloc: Global, asked: Asked, text: &str) -> Result<Case> {
     let (subject, steps) = text.split_once(" || ").context("no steps")?;
     let (plan, streams) = subject.split_once(" | ").context("no streams")?;
     let mut kinds = Vec::new(alloc);
     let mut extents = Vec::new(alloc);
     for stream in streams.split(" | ") {
-        let (stream_kinds, rows) = stream_of(alloc, stream)?;
-        kinds.push(stream_kinds)?;
-        extents.push(rows)?;
+        put_stream(alloc, stream, &mut kinds, &mut extents)?;
     }
+    let steps = steps_of(alloc, steps)?;
+    let plan = String::from_str(alloc, plan)?;
     Ok(Case {
-        plan: String::from_str(alloc, plan)?,
+        asked,
+        plan,
         schemas: Schemas {
             kinds: Seq::new(kinds),
         },
         extents: Seq::new(extents),
-        steps: steps_of(alloc, steps)?,
+        steps,
     })
+}
+
+fn put_stream(
+    alloc: Global,
+    text: &str,
+    kinds: &mut Vec<Seq<Kind>>,
+    extents: &mut Vec<Seq<Seq<Row>>>,
+) -> Result<()> {
+    let (stream_kinds, rows) = stream_of(alloc, text)?;
+    extents.push(rows)?;
+    Ok(kinds.push(stream_kinds)?)
 }
 
 /// A stream's kinds and the rows of its extents. It is read as so many streams as it has extents.
 fn stream_of(alloc: Global, text: &str) -> Result<(Seq<Kind>, Seq<Seq<Row>>)> {
+    let written = extents_as_streams(alloc, text)?;
+    let Streams { schemas, rows } = streams_of(alloc, written.as_str())?;
+    match schemas.kinds.into_vec().into_iter().next() {
+        Some(kinds) => Ok((kinds, rows)),
+        None => bail!("no kinds"),
+    }
+}
+
+fn extents_as_streams(alloc: Global, text: &str) -> Result<String> {
     let (kinds, extents) = text.split_once(' ').unwrap_or((text, ""));
     let mut written = String::new(alloc);
     for extent in extents.split('/') {
@@ -47,11 +79,7 @@ fn stream_of(alloc: Global, text: &str) -> Result<(Seq<Kind>, Seq<Seq<Row>>)> {
         written.push_str(kinds)?;
         put_rows(&mut written, extent)?;
     }
-    let Streams { schemas, rows } = streams_of(alloc, written.as_str())?;
-    match schemas.kinds.into_vec().into_iter().next() {
-        Some(kinds) => Ok((kinds, rows)),
-        None => bail!("no kinds"),
-    }
+    Ok(written)
 }
 
 /// Appends each of the rows as often as it counts.

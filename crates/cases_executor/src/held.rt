@@ -6,17 +6,42 @@ ghost use Rattle.growth_laws.specs.Pieces.{Piece};
 ghost use Rattle.executor.specs.Progress.{left_in, ArePartsOf};
 ghost use Rattle.cases_executor.specs.Filed.{HasFile};
 
+use crate::given::Case;
 use crate::running::searched;
 use crate::shelf::{Disk, Shelf};
 use crate::shown::put;
 use anyhow::Result;
 use executor::{Job, prepare, read_next};
 use plan_core::Typed;
-use rows_core::Cut;
+use postfix_plans::typed_of;
+use rows_core::{Cut, Seq};
 use std::alloc::Global;
 
+/// How many rows and groups are held at each step.
+pub fn held_at_steps(alloc: Global, case: &Case, shelf: &Shelf, disk: &mut Disk) -> Result<String> {
+    let typed = typed_of(alloc, case.plan.as_str(), &shelf.schemas)?;
+    held_at_each(alloc, &typed, &case.steps, shelf, disk)
+}
+
+fn held_at_each(
+    alloc: Global,
+    typed: &Typed,
+    steps: &[Seq<Cut>],
+    shelf: &Shelf,
+    disk: &mut Disk,
+) -> Result<String>
+    requires { IsTypedOver shelf.now.schemas.kinds typed.now }
+{
+    let mut told = String::new(alloc);
+    for cuts in steps {
+        let held = held_at(alloc, typed, cuts.items(), shelf, disk)?;
+        put(&mut told, "\n", held.as_str())?;
+    }
+    Ok(told)
+}
+
 /// How many rows and groups are held after each file that is read for the plan at the cut.
-pub fn held_at(
+fn held_at(
     alloc: Global,
     typed: &Typed,
     cuts: &[Cut],

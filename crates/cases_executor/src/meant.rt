@@ -3,17 +3,21 @@
 use crate::given::Case;
 use anyhow::{Context, Result};
 use plan_core::{Schemas, Typed};
-use postfix_plans::{Streams, plan_of, rows_of, typed};
+use postfix_plans::{Streams, rows_of, typed_of};
 use rows_core::{Cut, Kind, Row, Seq, copy_rows};
 use std::alloc::Global;
 
 /// The rows that the evaluator gives at the cut, or the refusal. It is asked for the same plan over a stream
 /// for each leaf, since the leaves of a stream may have different cuts.
 pub fn meant_at(alloc: Global, case: &Case, leaves: &[u32], cuts: &[Cut]) -> Result<String> {
-    let streams = streams_of_leaves(alloc, case, leaves, cuts)?;
     let plan = over_leaves(alloc, case.plan.as_str())?;
-    let typed = typed(alloc, plan_of(alloc, plan.as_str())?, &streams.schemas)?;
-    rows_of(alloc, &typed, &streams)
+    let streams = streams_of_leaves(alloc, case, leaves, cuts)?;
+    rows_on(alloc, plan.as_str(), &streams)
+}
+
+fn rows_on(alloc: Global, plan: &str, streams: &Streams) -> Result<String> {
+    let typed = typed_of(alloc, plan, &streams.schemas)?;
+    rows_of(alloc, &typed, streams)
 }
 
 /// The plan with its leaves as streams of their own, which count up from 0.
@@ -21,7 +25,7 @@ fn over_leaves(alloc: Global, plan: &str) -> Result<String> {
     let mut renamed = String::new(alloc);
     let mut leaf: u32 = 0;
     for word in plan.split_whitespace() {
-        if is_scan(word) {
+        if scanned(word).is_some() {
             renamed.push_str(format!(in alloc; "s{leaf} ")?.as_str())?;
             leaf = leaf.saturating_add(1);
         } else {
@@ -32,11 +36,9 @@ fn over_leaves(alloc: Global, plan: &str) -> Result<String> {
     Ok(renamed)
 }
 
-fn is_scan(word: &str) -> bool {
-    match word.strip_prefix('s') {
-        Some(stream) => stream.parse::<u32>().is_ok(),
-        None => false,
-    }
+/// The stream of the scan with this word, if it is the word of one.
+pub fn scanned(word: &str) -> Option<u32> {
+    word.strip_prefix('s')?.parse::<u32>().ok()
 }
 
 /// The kinds of each leaf's stream, and its rows at the cut.

@@ -5,7 +5,7 @@ ghost use Rattle.estimator.specs.Bytes.{IsCutOf};
 ghost use Rattle.plan_core.specs.TypedPlan.{IsTypedOver};
 ghost use Rattle.rewrite_core.specs.Entries.{AreSound};
 ghost use Rattle.growth_laws.specs.There.{IsWithin};
-ghost use Rattle.result_list.specs.Listed.{entries_of};
+ghost use Rattle.postfix_plans.specs.Listed.{entries_of};
 ghost use Rattle.cases_executor.specs.Filed.{counts_of, IsFiled, CanRun};
 
 use crate::shelf::{Disk, Shelf};
@@ -15,7 +15,7 @@ use anyhow::{Result, bail};
 use executor::{EndedRun, Outcome, run};
 use growth_laws::named_files_are_there;
 use plan_core::Typed;
-use result_list::{are_in_streams, are_sound};
+use postfix_plans::{are_in_streams, are_sound};
 use rewrite_core::Rewriting;
 use rewriter::{laws, least, reads};
 use rows_core::{Cut, Memory};
@@ -39,12 +39,25 @@ pub fn run_at(
     requires { IsTypedOver shelf.now.schemas.kinds typed.now }
 {
     let tree = searched(alloc, typed, cuts, shelf)?;
-    let bytes = reads(&tree, &shelf.lens);
-    let used = numbers_shown(alloc, &tree.used(alloc)?)?;
+    run_of(alloc, tree, shelf, disk)
+}
+
+fn run_of(alloc: Global, tree: Rewriting, shelf: &Shelf, disk: &mut Disk) -> Result<Ran>
+    requires { CanRun shelf.now tree }
+{
+    let reads = reads_shown(alloc, &tree, shelf)?;
     Ok(Ran {
-        reads: format!(in alloc; "{bytes} bytes, uses {used}")?,
+        reads,
         outcome: run(alloc, tree, &mut disk.store, shelf),
     })
+}
+
+fn reads_shown(alloc: Global, tree: &Rewriting, shelf: &Shelf) -> Result<String>
+    requires { CanRun shelf.now tree.now }
+{
+    let bytes = reads(tree, &shelf.lens);
+    let used = numbers_shown(alloc, &tree.used(alloc)?)?;
+    Ok(format!(in alloc; "{bytes} bytes, uses {used}")?)
 }
 
 /// The least rewriting of the plan at the cut, which can be run over the files.

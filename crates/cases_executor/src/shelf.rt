@@ -8,7 +8,7 @@ use executor::KeptPlace;
 use extent_files::write_file;
 use mem_outside::MemStore;
 use plan_core::Schemas;
-use result_list::{ExtentLens, ListedResult, ResultList};
+use postfix_plans::{ExtentLens, ListedResult, ResultList};
 use rewrite_core::{Lookup, Places};
 use row_blob::{Kept, encode, encoded_len};
 use rows_core::{FileRef, Kind, Row, Seq, copy_rows};
@@ -105,12 +105,11 @@ pub fn shelf_of(alloc: Global, case: &Case, disk: &mut Disk) -> Result<Shelf> {
     let mut files = Vec::new(alloc);
     let mut lens = Vec::new(alloc);
     for extents in case.extents.items() {
-        let (stream_files, stream_lens) = extents_written(alloc, extents.items(), disk)?;
-        files.push(stream_files)?;
-        lens.push(stream_lens)?;
+        put_extents(alloc, extents.items(), disk, &mut files, &mut lens)?;
     }
+    let schemas = copied(alloc, &case.schemas)?;
     Ok(Shelf {
-        schemas: copied(alloc, &case.schemas)?,
+        schemas,
         extents: Seq::new(files),
         lens: ExtentLens {
             lens: Seq::new(lens),
@@ -122,20 +121,38 @@ pub fn shelf_of(alloc: Global, case: &Case, disk: &mut Disk) -> Result<Shelf> {
     })
 }
 
-fn extents_written(
+/// Writes a stream's extents, and appends where they stand and how long they are.
+fn put_extents(
     alloc: Global,
     extents: &[Seq<Row>],
     disk: &mut Disk,
-) -> Result<(Seq<FileRef>, Seq<u64>)> {
+    files: &mut Vec<Seq<FileRef>>,
+    lens: &mut Vec<Seq<u64>>,
+) -> Result<()> {
+    let written = extents_written(alloc, extents, disk)?;
+    lens.push(lens_of(alloc, &written)?)?;
+    Ok(files.push(Seq::new(written))?)
+}
+
+fn extents_written(alloc: Global, extents: &[Seq<Row>], disk: &mut Disk) -> Result<Vec<FileRef>> {
     let mut files = Vec::new(alloc);
-    let mut lens = Vec::new(alloc);
     for rows in extents {
-        let rows = Seq::new(copy_rows(alloc, rows.items())?);
-        let at = disk.write(alloc, &Kept::Rows(rows))?;
-        files.push(at)?;
-        lens.push(at.len)?;
+        files.push(rows_written(alloc, rows.items(), disk)?)?;
     }
-    Ok((Seq::new(files), Seq::new(lens)))
+    Ok(files)
+}
+
+fn rows_written(alloc: Global, rows: &[Row], disk: &mut Disk) -> Result<FileRef> {
+    let kept = Kept::Rows(Seq::new(copy_rows(alloc, rows)?));
+    disk.write(alloc, &kept)
+}
+
+fn lens_of(alloc: Global, files: &[FileRef]) -> Result<Seq<u64>> {
+    let mut lens = Vec::new(alloc);
+    for file in files {
+        lens.push(file.len)?;
+    }
+    Ok(Seq::new(lens))
 }
 
 fn copied(alloc: Global, schemas: &Schemas) -> Result<Schemas> {
@@ -155,24 +172,23 @@ fn kinds_copied(alloc: Global, kinds: &Seq<Kind>) -> Result<Seq<Kind>> {
 /// Keeps a result, unless one of its plan and cut is kept. The answer is its id.
 pub fn keep(
     alloc: Global,
-    kept: KeptPlace,
+    place: &KeptPlace,
     shelf: &mut Shelf,
     disk: &mut Disk,
 ) -> Result<Option<u32>> {
-    let KeptPlace {
-        plan,
-        cuts,
-        kept,
-        machine,
-    } = kept;
-    if shelf.results.whole(alloc, &plan, cuts.items())?.is_some() {
+    if is_kept(alloc, place, shelf)? {
         return Ok(None);
     }
-    let at = disk.write(alloc, &kept)?;
+    let at = disk.write(alloc, &place.kept)?;
     let id = u32::try_from(shelf.kept.len())
         .ok()
         .context("too many results")?;
-    shelf.kept.push(KeptFile { at, machine })?;
+    shelf.kept.push(KeptFile {
+        at,
+        machine: place.machine,
+    })?;
+    let cuts = place.cuts.try_copy(alloc)?;
+    let plan = place.plan.try_copy(alloc)?;
     shelf.results.results.push(ListedResult {
         id,
         plan,
@@ -180,4 +196,9 @@ pub fn keep(
         len: at.len,
     })?;
     Ok(Some(id))
+}
+
+fn is_kept(alloc: Global, place: &KeptPlace, shelf: &Shelf) -> Result<bool> {
+    let whole = shelf.results.whole(alloc, &place.plan, place.cuts.items())?;
+    Ok(whole.is_some())
 }

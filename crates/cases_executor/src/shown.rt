@@ -17,6 +17,12 @@ pub fn rows_shown(alloc: Global, rows: &[Row]) -> Result<String> {
     Ok(shown)
 }
 
+/// How many rows these lines are.
+pub fn count_shown(alloc: Global, rows: &str) -> Result<String> {
+    let count = rows.split(" / ").filter(|row| !row.is_empty()).count();
+    Ok(format!(in alloc; "{count} rows")?)
+}
+
 /// Numbers, with `,` between them; `none` where there are none.
 pub fn numbers_shown(alloc: Global, numbers: &[u32]) -> Result<String> {
     let mut shown = String::new(alloc);

@@ -1,13 +1,13 @@
 //! Whether cuts and kept results have their files.
 ghost use Rattle.std.specs.Prelude.{IsTrue};
 ghost use Rattle.std.specs.List.{AllByRecursion};
-ghost use Rattle.result_list.specs.Listed.{entries_of};
+ghost use Rattle.postfix_plans.specs.Listed.{entries_of};
 ghost use Rattle.growth_laws.specs.There.{EndWithin, IsWithin};
 ghost use Rattle.cases_executor.specs.Filed.{counts_of, IsFiled};
 
 use crate::shelf::{KeptFile, Shelf, extents_at};
 use plan_core::Typed;
-use result_list::ListedResult;
+use postfix_plans::ListedResult;
 use rows_core::{Cut, FileRef, Seq};
 
 /// Whether the cut has an interval for each leaf of the plan, which ends within the extents that have files.

@@ -21,11 +21,15 @@ pub fn case_of(alloc: Global, text: &str) -> Result<Case> {
     let (plan, others) = text.split_once(" | ").context("no cut")?;
     let (cuts, others) = others.split_once(" | ").context("no ids")?;
     let (without, entries) = others.split_once(" | ").unwrap_or((others, ""));
+    let cuts = cuts_of(alloc, cuts)?;
+    let without = ids_of(alloc, without)?;
+    let entries = entries_of(alloc, entries)?;
+    let plan = plan_of(alloc, plan)?;
     Ok(Case {
-        plan: plan_of(alloc, plan)?,
-        cuts: cuts_of(alloc, cuts)?,
-        without: ids_of(alloc, without)?,
-        entries: entries_of(alloc, entries)?,
+        plan,
+        cuts,
+        without,
+        entries,
     })
 }
 
@@ -55,20 +59,34 @@ fn entry_of(alloc: Global, text: &str) -> Result<Entry> {
     let (id, others) = text.split_once(' ').context("no length")?;
     let (len, others) = others.split_once(' ').context("no cut")?;
     let (cuts, plan) = others.split_once(' ').context("no plan")?;
-    let key = Digest { bytes: [7; 32] };
     let id = id.parse::<u32>().ok().context("no id")?;
-    let mut entry = entry_with(alloc, id, key, key)?;
-    entry.plan = plan_of(alloc, plan)?;
-    entry.cuts = cuts_of(alloc, cuts)?;
-    entry.file.len = len.parse::<u64>().ok().context("no length")?;
-    Ok(entry)
+    let len = len.parse::<u64>().ok().context("no length")?;
+    let cuts = cuts_of(alloc, cuts)?;
+    let plan = plan_of(alloc, plan)?;
+    let key = Digest { bytes: [7; 32] };
+    Ok(Entry {
+        id,
+        plan,
+        cuts,
+        program: key,
+        key,
+        file: FileRef {
+            file: 1,
+            len,
+            digest: key,
+        },
+        machine: 1,
+        uses: 1,
+        last: 1,
+        made: 1,
+    })
 }
 
 /// A kept result of the first stream's rows at no cut, with these keys.
-pub fn entry_with(alloc: Global, id: u32, program: Digest, key: Digest) -> Result<Entry> {
-    Ok(Entry {
+pub fn entry_with(alloc: Global, id: u32, program: Digest, key: Digest) -> Entry {
+    Entry {
         id,
-        plan: plan_of(alloc, "s0")?,
+        plan: Plan::Scan { stream: 0 },
         cuts: Seq::new(Vec::new(alloc)),
         program,
         key,
@@ -81,5 +99,5 @@ pub fn entry_with(alloc: Global, id: u32, program: Digest, key: Digest) -> Resul
         uses: 1,
         last: 1,
         made: 1,
-    })
+    }
 }

@@ -3,6 +3,7 @@
 use crate::given::entry_with;
 use anyhow::{Context, Result};
 use cache_index::CacheIndex;
+use catalog_types::Entry;
 use rows_core::Digest;
 use std::alloc::Global;
 
@@ -12,12 +13,23 @@ use std::alloc::Global;
 pub fn indexed(alloc: Global, case: &str) -> Result<String> {
     let (digests, steps) = case.split_once(" | ").context("no steps")?;
     let (program, key) = digests.split_once(' ').context("no second digest")?;
+    let (program, key) = (digest_of(program)?, digest_of(key)?);
     let mut index = CacheIndex::new(alloc);
+    indexed_in(alloc, &mut index, steps, &program, &key)
+}
+
+fn indexed_in(
+    alloc: Global,
+    index: &mut CacheIndex,
+    steps: &str,
+    program: &Digest,
+    key: &Digest,
+) -> Result<String> {
     for step in steps.split(" | ") {
-        do_step(alloc, &mut index, step)?;
+        do_step(alloc, index, step)?;
     }
-    let of_program = ids_shown(alloc, index.of_program(&digest_of(program)?))?;
-    let under = ids_shown(alloc, index.under(&digest_of(key)?))?;
+    let of_program = ids_shown(alloc, index.of_program(program))?;
+    let under = ids_shown(alloc, index.under(key))?;
     Ok(format!(in alloc; "of program {of_program}, under {under}")?)
 }
 
@@ -30,9 +42,12 @@ fn do_step(alloc: Global, index: &mut CacheIndex, step: &str) -> Result<()> {
     let step = step.strip_prefix('+').context("no step")?;
     let (id, digests) = step.split_once(' ').context("no program")?;
     let (program, key) = digests.split_once(' ').context("no key")?;
-    let entry = entry_with(alloc, number(id)?, digest_of(program)?, digest_of(key)?)?;
-    index.insert(&entry)?;
-    Ok(())
+    let (id, program, key) = (number(id)?, digest_of(program)?, digest_of(key)?);
+    insert(index, &entry_with(alloc, id, program, key))
+}
+
+fn insert(index: &mut CacheIndex, entry: &Entry) -> Result<()> {
+    Ok(index.insert(entry)?)
 }
 
 fn number(text: &str) -> Result<u32> {

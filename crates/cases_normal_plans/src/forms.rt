@@ -1,33 +1,46 @@
 //! Two plans and their normal plans, over two streams, the first with two columns of numbers, the second with
 //! two of numbers and one of texts.
+ghost use Rattle.std.specs.Prelude.{IfOk};
+ghost use Rattle.plan_core.specs.TypedPlan.{IsTypedOver};
 
 use anyhow::Result;
 use plan_canon::canon;
 use plan_core::{Plan, Schemas, Typed};
-use postfix_plans::{plan_of, typed};
+use postfix_plans::{plan_of, typed_of};
 use rows_core::{Kind, Seq};
 use std::alloc::Global;
 
 /// Whether the second is the normal plan of the first, or else whether the two have one.
 pub fn compared(alloc: Global, first: &str, second: &str) -> Result<&'static str> {
-    let second = plan_of(alloc, second)?;
-    let normal = normal_of(alloc, plan_of(alloc, first)?)?;
-    if normal.plan().is_same(&second) {
+    let schemas = streams(alloc)?;
+    let normal = normal_of(alloc, first, &schemas)?;
+    beside(alloc, normal.plan(), second, &schemas)
+}
+
+fn beside(alloc: Global, normal: &Plan, second: &str, schemas: &Schemas) -> Result<&'static str> {
+    if is_written(alloc, normal, second)? {
         return Ok("its normal plan");
     }
-    let other = normal_of(alloc, second)?;
-    Ok(if normal.plan().is_same(other.plan()) {
+    let other = normal_of(alloc, second, schemas)?;
+    Ok(if normal.is_same(other.plan()) {
         "one normal plan"
     } else {
         "two normal plans"
     })
 }
 
-/// The normal plan of a plan that has a typing.
-fn normal_of(alloc: Global, plan: Plan) -> Result<Typed> {
-    let schemas = streams(alloc)?;
-    let typed = typed(alloc, plan, &schemas)?;
-    Ok(canon(alloc, typed, &schemas)?)
+/// Whether the plan is the one that is written so.
+pub fn is_written(alloc: Global, plan: &Plan, text: &str) -> Result<bool> {
+    let written = plan_of(alloc, text)?;
+    Ok(plan.is_same(&written))
+}
+
+/// The normal plan of the plan that is written so, which has a typing.
+pub fn normal_of(alloc: Global, text: &str, schemas: &Schemas) -> Result<Typed>
+    ensures { IfOk result (λ typed. IsTypedOver schemas.now.kinds typed) }
+{
+    let typed = typed_of(alloc, text, schemas)?;
+    Ok(canon(alloc, typed, schemas)?)
 }
 
 fn streams(alloc: Global) -> Result<Schemas> {

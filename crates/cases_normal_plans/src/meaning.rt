@@ -1,47 +1,50 @@
 //! The rows of a plan and of its normal plan.
+ghost use Rattle.plan_core.specs.TypedPlan.{IsTypedOver};
 
+use crate::forms::{is_written, normal_of};
 use anyhow::{Context, Result};
-use plan_canon::canon;
-use plan_core::Plan;
-use postfix_plans::{Streams, plan_of, rows_of, streams_of, typed};
+use plan_core::Typed;
+use postfix_plans::{Streams, rows_of, streams_of, typed_of};
 use std::alloc::Global;
-
-/// The rows of a plan and of its normal plan, and whether that is the plan itself.
-#[derive(Drop)]
-struct Both {
-    rows: String,
-    others: String,
-    is_normal: bool,
-}
 
 /// The rows that the plan gives, behind `same` where its normal plan gives the same, behind `normal` where it
 /// is its normal plan; and behind `other`, with what the normal plan gives.
 pub fn compared(alloc: Global, case: &str) -> Result<String> {
     let (plan, streams) = case.split_once(" | ").context("no streams")?;
-    let plan = plan_of(alloc, plan)?;
     let streams = streams_of(alloc, streams)?;
-    told(alloc, &both_of(alloc, &plan, &streams)?)
+    compared_on(alloc, plan, &streams)
 }
 
-fn both_of(alloc: Global, plan: &Plan, streams: &Streams) -> Result<Both> {
-    let typed = typed(alloc, plan.try_copy(alloc)?, &streams.schemas)?;
-    let rows = shown(alloc, rows_of(alloc, &typed, streams))?;
-    let normal = canon(alloc, typed, &streams.schemas)?;
-    let others = shown(alloc, rows_of(alloc, &normal, streams))?;
-    let is_normal = normal.plan().is_same(plan);
-    Ok(Both {
-        rows,
-        others,
-        is_normal,
-    })
+fn compared_on(alloc: Global, plan: &str, streams: &Streams) -> Result<String> {
+    let rows = own_rows(alloc, plan, streams)?;
+    let normal = normal_of(alloc, plan, &streams.schemas)?;
+    beside(alloc, &rows, &normal, plan, streams)
 }
 
-fn told(alloc: Global, both: &Both) -> Result<String> {
-    let (rows, others) = (both.rows.as_str(), both.others.as_str());
-    if rows != others {
+/// The rows that the plan itself gives.
+fn own_rows(alloc: Global, plan: &str, streams: &Streams) -> Result<String> {
+    let typed = typed_of(alloc, plan, &streams.schemas)?;
+    shown(alloc, rows_of(alloc, &typed, streams))
+}
+
+fn beside(
+    alloc: Global,
+    rows: &str,
+    normal: &Typed,
+    plan: &str,
+    streams: &Streams,
+) -> Result<String>
+    requires { IsTypedOver streams.now.schemas.kinds normal.now }
+{
+    let others = shown(alloc, rows_of(alloc, normal, streams))?;
+    if rows != others.as_str() {
         return Ok(format!(in alloc; "other: {rows}, and {others}")?);
     }
-    let word = if both.is_normal { "normal" } else { "same" };
+    let word = if is_written(alloc, normal.plan(), plan)? {
+        "normal"
+    } else {
+        "same"
+    };
     Ok(format!(in alloc; "{word}: {rows}")?)
 }
 

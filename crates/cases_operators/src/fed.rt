@@ -8,34 +8,53 @@ use anyhow::{Result, bail};
 use group_fold::{FinishRefusal, Groups, finish};
 use postfix_plans::Streams;
 use row_ops::Seen;
-use rows_core::Row;
+use rows_core::{Row, Seq};
 use std::alloc::Global;
 
 /// The first of equal rows of all lists.
-pub fn seen(alloc: Global, lists: Streams) -> Result<String> {
-    let mut counts = String::new(alloc);
+pub fn seen(alloc: Global, lists: Seq<Seq<Row>>) -> Result<String> {
     let mut seen = Seen::new(alloc);
-    for rows in lists.rows.into_vec() {
+    let counts = counts_fed(alloc, lists, &mut seen)?;
+    let rows = seen.into_rows(alloc)?;
+    let rows = rows_shown(alloc, &rows)?;
+    Ok(format!(in alloc; "{counts}| {rows}")?)
+}
+
+fn counts_fed(alloc: Global, lists: Seq<Seq<Row>>, seen: &mut Seen) -> Result<String> {
+    let mut counts = String::new(alloc);
+    for rows in lists.into_vec() {
         seen.feed(rows.into_vec())?;
         counts.push_str(format!(in alloc; "{} ", seen.len())?.as_str())?;
     }
-    let rows = rows_shown(alloc, &seen.into_rows(alloc)?)?;
-    Ok(format!(in alloc; "{counts}| {rows}")?)
+    Ok(counts)
 }
 
 /// The rows of the groups of two lists.
 pub fn groups(alloc: Global, arguments: &str, lists: &Streams) -> Result<String> {
-    let grouping = grouping_of(alloc, arguments)?;
     let old = list_at(lists, 0)?;
     let new = list_at(lists, 1)?;
     if old.len() + new.len() > 4_294_967_295 {
         bail!("too many rows");
     }
-    let (before, after, rows) = grouped(alloc, &grouping, old, new)?;
+    groups_of_few(alloc, arguments, old, new)
+}
+
+fn groups_of_few(alloc: Global, arguments: &str, old: &[Row], new: &[Row]) -> Result<String>
+    requires { length old.now + length new.now ≤ 4294967295 }
+{
+    let grouping = grouping_of(alloc, arguments)?;
+    groups_by(alloc, &grouping, old, new)
+}
+
+fn groups_by(alloc: Global, grouping: &Grouping, old: &[Row], new: &[Row]) -> Result<String>
+    requires { length old.now + length new.now ≤ 4294967295 }
+{
+    let (before, after, rows) = grouped(alloc, grouping, old, new)?;
     let rows = rows_shown(alloc, &rows)?;
     Ok(format!(in alloc; "{before} {after} | {rows}")?)
 }
 
+// How many groups there are before and after the new rows, and the rows of all.
 fn grouped(
     alloc: Global,
     grouping: &Grouping,

@@ -19,8 +19,13 @@ pub fn exprs_of(alloc: Global, text: &str) -> Result<Vec<Expr>> {
 /// The keys of an order, as `up0 down1`.
 pub fn keys_of(alloc: Global, text: &str) -> Result<Seq<Key>> {
     let text = format!(in alloc; "s0 {text} order")?;
-    match plan_of(alloc, text.as_str())? {
-        Plan::Order { keys, .. } => Ok(keys),
+    let plan = plan_of(alloc, text.as_str())?;
+    keys_in(alloc, &plan)
+}
+
+fn keys_in(alloc: Global, plan: &Plan) -> Result<Seq<Key>> {
+    match plan {
+        Plan::Order { keys, .. } => Ok(keys.try_copy(alloc)?),
         _ => bail!("no order"),
     }
 }
@@ -35,8 +40,16 @@ pub struct Grouping {
 /// The keys and the aggregates of a grouping, as `key0 count sum1`.
 pub fn grouping_of(alloc: Global, text: &str) -> Result<Grouping> {
     let text = format!(in alloc; "s0 {text} group")?;
-    match plan_of(alloc, text.as_str())? {
-        Plan::Group { keys, aggs, .. } => Ok(Grouping { keys, aggs }),
+    let plan = plan_of(alloc, text.as_str())?;
+    grouping_in(alloc, &plan)
+}
+
+fn grouping_in(alloc: Global, plan: &Plan) -> Result<Grouping> {
+    match plan {
+        Plan::Group { keys, aggs, .. } => Ok(Grouping {
+            keys: keys.try_copy(alloc)?,
+            aggs: aggs.try_copy(alloc)?,
+        }),
         _ => bail!("no grouping"),
     }
 }
@@ -44,8 +57,13 @@ pub fn grouping_of(alloc: Global, text: &str) -> Result<Grouping> {
 /// The pairs of columns of a join, as `on0=1`.
 pub fn pairs_of(alloc: Global, text: &str) -> Result<Seq<(u32, u32)>> {
     let text = format!(in alloc; "s0 s1 {text} join")?;
-    match plan_of(alloc, text.as_str())? {
-        Plan::Join { on, .. } => Ok(on),
+    let plan = plan_of(alloc, text.as_str())?;
+    pairs_in(alloc, &plan)
+}
+
+fn pairs_in(alloc: Global, plan: &Plan) -> Result<Seq<(u32, u32)>> {
+    match plan {
+        Plan::Join { on, .. } => Ok(on.try_copy(alloc)?),
         _ => bail!("no join"),
     }
 }

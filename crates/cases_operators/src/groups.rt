@@ -12,17 +12,29 @@ use std::alloc::Global;
 
 /// What `fold` keeps of the groups of the first list.
 pub fn folded(alloc: Global, arguments: &str, lists: &Streams) -> Result<String> {
-    let Grouping { keys, aggs } = grouping_of(alloc, arguments)?;
     let rows = list_at(lists, 0)?;
-    let groups = fold(alloc, rows, keys.items(), aggs.items())?;
+    let grouping = grouping_of(alloc, arguments)?;
+    folded_by(alloc, &grouping, rows)
+}
+
+fn folded_by(alloc: Global, grouping: &Grouping, rows: &[Row]) -> Result<String>
+    requires { length rows.now ≤ 4294967295 }
+{
+    let groups = fold(alloc, rows, grouping.keys.items(), grouping.aggs.items())?;
     groups_shown(alloc, &groups)
 }
 
 /// The rows of these groups.
 pub fn finished(alloc: Global, arguments: &str, lists: &Streams) -> Result<String> {
-    let grouping = grouping_of(alloc, arguments)?;
     let rows = list_at(lists, 0)?;
-    rows_shown(alloc, &finished_rows(alloc, &grouping, rows)?)
+    let grouping = grouping_of(alloc, arguments)?;
+    finished_by(alloc, &grouping, rows)
+}
+
+fn finished_by(alloc: Global, grouping: &Grouping, rows: &[Row]) -> Result<String>
+    requires { length rows.now ≤ 4294967295 }
+{
+    rows_shown(alloc, &finished_rows(alloc, grouping, rows)?)
 }
 
 fn finished_rows(
@@ -39,10 +51,17 @@ fn finished_rows(
 
 /// What is kept of the groups of the first list, and then of the second one.
 pub fn merged(alloc: Global, arguments: &str, lists: &Streams) -> Result<String> {
-    let grouping = grouping_of(alloc, arguments)?;
     let old = list_at(lists, 0)?;
     let new = list_at(lists, 1)?;
-    groups_shown(alloc, &merged_groups(alloc, &grouping, old, new)?)
+    let grouping = grouping_of(alloc, arguments)?;
+    merged_by(alloc, &grouping, old, new)
+}
+
+fn merged_by(alloc: Global, grouping: &Grouping, old: &[Row], new: &[Row]) -> Result<String>
+    requires old { length old.now ≤ 4294967295 }
+    requires new { length new.now ≤ 4294967295 }
+{
+    groups_shown(alloc, &merged_groups(alloc, grouping, old, new)?)
 }
 
 fn merged_groups(

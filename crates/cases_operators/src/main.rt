@@ -1,15 +1,12 @@
-//! Cases of the operators on lists of rows, and of whole plans: a case a line on standard input, and on
-//! standard output a line for each, what the operator or the plan gives. A case is the operator's word and
-//! its arguments, and behind ` | ` each list of rows: its kinds, as `int,text`, and then its rows. A line
-//! that is empty or begins with `#` is no case.
+//! Cases of the operators on lists of rows: a case a line on standard input, and on standard output a line for
+//! each, what the operator gives. A case is the operator's word and its arguments, and behind ` | ` each list
+//! of rows: its kinds, as `int,text`, and then its rows. A line that is empty or begins with `#` is no case.
 #![tactic(auto)]
 
 mod fed;
 mod given;
 mod groups;
 mod joins;
-mod made;
-mod plans;
 mod rows;
 mod shown;
 mod typing;
@@ -34,12 +31,10 @@ fn answer(alloc: Global, case: &str) -> Result<String> {
         "group" => groups::finished(alloc, arguments, &lists),
         "grow" => groups::merged(alloc, arguments, &lists),
         "groups" => fed::groups(alloc, arguments, &lists),
-        "seen" => fed::seen(alloc, lists),
+        "seen" => fed::seen(alloc, lists.rows),
         "join" => joins::joined(alloc, arguments, &lists),
         "more_rights" => joins::with_more_rights(alloc, arguments, &lists),
         "more_lefts" => joins::with_more_lefts(alloc, arguments, &lists),
-        "run" => plans::run(alloc, arguments, &lists),
-        "made" => plans::run_on_made(alloc, arguments, lists),
         _ => rows::answer(alloc, word, arguments, lists),
     }
 }

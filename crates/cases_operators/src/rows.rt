@@ -4,6 +4,7 @@ use crate::given::{exprs_of, keys_of};
 use crate::shown::rows_shown;
 use crate::typing::{all_typed, are_typed};
 use anyhow::{Context, Result, bail};
+use plan_core::Expr;
 use postfix_plans::{Streams, expr_of};
 use row_ops::{
     distinct_after, distinct_rows, merge_ordered, order_rows, select_rows, where_lent, where_rows,
@@ -56,18 +57,26 @@ fn of_two(
 
 fn passing(alloc: Global, test: &str, kinds: &[Kind], rows: Vec<Row>) -> Result<String> {
     let test = expr_of(alloc, test)?;
-    if !are_typed(&rows, kinds, &test) {
+    passing_by(alloc, &test, kinds, rows)
+}
+
+fn passing_by(alloc: Global, test: &Expr, kinds: &[Kind], rows: Vec<Row>) -> Result<String> {
+    if !are_typed(&rows, kinds, test) {
         bail!("no typing");
     }
-    rows_shown(alloc, &where_rows(alloc, rows, &test)?)
+    rows_shown(alloc, &where_rows(alloc, rows, test)?)
 }
 
 fn passing_lent(alloc: Global, test: &str, kinds: &[Kind], rows: &[Row]) -> Result<String> {
     let test = expr_of(alloc, test)?;
-    if !are_typed(rows, kinds, &test) {
+    passing_lent_by(alloc, &test, kinds, rows)
+}
+
+fn passing_lent_by(alloc: Global, test: &Expr, kinds: &[Kind], rows: &[Row]) -> Result<String> {
+    if !are_typed(rows, kinds, test) {
         bail!("no typing");
     }
-    rows_shown(alloc, &where_lent(alloc, rows, &test)?)
+    rows_shown(alloc, &where_lent(alloc, rows, test)?)
 }
 
 fn selected(alloc: Global, columns: &str, kinds: &[Kind], rows: &[Row]) -> Result<String> {

@@ -15,6 +15,7 @@ mod plain;
 
 use anyhow::{Context, Result};
 use case_text::cases::answer_each;
+use plan_core::Plan;
 use plan_spelling::{SpellRefusal, spell, unspell};
 use std::alloc::Global;
 use std::io;
@@ -42,6 +43,10 @@ fn answer(alloc: Global, case: &str) -> Result<String> {
 
 fn plan(alloc: Global, bytes: &[u8]) -> Result<String> {
     let plan = unspell(alloc, bytes)?;
+    shown(alloc, &plan)
+}
+
+fn shown(alloc: Global, plan: &Plan) -> Result<String> {
     Ok(format!(in alloc; "{plan:?}")?)
 }
 
@@ -105,12 +110,16 @@ fn place(alloc: Global, bytes: &[u8]) -> Result<Option<u64>> {
     match unspell(alloc, bytes) {
         Ok(plan) => {
             let spelled = spell(alloc, &plan)?;
-            if spelled.as_slice() != bytes {
-                return None.context("spelled with other bytes");
-            }
-            Ok(None)
+            compared(bytes, &spelled)
         }
         Err(SpellRefusal::NotPlan { at }) => Ok(Some(at)),
         Err(refusal) => Err(anyhow::Error::from(refusal)),
     }
+}
+
+fn compared(bytes: &[u8], spelled: &[u8]) -> Result<Option<u64>> {
+    if spelled != bytes {
+        return None.context("spelled with other bytes");
+    }
+    Ok(None)
 }

@@ -1,7 +1,7 @@
 //! Texts of plans over the streams `l (t:text, id:int)` and `r (k:text, v:int)`, with numbers in place of
 //! names.
 
-use crate::texts::refused;
+use crate::texts::{refused, word};
 use anyhow::Result;
 use plan_binder::{BindRefusal, Stream, bind as bind_plan};
 use plan_core::{Plan, PlanRefusal, Schemas, type_plan};
@@ -12,33 +12,40 @@ use std::alloc::Global;
 /// The plan with numbers, or why there is none.
 pub fn bind(alloc: Global, text: &[u8]) -> Result<String> {
     match parse_plan(alloc, text) {
-        Ok(plan) => answered(alloc, bound(alloc, &plan)?),
+        Ok(plan) => bound_shown(alloc, &plan),
         Err(refusal) => refused(alloc, refusal),
     }
 }
 
-fn answered(alloc: Global, answer: Result<Plan, BindRefusal>) -> Result<String> {
+fn bound_shown(alloc: Global, plan: &NamedPlan) -> Result<String> {
+    let answer = bound(alloc, plan)?;
+    answered(alloc, &answer)
+}
+
+fn answered(alloc: Global, answer: &Result<Plan, BindRefusal>) -> Result<String> {
     match answer {
-        Ok(plan) => shown(alloc, &plan),
-        Err(BindRefusal::Unknown(name)) => {
-            let name = std::str::from_utf8(name.bytes())?;
-            Ok(format!(in alloc; "unknown {name}")?)
-        }
-        Err(BindRefusal::IllTyped) => Ok(String::from_str(alloc, "ill typed")?),
-        Err(BindRefusal::Memory) => Ok(String::from_str(alloc, "memory")?),
+        Ok(plan) => shown(alloc, plan),
+        Err(BindRefusal::Unknown(name)) => unknown(alloc, name),
+        Err(BindRefusal::IllTyped) => word(alloc, "ill typed"),
+        Err(BindRefusal::Memory) => word(alloc, "memory"),
     }
+}
+
+fn unknown(alloc: Global, name: &Name) -> Result<String> {
+    let name = std::str::from_utf8(name.bytes())?;
+    Ok(format!(in alloc; "unknown {name}")?)
 }
 
 /// The numbers of a join of two streams by one pair of columns, which is the one plan that the cases bind.
 fn shown(alloc: Global, plan: &Plan) -> Result<String> {
     let Plan::Join { left, right, on } = plan else {
-        return Ok(String::from_str(alloc, "another plan")?);
+        return word(alloc, "another plan");
     };
     match (stream_of(left), stream_of(right), on.items()) {
         (Some(left), Some(right), [(first, second)]) => {
             Ok(format!(in alloc; "join {left} {right} on {first} = {second}")?)
         }
-        _ => Ok(String::from_str(alloc, "another plan")?),
+        _ => word(alloc, "another plan"),
     }
 }
 
@@ -52,13 +59,22 @@ fn stream_of(plan: &Plan) -> Option<u32> {
 /// Whether the plan with numbers has a typing.
 pub fn typing(alloc: Global, text: &[u8]) -> Result<String> {
     let plan = parse_plan(alloc, text)?;
-    let bound = bound(alloc, &plan)??;
-    let answer = match type_plan(alloc, bound, &kinds(alloc)?) {
+    typing_of(alloc, &plan)
+}
+
+fn typing_of(alloc: Global, plan: &NamedPlan) -> Result<String> {
+    let kinds = kinds(alloc)?;
+    let answer = typing_by(alloc, plan, &kinds)?;
+    word(alloc, answer)
+}
+
+fn typing_by(alloc: Global, plan: &NamedPlan, kinds: &Schemas) -> Result<&'static str> {
+    let bound = bound(alloc, plan)??;
+    Ok(match type_plan(alloc, bound, kinds) {
         Ok(_) => "typed",
         Err(PlanRefusal::IllTyped) => "ill typed",
         Err(_) => "another refusal",
-    };
-    Ok(String::from_str(alloc, answer)?)
+    })
 }
 
 /// A stream, kept as the cases need it.
@@ -83,32 +99,45 @@ impl Stream for KeptStream {
 }
 
 fn bound(alloc: Global, plan: &NamedPlan) -> Result<Result<Plan, BindRefusal>> {
-    let left = kept(alloc, b"l", b"t", b"id")?;
-    let right = kept(alloc, b"r", b"k", b"v")?;
-    let streams = vec![in alloc; left, right]?;
+    let streams = streams(alloc)?;
     Ok(bind_plan(alloc, plan, streams.as_slice()))
+}
+
+fn streams(alloc: Global) -> Result<Vec<KeptStream>> {
+    let mut streams = Vec::new(alloc);
+    streams.push(kept(alloc, b"l", b"t", b"id")?)?;
+    streams.push(kept(alloc, b"r", b"k", b"v")?)?;
+    Ok(streams)
 }
 
 /// The stream of this name with a column of texts and one of numbers.
 fn kept(alloc: Global, name: &[u8], text: &[u8], number: &[u8]) -> Result<KeptStream> {
-    let first = Column {
-        name: Name::new(alloc, text)?,
-        kind: Kind::Text,
-    };
-    let second = Column {
-        name: Name::new(alloc, number)?,
-        kind: Kind::Int,
-    };
-    Ok(KeptStream {
-        name: Name::new(alloc, name)?,
-        schema: Schema::new(vec![in alloc; first, second]?)?,
-    })
+    let name = Name::new(alloc, name)?;
+    let schema = Schema::new(columns(alloc, text, number)?)?;
+    Ok(KeptStream { name, schema })
+}
+
+fn columns(alloc: Global, text: &[u8], number: &[u8]) -> Result<Vec<Column>> {
+    let mut columns = Vec::new(alloc);
+    columns.push(column(alloc, text, Kind::Text)?)?;
+    columns.push(column(alloc, number, Kind::Int)?)?;
+    Ok(columns)
+}
+
+fn column(alloc: Global, name: &[u8], kind: Kind) -> Result<Column> {
+    let name = Name::new(alloc, name)?;
+    Ok(Column { name, kind })
 }
 
 fn kinds(alloc: Global) -> Result<Schemas> {
-    let left = Seq::new(vec![in alloc; Kind::Text, Kind::Int]?);
-    let right = Seq::new(vec![in alloc; Kind::Text, Kind::Int]?);
+    let mut kinds = Vec::new(alloc);
+    kinds.push(text_and_number(alloc)?)?;
+    kinds.push(text_and_number(alloc)?)?;
     Ok(Schemas {
-        kinds: Seq::new(vec![in alloc; left, right]?),
+        kinds: Seq::new(kinds),
     })
+}
+
+fn text_and_number(alloc: Global) -> Result<Seq<Kind>> {
+    Ok(Seq::new(vec![in alloc; Kind::Text, Kind::Int]?))
 }

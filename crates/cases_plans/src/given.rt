@@ -2,14 +2,17 @@
 //! rows.
 
 use anyhow::{Context, Result};
-use postfix_plans::{plan_of, rows_of, streams_of, typed};
+use postfix_plans::{Streams, rows_of, streams_of, typed_of};
 use std::alloc::Global;
 
 /// The lines of the rows, with ` / ` between them, or the refusal.
 pub fn rows(alloc: Global, text: &str) -> Result<String> {
     let (plan, streams) = text.split_once(" | ").context("no streams")?;
-    let plan = plan_of(alloc, plan)?;
     let streams = streams_of(alloc, streams)?;
-    let typed = typed(alloc, plan, &streams.schemas)?;
-    rows_of(alloc, &typed, &streams)
+    rows_on(alloc, plan, &streams)
+}
+
+fn rows_on(alloc: Global, plan: &str, streams: &Streams) -> Result<String> {
+    let typed = typed_of(alloc, plan, &streams.schemas)?;
+    rows_of(alloc, &typed, streams)
 }

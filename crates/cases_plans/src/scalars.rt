@@ -3,7 +3,7 @@
 use crate::shown::{cell_kind_shown, cell_shown};
 use anyhow::{Context, Result};
 use postfix_plans::literal_of;
-use scalar_ops::{CellKind, OPS, Op};
+use scalar_ops::{Cell, CellKind, OPS, Op};
 use std::alloc::Global;
 
 /// The row of an operation at arguments of these kinds, as `Add int int`.
@@ -24,14 +24,22 @@ pub fn find(alloc: Global, arguments: &str) -> Result<String> {
 /// The kind of a literal and the literal, read from a copy of it.
 pub fn cell(alloc: Global, word: &str) -> Result<String> {
     let cell = literal_of(alloc, word)?.context("no literal")?;
+    copied(alloc, &cell)
+}
+
+fn copied(alloc: Global, cell: &Cell) -> Result<String> {
     let copy = cell.try_copy(alloc)?;
-    let same = if copy == cell {
+    shown(alloc, &copy, copy == *cell)
+}
+
+fn shown(alloc: Global, copy: &Cell, is_same: bool) -> Result<String> {
+    let kind = cell_kind_shown(copy.kind());
+    let shown = cell_shown(alloc, copy)?;
+    let same = if is_same {
         ""
     } else {
         ", and its copy is another"
     };
-    let kind = cell_kind_shown(copy.kind());
-    let shown = cell_shown(alloc, &copy)?;
     Ok(format!(in alloc; "{kind} {shown}{same}")?)
 }
 

@@ -10,12 +10,22 @@ use std::alloc::Global;
 
 /// The value of an expression, or that it has no kind.
 pub fn value(alloc: Global, text: &str) -> Result<String> {
+    let row = number_and_text(alloc)?;
     let e = expr_of(alloc, text)?;
+    value_at(alloc, &e, &row)
+}
+
+fn number_and_text(alloc: Global) -> Result<Row> {
     let mut values = Vec::new(alloc);
     values.push(Value::Int(7))?;
     values.push(Value::Text(Txt::new(alloc, b"tea")?))?;
-    match typed_value(alloc, &e, &Row::new(values)) {
-        Some(value) => cell_shown(alloc, &value?),
+    Ok(Row::new(values))
+}
+
+fn value_at(alloc: Global, e: &Expr, row: &Row) -> Result<String> {
+    match typed_value(alloc, e, row) {
+        Some(Ok(value)) => cell_shown(alloc, &value),
+        Some(Err(refusal)) => Err(refusal.into()),
         None => Ok(String::from_str(alloc, "no kind")?),
     }
 }

@@ -1,13 +1,43 @@
 //! Reading of changes.
 
 use anyhow::{Context, Result};
+use catalog_types::Change;
 use record_codec::{ChangeRefusal, read_change, spell_change};
+use rows_core::{Column, Name};
 use std::alloc::Global;
 
 pub fn change(alloc: Global, digits: &str) -> Result<String> {
     let bytes = hex::decode(alloc, digits)?;
     let change = read_change(alloc, &bytes)?;
-    Ok(format!(in alloc; "{change:?}")?)
+    shown(alloc, &change)
+}
+
+/// A new stream, as `stream d (a:int)`; of another change only that it is one.
+fn shown(alloc: Global, change: &Change) -> Result<String> {
+    match change {
+        Change::Stream { name, columns } => stream_shown(alloc, name, columns.items()),
+        _ => Ok(String::from_str(alloc, "no stream")?),
+    }
+}
+
+fn stream_shown(alloc: Global, name: &Name, columns: &[Column]) -> Result<String> {
+    let mut shown = String::from_str(alloc, "stream ")?;
+    shown.push_str(std::str::from_utf8(name.bytes())?)?;
+    let mut between = " (";
+    for column in columns {
+        shown.push_str(between)?;
+        push_column(column, &mut shown)?;
+        between = ", ";
+    }
+    shown.push_str(")")?;
+    Ok(shown)
+}
+
+fn push_column(column: &Column, to: &mut String) -> Result<()> {
+    to.push_str(std::str::from_utf8(column.name.bytes())?)?;
+    to.push_str(":")?;
+    to.push_str(std::str::from_utf8(column.kind.word())?)?;
+    Ok(())
 }
 
 pub fn bytes(alloc: Global, digits: &str) -> Result<String> {
@@ -53,12 +83,16 @@ pub fn place(alloc: Global, bytes: &[u8]) -> Result<Option<u64>> {
     match read_change(alloc, bytes) {
         Ok(change) => {
             let spelled = spell_change(alloc, &change)?;
-            if spelled.as_slice() != bytes {
-                return None.context("spelled with other bytes");
-            }
-            Ok(None)
+            compared(bytes, &spelled)
         }
         Err(ChangeRefusal::NotChange { at }) => Ok(Some(at)),
         Err(refusal) => Err(anyhow::Error::from(refusal)),
     }
+}
+
+fn compared(bytes: &[u8], spelled: &[u8]) -> Result<Option<u64>> {
+    if spelled != bytes {
+        return None.context("spelled with other bytes");
+    }
+    Ok(None)
 }

@@ -1,9 +1,8 @@
 //! What a case is given.
 
 use anyhow::{Context, Result};
-use plan_core::{Plan, Schemas, Typed, type_plan};
-use postfix_plans::{cuts_of, plan_of};
-use result_list::{ExtentLens, ListedResult, ResultList};
+use plan_core::{Schemas, Typed};
+use postfix_plans::{ExtentLens, ListedResult, ResultList, cuts_of, plan_of, typed_of};
 use rows_core::{Cut, Kind, Seq};
 use std::alloc::Global;
 
@@ -22,22 +21,25 @@ pub fn case_of(alloc: Global, text: &str) -> Result<Case> {
     let (extents, others) = others.split_once(" | ").context("no cut")?;
     let (cuts, kept) = others.split_once(" | ").unwrap_or((others, ""));
     let extents = extents_of(alloc, extents)?;
-    let plan = plan_of(alloc, plan)?;
+    let schemas = schemas_of(alloc, extents.lens.items().len())?;
+    let cuts = cuts_of(alloc, cuts)?;
+    let kept = kept_of(alloc, kept)?;
+    let typed = typed_of(alloc, plan, &schemas)?;
     Ok(Case {
-        typed: typed(alloc, plan, extents.lens.items().len())?,
-        cuts: cuts_of(alloc, cuts)?,
-        kept: kept_of(alloc, kept)?,
+        typed,
+        cuts,
+        kept,
         extents,
     })
 }
 
-fn typed(alloc: Global, plan: Plan, count: usize) -> Result<Typed> {
+fn schemas_of(alloc: Global, count: usize) -> Result<Schemas> {
     let mut kinds = Vec::new(alloc);
     for _ in 0..count {
         kinds.push(number_and_text(alloc)?)?;
     }
     let kinds = Seq::new(kinds);
-    Ok(type_plan(alloc, plan, &Schemas { kinds })?)
+    Ok(Schemas { kinds })
 }
 
 fn number_and_text(alloc: Global) -> Result<Seq<Kind>> {
@@ -79,10 +81,14 @@ fn result_of(alloc: Global, text: &str) -> Result<ListedResult> {
     let (id, others) = text.split_once(' ').context("no length")?;
     let (len, others) = others.split_once(' ').context("no cut")?;
     let (cuts, plan) = others.split_once(' ').context("no plan")?;
+    let id = id.parse::<u32>().ok().context("no id")?;
+    let len = len.parse::<u64>().ok().context("no length")?;
+    let cuts = cuts_of(alloc, cuts)?;
+    let plan = plan_of(alloc, plan)?;
     Ok(ListedResult {
-        id: id.parse::<u32>().ok().context("no id")?,
-        plan: plan_of(alloc, plan)?,
-        cuts: cuts_of(alloc, cuts)?,
-        len: len.parse::<u64>().ok().context("no length")?,
+        id,
+        plan,
+        cuts,
+        len,
     })
 }

@@ -4,12 +4,12 @@ ghost use Rattle.rewrite_core.specs.IsRewriting.{IsRewriting, whichever};
 ghost use Rattle.rewrite_core.specs.Entries.{AreSound};
 ghost use Rattle.rewrite_core.specs.PlainRewriting.{rewriting_of};
 ghost use Rattle.plan_core.specs.PlainPlan.{plan_of};
-ghost use Rattle.result_list.specs.Listed.{entries_of};
+ghost use Rattle.postfix_plans.specs.Listed.{entries_of};
 
 use crate::given::Case;
 use crate::shown::shown;
 use anyhow::{Result, bail};
-use result_list::{are_in_streams, are_sound};
+use postfix_plans::{are_in_streams, are_sound};
 use rewrite_core::Rewriting;
 use rewriter::{estimate, laws, least, reads};
 use std::alloc::Global;

@@ -5,50 +5,53 @@ use anyhow::{Context, Result};
 use extent_files::{FileRefusal, drop_file, read_file, write_file};
 use mem_outside::MemStore;
 use outside_traits::Store;
-use rows_core::FileRef;
+use rows_core::{Digest, FileRef};
 use std::alloc::Global;
 
 /// The digest of the bytes that are written as a file.
-pub fn digest(alloc: Global, arguments: &str) -> Result<String> {
+pub fn digest(alloc: Global, store: &mut MemStore, arguments: &str) -> Result<String> {
     let bytes = words::bytes(alloc, arguments)?;
-    let mut store = MemStore::new(alloc, Vec::new(alloc));
-    let digest = write_file(&mut store, 3, &bytes)?;
+    let digest = write_file(store, 3, &bytes)?;
     words::shown(alloc, &digest.bytes)
 }
 
 /// The first `LEN` bytes of a file, read against the digest of all.
-pub fn front(alloc: Global, arguments: &str) -> Result<String> {
+pub fn front(alloc: Global, store: &mut MemStore, arguments: &str) -> Result<String> {
     let (len, bytes) = words::first(arguments);
     let bytes = words::bytes(alloc, bytes)?;
-    let mut store = MemStore::new(alloc, Vec::new(alloc));
-    let digest = write_file(&mut store, 3, &bytes)?;
+    let digest = write_file(store, 3, &bytes)?;
     let at = FileRef {
         file: 3,
         len: words::number(len)?,
         digest,
     };
-    match read_file(alloc, &mut store, &at) {
+    read_shown(alloc, store, &at)
+}
+
+fn read_shown(alloc: Global, store: &mut MemStore, at: &FileRef) -> Result<String> {
+    match read_file(alloc, store, at) {
         Ok(bytes) => words::shown(alloc, &bytes),
-        Err(FileRefusal::Damaged { kept, found, .. }) => {
-            let kept = words::shown(alloc, &kept.bytes)?;
-            let found = words::shown(alloc, &found.bytes)?;
-            Ok(format!(in alloc; "damaged: {kept} was kept, {found} found")?)
-        }
+        Err(FileRefusal::Damaged { kept, found, .. }) => damaged(alloc, &kept, &found),
         Err(refusal) => Err(refusal.into()),
     }
 }
 
+fn damaged(alloc: Global, kept: &Digest, found: &Digest) -> Result<String> {
+    let kept = words::shown(alloc, &kept.bytes)?;
+    let found = words::shown(alloc, &found.bytes)?;
+    Ok(format!(in alloc; "damaged: {kept} was kept, {found} found")?)
+}
+
 /// The bytes of a file that was dropped.
-pub fn dropped(alloc: Global, arguments: &str) -> Result<String> {
+pub fn dropped(alloc: Global, store: &mut MemStore, arguments: &str) -> Result<String> {
     let bytes = words::bytes(alloc, arguments)?;
-    let mut store = MemStore::new(alloc, Vec::new(alloc));
-    write_file(&mut store, 3, &bytes)?;
-    drop_file(&mut store, 3)?;
+    write_file(store, 3, &bytes)?;
+    drop_file(store, 3)?;
     words::shown(alloc, store.bytes(3))
 }
 
 /// The bytes of a file of these bytes after a write of others at `AT`.
-pub fn write(alloc: Global, arguments: &str) -> Result<String> {
+pub fn write(alloc: Global, store: &mut MemStore, arguments: &str) -> Result<String> {
     let (old, arguments) = words::first(arguments);
     let (at, bytes) = words::first(arguments);
     let old = words::bytes(alloc, old)?;
@@ -57,7 +60,6 @@ pub fn write(alloc: Global, arguments: &str) -> Result<String> {
     if at > 1000 || bytes.len() > 1000 {
         return None.context("too far");
     }
-    let mut store = MemStore::new(alloc, Vec::new(alloc));
     store.put(3, &old)?;
     store.write(3, at, &bytes)?;
     words::shown(alloc, store.bytes(3))

@@ -9,22 +9,18 @@ use std::alloc::Global;
 
 /// What a store is loaded as whose file 0 is `ROOT` and whose file `FILE` has these bytes: the generation in
 /// use, the end of its log, and the bodies.
-pub fn load(alloc: Global, arguments: &str) -> Result<String> {
-    let mut store = begun(alloc, arguments)?;
-    let (journal, bodies) = Journal::load(alloc, &mut store)?;
-    shown(alloc, &journal, &bodies)
+pub fn load(alloc: Global, store: &mut MemStore, arguments: &str) -> Result<String> {
+    begin(alloc, store, arguments)?;
+    loaded(alloc, store)
 }
 
 /// The bytes of file 0 and of the log of generation 0 after a store is loaded, and then `BODY` committed
 /// unless it is `-`.
-pub fn commit(alloc: Global, arguments: &str) -> Result<String> {
+pub fn commit(alloc: Global, store: &mut MemStore, arguments: &str) -> Result<String> {
     let (body, arguments) = words::first(arguments);
     let body = words::bytes(alloc, body)?;
-    let mut store = begun(alloc, arguments)?;
-    let (journal, _) = Journal::load(alloc, &mut store)?;
-    if !body.is_empty() {
-        commit_short(journal, &mut store, &body)?;
-    }
+    begin(alloc, store, arguments)?;
+    load_and_commit(alloc, store, &body)?;
     let root = words::shown(alloc, store.bytes(0))?;
     let log = words::shown(alloc, store.bytes(4_294_967_296))?;
     Ok(format!(in alloc; "{root} {log}")?)
@@ -32,70 +28,66 @@ pub fn commit(alloc: Global, arguments: &str) -> Result<String> {
 
 /// The bytes of file 0, of the log that was in use and of the next one after a store is loaded, and `BODY` is
 /// made the body of the next generation.
-pub fn checkpoint(alloc: Global, arguments: &str) -> Result<String> {
+pub fn checkpoint(alloc: Global, store: &mut MemStore, arguments: &str) -> Result<String> {
     let (body, arguments) = words::first(arguments);
     let body = words::bytes(alloc, body)?;
-    let mut store = begun(alloc, arguments)?;
-    let (journal, _) = Journal::load(alloc, &mut store)?;
-    let former = journal.file();
-    let next = checkpoint_short(journal, &mut store, &body)?.context("the store failed")?;
+    begin(alloc, store, arguments)?;
+    let (former, next) = load_and_checkpoint(alloc, store, &body)?;
     let root = words::shown(alloc, store.bytes(0))?;
     let left = words::shown(alloc, store.bytes(former))?;
-    let log = words::shown(alloc, store.bytes(next.file()))?;
+    let log = words::shown(alloc, store.bytes(next))?;
     Ok(format!(in alloc; "{root} {left} {log}")?)
 }
 
 /// An empty store is loaded, 01 is committed, and 02 is made the body of the next generation, while each call
 /// from `CALL` on fails: whether that was answered, and what the image `PICK` is loaded as.
-pub fn checkpoint_stop(alloc: Global, arguments: &str) -> Result<String> {
+pub fn checkpoint_stop(alloc: Global, store: &mut MemStore, arguments: &str) -> Result<String> {
     let (call, pick) = words::first(arguments);
-    let mut store = MemStore::new(alloc, Vec::new(alloc));
     store.fail_from(words::number(call)?);
-    let answered = if commit_and_checkpoint(alloc, &mut store)? {
+    let answered = if commit_and_checkpoint(alloc, store)? {
         "answered"
     } else {
         "failed"
     };
-    let mut image = store.image(words::number(pick)?)?;
-    let (journal, bodies) = Journal::load(alloc, &mut image)?;
-    let loaded = shown(alloc, &journal, &bodies)?;
+    let loaded = image_loaded(alloc, store, words::number(pick)?)?;
     Ok(format!(in alloc; "{answered}, {loaded}")?)
 }
 
 /// A store is loaded whose file 0 is `ROOT`, and two bodies are committed, while each call from `CALL` on
 /// fails: how many were answered as committed, and whether the image `PICK`, loaded again, has those or those
 /// and the next one.
-pub fn stop(alloc: Global, arguments: &str) -> Result<String> {
+pub fn stop(alloc: Global, store: &mut MemStore, arguments: &str) -> Result<String> {
     let (call, arguments) = words::first(arguments);
     let (pick, root) = words::first(arguments);
-    let mut store = MemStore::new(alloc, Vec::new(alloc));
     store.put(0, &words::bytes(alloc, root)?)?;
     store.fail_from(words::number(call)?);
-    let answered = commit_two(alloc, &mut store)?;
-    let mut image = store.image(words::number(pick)?)?;
-    let (_, bodies) = Journal::load(alloc, &mut image)?;
-    let left = if are_first(&bodies, answered.unwrap_or(0)) {
-        "left"
-    } else {
-        "lost"
-    };
+    let answered = commit_two(alloc, store)?;
+    let left = left_in_image(alloc, store, words::number(pick)?, answered.unwrap_or(0))?;
     match answered {
         Some(count) => Ok(format!(in alloc; "{count} committed, {left}")?),
         None => Ok(format!(in alloc; "not loaded, {left}")?),
     }
 }
 
-// The store whose file 0 is `ROOT` and whose file `FILE` has these bytes.
-fn begun(alloc: Global, arguments: &str) -> Result<MemStore> {
+// Gives file 0 the bytes `ROOT`, and the file `FILE` the others.
+fn begin(alloc: Global, store: &mut MemStore, arguments: &str) -> Result<()> {
     let (root, arguments) = words::first(arguments);
     let (file, bytes) = words::first(arguments);
-    let mut store = MemStore::new(alloc, Vec::new(alloc));
     store.put(0, &words::bytes(alloc, root)?)?;
-    store.put(words::number(file)?, &words::bytes(alloc, bytes)?)?;
-    Ok(store)
+    Ok(store.put(words::number(file)?, &words::bytes(alloc, bytes)?)?)
 }
 
 // The generation in use, its file, the end of its log, and the bodies.
+fn loaded(alloc: Global, store: &mut MemStore) -> Result<String> {
+    let (journal, bodies) = Journal::load(alloc, store)?;
+    shown(alloc, &journal, &bodies)
+}
+
+fn image_loaded(alloc: Global, store: &MemStore, pick: u64) -> Result<String> {
+    let mut image = store.image(pick)?;
+    loaded(alloc, &mut image)
+}
+
 fn shown(alloc: Global, journal: &Journal, bodies: &[Vec<u8>]) -> Result<String> {
     let (generation, file, end) = (journal.generation(), journal.file(), journal.end());
     let mut answer = format!(in alloc; "generation {generation}, file {file}, end {end}:")?;
@@ -106,19 +98,44 @@ fn shown(alloc: Global, journal: &Journal, bodies: &[Vec<u8>]) -> Result<String>
     Ok(answer)
 }
 
+fn load_and_commit(alloc: Global, store: &mut MemStore, body: &[u8]) -> Result<()> {
+    let (journal, _) = Journal::load(alloc, store)?;
+    if !body.is_empty() {
+        commit_short(journal, store, body)?;
+    }
+    Ok(())
+}
+
+// The files of the log that was in use and of the next one.
+fn load_and_checkpoint(alloc: Global, store: &mut MemStore, body: &[u8]) -> Result<(u64, u64)> {
+    let (journal, _) = Journal::load(alloc, store)?;
+    let former = journal.file();
+    match checkpoint_short(journal, store, body)? {
+        Some(next) => Ok((former, next.file())),
+        None => None.context("the store failed"),
+    }
+}
+
 // Loads the journal and commits the bodies 01 and 02, and says how many were answered, if it was loaded.
 fn commit_two(alloc: Global, store: &mut MemStore) -> Result<Option<u8>> {
-    let journal = match Journal::load(alloc, store) {
-        Ok((journal, _)) => journal,
-        Err(JournalRefusal::Fault) => return Ok(None),
-        Err(refusal) => return Err(refusal.into()),
-    };
+    match Journal::load(alloc, store) {
+        Ok((journal, _)) => commit_one_and_two(journal, store),
+        Err(JournalRefusal::Fault) => Ok(None),
+        Err(refusal) => Err(refusal.into()),
+    }
+}
+
+fn commit_one_and_two(journal: Journal, store: &mut MemStore) -> Result<Option<u8>> {
     match commit_short(journal, store, &[1])? {
-        Some(journal) => match commit_short(journal, store, &[2])? {
-            Some(_) => Ok(Some(2)),
-            None => Ok(Some(1)),
-        },
+        Some(journal) => commit_two_behind_one(journal, store),
         None => Ok(Some(0)),
+    }
+}
+
+fn commit_two_behind_one(journal: Journal, store: &mut MemStore) -> Result<Option<u8>> {
+    match commit_short(journal, store, &[2])? {
+        Some(_) => Ok(Some(2)),
+        None => Ok(Some(1)),
     }
 }
 
@@ -127,9 +144,28 @@ fn commit_two(alloc: Global, store: &mut MemStore) -> Result<Option<u8>> {
 fn commit_and_checkpoint(alloc: Global, store: &mut MemStore) -> Result<bool> {
     let (journal, _) = Journal::load(alloc, store)?;
     match commit_short(journal, store, &[1])? {
-        Some(journal) => Ok(checkpoint_short(journal, store, &[2])?.is_some()),
+        Some(journal) => is_checkpointed(journal, store, &[2]),
         None => Ok(false),
     }
+}
+
+fn is_checkpointed(journal: Journal, store: &mut MemStore, body: &[u8]) -> Result<bool> {
+    Ok(checkpoint_short(journal, store, body)?.is_some())
+}
+
+// Whether the image `PICK`, loaded, has the first `count` bodies, or one more.
+fn left_in_image(alloc: Global, store: &MemStore, pick: u64, count: u8) -> Result<&'static str> {
+    let mut image = store.image(pick)?;
+    left_in(alloc, &mut image, count)
+}
+
+fn left_in(alloc: Global, image: &mut MemStore, count: u8) -> Result<&'static str> {
+    let (_, bodies) = Journal::load(alloc, image)?;
+    Ok(if are_first(&bodies, count) {
+        "left"
+    } else {
+        "lost"
+    })
 }
 
 // Whether these bodies are the first `count` of 01 and 02, or one more.

@@ -4,6 +4,7 @@
 //! that is empty or begins with `#` is no case.
 #![tactic(auto)]
 
+mod crashes;
 mod files;
 mod journals;
 mod logs;
@@ -12,6 +13,7 @@ mod words;
 
 use anyhow::{Context, Result};
 use case_text::cases::answer_each;
+use mem_outside::MemStore;
 use std::alloc::Global;
 use std::io;
 
@@ -21,20 +23,26 @@ fn main(rt: HostRuntime) -> io::Result<()> {
 
 /// What the case gives; a refusal is the error that its type prints.
 fn answer(alloc: Global, case: &str) -> Result<String> {
+    let mut store = MemStore::new(alloc, Vec::new(alloc));
+    answer_over(alloc, &mut store, case)
+}
+
+/// What the case gives over an empty store.
+fn answer_over(alloc: Global, store: &mut MemStore, case: &str) -> Result<String> {
     let (subject, arguments) = case.split_once(' ').unwrap_or((case, ""));
     match subject {
-        "committed" => logs::committed(alloc, arguments),
-        "reading" => logs::reading(alloc, arguments),
-        "stop" => logs::stop(alloc, arguments),
-        "load" => journals::load(alloc, arguments),
-        "commit" => journals::commit(alloc, arguments),
-        "journal_stop" => journals::stop(alloc, arguments),
-        "checkpoint" => journals::checkpoint(alloc, arguments),
-        "checkpoint_stop" => journals::checkpoint_stop(alloc, arguments),
-        "digest" => files::digest(alloc, arguments),
-        "front" => files::front(alloc, arguments),
-        "dropped" => files::dropped(alloc, arguments),
-        "write" => files::write(alloc, arguments),
+        "committed" => logs::committed(alloc, store, arguments),
+        "reading" => logs::reading(alloc, store, arguments),
+        "stop" => logs::stop(alloc, store, arguments),
+        "load" => journals::load(alloc, store, arguments),
+        "commit" => journals::commit(alloc, store, arguments),
+        "journal_stop" => journals::stop(alloc, store, arguments),
+        "checkpoint" => journals::checkpoint(alloc, store, arguments),
+        "checkpoint_stop" => journals::checkpoint_stop(alloc, store, arguments),
+        "digest" => files::digest(alloc, store, arguments),
+        "front" => files::front(alloc, store, arguments),
+        "dropped" => files::dropped(alloc, store, arguments),
+        "write" => files::write(alloc, store, arguments),
         "source" => streams::source(alloc, arguments),
         "sink" => streams::sink(alloc, arguments),
         _ => None.context("no such subject"),

@@ -15,9 +15,14 @@ pub fn source(alloc: Global, arguments: &str) -> Result<String> {
     let piece = words::number(piece)?.max(1) as usize;
     let fails = words::numbers(alloc, fails)?;
     let mut source = MemSource::new(words::bytes(alloc, bytes)?, piece, fails);
+    all_given(alloc, &mut source, rooms)
+}
+
+// What reads give, one for each room.
+fn all_given(alloc: Global, source: &mut MemSource, rooms: &str) -> Result<String> {
     let mut answers = String::new(alloc);
     for room in rooms.split(' ') {
-        let answer = given(alloc, &mut source, words::number(room)?)?;
+        let answer = given(alloc, source, words::number(room)?)?;
         push_word(&mut answers, answer.as_str())?;
     }
     Ok(answers)
@@ -37,11 +42,18 @@ fn given(alloc: Global, source: &mut MemSource, room: u64) -> Result<String> {
 pub fn sink(alloc: Global, arguments: &str) -> Result<String> {
     let (fails, arguments) = words::first(arguments);
     let (from, pieces) = words::first(arguments);
-    let mut sink = MemSink::new(alloc, words::numbers(alloc, fails)?);
-    sink.fail_from(words::number(from)?);
+    let fails = words::numbers(alloc, fails)?;
+    let from = words::number(from)?;
+    let mut sink = MemSink::new(alloc, fails);
+    sink.fail_from(from);
+    all_taken(alloc, &mut sink, pieces)
+}
+
+// How many bytes writes take, one for each piece, and all that was written.
+fn all_taken(alloc: Global, sink: &mut MemSink, pieces: &str) -> Result<String> {
     let mut answers = String::new(alloc);
     for piece in pieces.split(' ') {
-        let answer = taken(alloc, &mut sink, &words::bytes(alloc, piece)?)?;
+        let answer = taken(alloc, sink, &words::bytes(alloc, piece)?)?;
         push_word(&mut answers, answer.as_str())?;
     }
     let written = words::shown(alloc, sink.written())?;

@@ -1,5 +1,6 @@
 //! Names and the words of kinds.
 
+use crate::texts::text_of;
 use anyhow::Result;
 use rows_core::{Kind, Name};
 use std::alloc::Global;
@@ -7,16 +8,15 @@ use std::alloc::Global;
 /// The word of the kind with this word.
 pub fn kind(alloc: Global, word: &[u8]) -> Result<String> {
     match Kind::of(word) {
-        Some(kind) => Ok(String::from_str(alloc, std::str::from_utf8(kind.word())?)?),
-        None => Ok(String::from_str(alloc, "no kind")?),
+        Some(kind) => text_of(alloc, kind.word()),
+        None => text_of(alloc, b"no kind"),
     }
 }
 
 /// The name, read from a copy of it.
 pub fn name(alloc: Global, bytes: &[u8]) -> Result<String> {
-    let name = Name::new(alloc, bytes)?;
-    let copy = name.try_copy(alloc)?;
-    Ok(String::from_str(alloc, std::str::from_utf8(copy.bytes())?)?)
+    let copy = Name::new(alloc, bytes)?.try_copy(alloc)?;
+    text_of(alloc, copy.bytes())
 }
 
 /// Whether two names, divided by a space, are the same.
@@ -25,11 +25,15 @@ pub fn names(alloc: Global, bytes: &[u8]) -> Result<String> {
         .split_once(' ')
         .unwrap_or(("", ""));
     let first = Name::new(alloc, first.as_bytes())?;
-    let second = Name::new(alloc, second.as_bytes())?;
-    let answer = if first.is_same(&second) {
-        "the same"
-    } else {
-        "others"
-    };
-    Ok(String::from_str(alloc, answer)?)
+    let is_same = is_named(alloc, &first, second)?;
+    text_of(alloc, sameness(is_same).as_bytes())
+}
+
+fn is_named(alloc: Global, name: &Name, text: &str) -> Result<bool> {
+    Ok(name.is_same(&Name::new(alloc, text.as_bytes())?))
+}
+
+/// What stands for two values that are equal, and for two that are not.
+pub fn sameness(is_same: bool) -> &'static str {
+    if is_same { "the same" } else { "others" }
 }

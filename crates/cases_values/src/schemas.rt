@@ -1,6 +1,7 @@
 //! Schemas, written as `name:kind,name:kind`.
 
 use crate::rows;
+use crate::texts::{copy_note, text_of};
 use anyhow::{Context, Result};
 use rows_core::{Column, Kind, Name, Schema};
 use std::alloc::Global;
@@ -8,14 +9,18 @@ use std::alloc::Global;
 /// The count of the columns and the columns, read from a copy of the schema.
 pub fn schema(alloc: Global, bytes: &[u8]) -> Result<String> {
     let schema = schema_of(alloc, std::str::from_utf8(bytes)?)?;
+    copied(alloc, &schema)
+}
+
+fn copied(alloc: Global, schema: &Schema) -> Result<String> {
     let copy = schema.try_copy(alloc)?;
-    let same = if schema.is_same(&copy) {
-        ""
-    } else {
-        ", and its copy is another"
-    };
-    let shown = columns_shown(alloc, copy.columns())?;
-    let count = copy.columns().len();
+    shown(alloc, copy.columns(), schema.is_same(&copy))
+}
+
+fn shown(alloc: Global, columns: &[Column], is_same: bool) -> Result<String> {
+    let shown = columns_shown(alloc, columns)?;
+    let same = copy_note(is_same);
+    let count = columns.len();
     Ok(format!(in alloc; "columns {count}: {shown}{same}")?)
 }
 
@@ -25,13 +30,16 @@ pub fn admits(alloc: Global, bytes: &[u8]) -> Result<String> {
         .split_once(' ')
         .unwrap_or(("", ""));
     let schema = schema_of(alloc, schema)?;
-    let row = rows::row_of(alloc, row)?;
-    let answer = if schema.admits(&row) {
+    let answer = if admits_row(alloc, &schema, row)? {
         "admitted"
     } else {
         "not admitted"
     };
-    Ok(String::from_str(alloc, answer)?)
+    text_of(alloc, answer.as_bytes())
+}
+
+fn admits_row(alloc: Global, schema: &Schema, row: &str) -> Result<bool> {
+    Ok(schema.admits(&rows::row_of(alloc, row)?))
 }
 
 pub fn schema_of(alloc: Global, text: &str) -> Result<Schema> {
@@ -41,30 +49,39 @@ pub fn schema_of(alloc: Global, text: &str) -> Result<Schema> {
 fn columns_of(alloc: Global, text: &str) -> Result<Vec<Column>> {
     let mut columns = Vec::new(alloc);
     for part in text.split(',') {
-        if !part.is_empty() {
-            columns.push(column_of(alloc, part)?)?;
-        }
+        push_column(alloc, part, &mut columns)?;
     }
     Ok(columns)
 }
 
-fn column_of(alloc: Global, part: &str) -> Result<Column> {
-    let (name, kind) = part.split_once(':').context("a column without a kind")?;
-    Ok(Column {
-        name: Name::new(alloc, name.as_bytes())?,
-        kind: Kind::of(kind.as_bytes()).context("no kind")?,
-    })
+fn push_column(alloc: Global, part: &str, to: &mut Vec<Column>) -> Result<()> {
+    if !part.is_empty() {
+        let (name, kind) = part.split_once(':').context("a column without a kind")?;
+        let name = Name::new(alloc, name.as_bytes())?;
+        to.push(column_of(name, kind)?)?;
+    }
+    Ok(())
+}
+
+fn column_of(name: Name, kind: &str) -> Result<Column> {
+    let kind = Kind::of(kind.as_bytes()).context("no kind")?;
+    Ok(Column { name, kind })
 }
 
 fn columns_shown(alloc: Global, columns: &[Column]) -> Result<String> {
     let mut shown = String::new(alloc);
     for column in columns {
-        if !shown.is_empty() {
-            shown.push_str(",")?;
-        }
-        shown.push_str(std::str::from_utf8(column.name.bytes())?)?;
-        shown.push_str(":")?;
-        shown.push_str(std::str::from_utf8(column.kind.word())?)?;
+        push_shown(column, &mut shown)?;
     }
     Ok(shown)
+}
+
+fn push_shown(column: &Column, to: &mut String) -> Result<()> {
+    if !to.is_empty() {
+        to.push_str(",")?;
+    }
+    to.push_str(std::str::from_utf8(column.name.bytes())?)?;
+    to.push_str(":")?;
+    to.push_str(std::str::from_utf8(column.kind.word())?)?;
+    Ok(())
 }

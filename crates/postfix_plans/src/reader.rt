@@ -16,8 +16,8 @@ use std::alloc::Global;
 #[derive(Drop)]
 struct Reader {
     alloc: Global,
-    exprs: Vec<Expr>,
-    plans: Vec<Plan>,
+    exprs: Vec<Box<Expr>>,
+    plans: Vec<Box<Plan>>,
     keys: Vec<u32>,
     aggs: Vec<Agg>,
     pairs: Vec<(u32, u32)>,
@@ -27,15 +27,13 @@ struct Reader {
 /// The expression that is written so.
 pub fn expr_of(alloc: Global, text: &str) -> Result<Expr> {
     let mut reader = Reader::new(alloc);
-    reader.read(text)?;
-    reader.expr()
+    reader.whole_expr(text)
 }
 
 /// The plan that is written so.
 pub fn plan_of(alloc: Global, text: &str) -> Result<Plan> {
     let mut reader = Reader::new(alloc);
-    reader.read(text)?;
-    reader.plans.pop().context("no plan")
+    reader.whole_plan(text)
 }
 
 impl Reader {
@@ -51,6 +49,16 @@ impl Reader {
         }
     }
 
+    fn whole_expr(&mut self, text: &str) -> Result<Expr> {
+        self.read(text)?;
+        Ok(Box::into_inner(self.expr()?))
+    }
+
+    fn whole_plan(&mut self, text: &str) -> Result<Plan> {
+        self.read(text)?;
+        Ok(Box::into_inner(self.plan()?))
+    }
+
     fn read(&mut self, text: &str) -> Result<()> {
         for word in text.split_whitespace() {
             self.put(word)?;
@@ -59,173 +67,154 @@ impl Reader {
     }
 
     fn put(&mut self, word: &str) -> Result<()> {
-        if let Some(plan) = self.plan_by(word)? {
-            self.plans.push(plan)?;
-            return Ok(());
+        match word {
+            "and" => self.and(),
+            "or" => self.or(),
+            "if" => self.choice(),
+            "filter" => self.filter(),
+            "distinct" => self.distinct(),
+            "group" => self.group(),
+            "join" => self.join(),
+            "concat" => self.concat(),
+            "order" => self.order(),
+            _ => self.put_numbered(word),
         }
-        if let Some(expr) = self.expr_by(word)? {
-            self.exprs.push(expr)?;
-            return Ok(());
-        }
-        if let Some(agg) = agg_of(word) {
-            self.aggs.push(agg)?;
-            return Ok(());
-        }
-        self.put_key(word)
     }
 
-    /// A key of a group or of an order, or a pair of a join.
-    fn put_key(&mut self, word: &str) -> Result<()> {
-        if let Some(column) = number_behind(word, "key") {
+    /// A word with a number behind its letters, or a literal.
+    fn put_numbered(&mut self, word: &str) -> Result<()> {
+        if let Some(stream) = number_behind(word, "s") {
+            return self.put_plan(Plan::Scan { stream });
+        }
+        if let Some(count) = number_behind(word, "columns") {
+            return self.project(count);
+        }
+        if let Some(column) = number_behind(word, "#") {
+            return self.put_expr(Expr::Column(column));
+        }
+        if let Some(row) = number_behind(word, "op") {
+            return self.call(row);
+        }
+        match literal_of(self.alloc, word)? {
+            Some(cell) => self.put_expr(Expr::Literal(cell)),
+            None => self.put_list_word(word),
+        }
+    }
+
+    /// A word of the list of a group, an order or a join.
+    fn put_list_word(&mut self, word: &str) -> Result<()> {
+        if let Some(agg) = agg_of(word) {
+            self.aggs.push(agg)?;
+        } else if let Some(column) = number_behind(word, "key") {
             self.keys.push(column)?;
-        } else if let Some(column) = number_behind(word, "up") {
-            self.order.push(Key {
-                column,
-                down: false,
-            })?;
-        } else if let Some(column) = number_behind(word, "down") {
-            self.order.push(Key { column, down: true })?;
+        } else if let Some(key) = key_of(word) {
+            self.order.push(key)?;
         } else {
             self.pairs.push(pair_of(word).context("no such word")?)?;
         }
         Ok(())
     }
 
-    fn expr(&mut self) -> Result<Expr> {
+    fn put_expr(&mut self, expr: Expr) -> Result<()> {
+        let expr = Box::new(self.alloc, expr)?;
+        Ok(self.exprs.push(expr)?)
+    }
+
+    fn put_plan(&mut self, plan: Plan) -> Result<()> {
+        let plan = Box::new(self.alloc, plan)?;
+        Ok(self.plans.push(plan)?)
+    }
+
+    fn expr(&mut self) -> Result<Box<Expr>> {
         self.exprs.pop().context("no expression")
     }
 
-    fn boxed_expr(&mut self) -> Result<Box<Expr>> {
-        let alloc = self.alloc;
-        Ok(Box::new(alloc, self.expr()?)?)
-    }
-
-    fn child(&mut self) -> Result<Box<Plan>> {
-        let alloc = self.alloc;
-        Ok(Box::new(alloc, self.plans.pop().context("no plan")?)?)
-    }
-
-    /// The expression with this word, if it is the word of one.
-    fn expr_by(&mut self, word: &str) -> Result<Option<Expr>> {
-        if let Some(column) = number_behind(word, "#") {
-            return Ok(Some(Expr::Column(column)));
-        }
-        if let Some(row) = number_behind(word, "op") {
-            return Ok(Some(self.call(row)?));
-        }
-        match word {
-            "and" => Ok(Some(self.and()?)),
-            "or" => Ok(Some(self.or()?)),
-            "if" => Ok(Some(self.choice()?)),
-            _ => Ok(literal_of(self.alloc, word)?.map(Expr::Literal)),
-        }
+    fn plan(&mut self) -> Result<Box<Plan>> {
+        self.plans.pop().context("no plan")
     }
 
     /// A call of a row of the table; a row that isn't there has two arguments.
-    fn call(&mut self, row: u32) -> Result<Expr> {
+    fn call(&mut self, row: u32) -> Result<()> {
         if has_one_argument(row) {
-            let arg = self.boxed_expr()?;
-            return Ok(Expr::Call1 { row, arg });
+            let arg = self.expr()?;
+            return self.put_expr(Expr::Call1 { row, arg });
         }
-        let right = self.boxed_expr()?;
-        let left = self.boxed_expr()?;
-        Ok(Expr::Call2 { row, left, right })
+        let right = self.expr()?;
+        let left = self.expr()?;
+        self.put_expr(Expr::Call2 { row, left, right })
     }
 
-    fn and(&mut self) -> Result<Expr> {
-        let right = self.boxed_expr()?;
-        let left = self.boxed_expr()?;
-        Ok(Expr::And(left, right))
+    fn and(&mut self) -> Result<()> {
+        let right = self.expr()?;
+        let left = self.expr()?;
+        self.put_expr(Expr::And(left, right))
     }
 
-    fn or(&mut self) -> Result<Expr> {
-        let right = self.boxed_expr()?;
-        let left = self.boxed_expr()?;
-        Ok(Expr::Or(left, right))
+    fn or(&mut self) -> Result<()> {
+        let right = self.expr()?;
+        let left = self.expr()?;
+        self.put_expr(Expr::Or(left, right))
     }
 
-    fn choice(&mut self) -> Result<Expr> {
-        let other = self.boxed_expr()?;
-        let then = self.boxed_expr()?;
-        let test = self.boxed_expr()?;
-        Ok(Expr::If(test, then, other))
-    }
-
-    /// The plan with this word, if it is the word of one.
-    fn plan_by(&mut self, word: &str) -> Result<Option<Plan>> {
-        if let Some(stream) = number_behind(word, "s") {
-            return Ok(Some(Plan::Scan { stream }));
-        }
-        if let Some(count) = number_behind(word, "columns") {
-            return Ok(Some(self.project(count)?));
-        }
-        match word {
-            "filter" => Ok(Some(self.filter()?)),
-            "distinct" => Ok(Some(Plan::Distinct {
-                child: self.child()?,
-            })),
-            "group" => Ok(Some(self.group()?)),
-            "join" => Ok(Some(self.join()?)),
-            "concat" => Ok(Some(self.concat()?)),
-            "order" => Ok(Some(self.order()?)),
-            _ => Ok(None),
-        }
-    }
-
-    fn filter(&mut self) -> Result<Plan> {
+    fn choice(&mut self) -> Result<()> {
+        let other = self.expr()?;
+        let then = self.expr()?;
         let test = self.expr()?;
-        let child = self.child()?;
-        Ok(Plan::Filter { child, test })
+        self.put_expr(Expr::If(test, then, other))
     }
 
-    fn project(&mut self, count: u32) -> Result<Plan> {
+    fn filter(&mut self) -> Result<()> {
+        let test = self.expr()?;
+        let child = self.plan()?;
+        let test = Box::into_inner(test);
+        self.put_plan(Plan::Filter { child, test })
+    }
+
+    fn project(&mut self, count: u32) -> Result<()> {
+        let columns = self.columns(count)?;
+        let child = self.plan()?;
+        self.put_plan(Plan::Project { child, columns })
+    }
+
+    /// So many expressions, those that were read last.
+    fn columns(&mut self, count: u32) -> Result<Seq<Expr>> {
         let mut columns = Vec::new(self.alloc);
         for _ in 0..count {
-            columns.push(self.expr()?)?;
+            columns.push(Box::into_inner(self.expr()?))?;
         }
         columns.reverse();
-        let child = self.child()?;
-        Ok(Plan::Project {
-            child,
-            columns: Seq::new(columns),
-        })
+        Ok(Seq::new(columns))
     }
 
-    fn group(&mut self) -> Result<Plan> {
-        let child = self.child()?;
-        let keys = std::mem::replace(&mut self.keys, Vec::new(self.alloc));
-        let aggs = std::mem::replace(&mut self.aggs, Vec::new(self.alloc));
-        Ok(Plan::Group {
-            child,
-            keys: Seq::new(keys),
-            aggs: Seq::new(aggs),
-        })
+    fn distinct(&mut self) -> Result<()> {
+        let child = self.plan()?;
+        self.put_plan(Plan::Distinct { child })
     }
 
-    fn join(&mut self) -> Result<Plan> {
-        let right = self.child()?;
-        let left = self.child()?;
-        let on = std::mem::replace(&mut self.pairs, Vec::new(self.alloc));
-        Ok(Plan::Join {
-            left,
-            right,
-            on: Seq::new(on),
-        })
+    fn group(&mut self) -> Result<()> {
+        let child = self.plan()?;
+        let keys = Seq::new(std::mem::replace(&mut self.keys, Vec::new(self.alloc)));
+        let aggs = Seq::new(std::mem::replace(&mut self.aggs, Vec::new(self.alloc)));
+        self.put_plan(Plan::Group { child, keys, aggs })
     }
 
-    fn concat(&mut self) -> Result<Plan> {
-        let right = self.child()?;
-        let left = self.child()?;
-        Ok(Plan::Concat { left, right })
+    fn join(&mut self) -> Result<()> {
+        let right = self.plan()?;
+        let left = self.plan()?;
+        let on = Seq::new(std::mem::replace(&mut self.pairs, Vec::new(self.alloc)));
+        self.put_plan(Plan::Join { left, right, on })
     }
 
-    fn order(&mut self) -> Result<Plan> {
-        let child = self.child()?;
-        let keys = std::mem::replace(&mut self.order, Vec::new(self.alloc));
-        Ok(Plan::Order {
-            child,
-            keys: Seq::new(keys),
-        })
+    fn concat(&mut self) -> Result<()> {
+        let right = self.plan()?;
+        let left = self.plan()?;
+        self.put_plan(Plan::Concat { left, right })
+    }
+
+    fn order(&mut self) -> Result<()> {
+        let child = self.plan()?;
+        let keys = Seq::new(std::mem::replace(&mut self.order, Vec::new(self.alloc)));
+        self.put_plan(Plan::Order { child, keys })
     }
 }
 
@@ -278,6 +267,18 @@ fn agg_of(word: &str) -> Option<Agg> {
         return Some(Agg::Last(column));
     }
     Some(Agg::Avg(number_behind(word, "avg")?))
+}
+
+/// A key of an order, as `up0` and `down1`.
+fn key_of(word: &str) -> Option<Key> {
+    if let Some(column) = number_behind(word, "up") {
+        return Some(Key {
+            column,
+            down: false,
+        });
+    }
+    let column = number_behind(word, "down")?;
+    Some(Key { column, down: true })
 }
 
 /// Two columns, as `on0=1`.

@@ -8,6 +8,7 @@ ghost use Rattle.plan_core.specs.TypedPlan.{IsTypedOver};
 ghost use Rattle.plan_core.specs.TypedRows.{HaveKinds, AreOfStreams};
 ghost use Rattle.postfix_plans.specs.Shown.{ShowsRows};
 
+use crate::reader::plan_of;
 use crate::streams::Streams;
 use anyhow::{Context, Result};
 use plan_core::{Plan, PlanRefusal, Schemas, Typed, type_plan};
@@ -34,6 +35,14 @@ pub fn typed(alloc: Global, plan: Plan, schemas: &Schemas) -> Result<Typed, Plan
     ensures { IfOk result (λ typed. IsTypedOver schemas.now.kinds typed) }
 {
     type_plan(alloc, plan, schemas)
+}
+
+/// The plan that is written so, with its typing over the streams.
+pub fn typed_of(alloc: Global, text: &str, schemas: &Schemas) -> Result<Typed>
+    ensures { IfOk result (λ typed. IsTypedOver schemas.now.kinds typed) }
+{
+    let plan = plan_of(alloc, text)?;
+    Ok(typed(alloc, plan, schemas)?)
 }
 
 /// One list for each of the leaves.

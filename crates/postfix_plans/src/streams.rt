@@ -20,17 +20,26 @@ pub fn streams_of(alloc: Global, text: &str) -> Result<Streams> {
     let mut schemas = Vec::new(alloc);
     let mut rows = Vec::new(alloc);
     for stream in text.split(" | ") {
-        let (kinds, lines) = stream.split_once(' ').unwrap_or((stream, ""));
-        let kinds = kinds_of(alloc, kinds)?;
-        let list = rows_of(alloc, lines, &schema_of(alloc, &kinds)?)?;
-        rows.push(Seq::new(list))?;
-        schemas.push(Seq::new(kinds))?;
+        put_stream(alloc, stream, &mut schemas, &mut rows)?;
     }
     let schemas = Schemas {
         kinds: Seq::new(schemas),
     };
     let rows = Seq::new(rows);
     Ok(Streams { schemas, rows })
+}
+
+fn put_stream(
+    alloc: Global,
+    text: &str,
+    schemas: &mut Vec<Seq<Kind>>,
+    rows: &mut Vec<Seq<Row>>,
+) -> Result<()> {
+    let (kinds, lines) = text.split_once(' ').unwrap_or((text, ""));
+    let kinds = kinds_of(alloc, kinds)?;
+    let schema = schema_of(alloc, &kinds)?;
+    rows.push(Seq::new(rows_of(alloc, lines, &schema)?))?;
+    Ok(schemas.push(Seq::new(kinds))?)
 }
 
 /// Kinds, written as `int,text`.

@@ -1,5 +1,5 @@
 use Rattle.rewrite_core.specs.PlainRewriting.{rewriting_of}
-use Rattle.result_list.specs.Listed.{entries_of}
+use Rattle.postfix_plans.specs.Listed.{entries_of}
 use Rattle.cases_executor.specs.Filed.{counts_of}
 use Rattle.cases_executor.proofs.Searched.{can_run}
 use Rattle.cases_executor.proofs.running.least_over.Goals as goal

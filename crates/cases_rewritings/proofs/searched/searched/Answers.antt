@@ -1,6 +1,6 @@
 use Rattle.plan_core.specs.PlainPlan.{plan_of}
 use Rattle.rewrite_core.specs.PlainRewriting.{rewriting_of, way_of}
-use Rattle.result_list.specs.Listed.{entries_of}
+use Rattle.postfix_plans.specs.Listed.{entries_of}
 use Rattle.cases_rewritings.proofs.Roots.{own_root}
 use Rattle.cases_rewritings.proofs.searched.searched.Goals as goal
 

@@ -1,6 +1,0 @@
--- Each step is on a shorter list.
-use Rattle.std.proofs.Common.{length}
-use Rattle.result_list.proofs.looking.+best_in.Given as goal
-
-abbrev pub decreases-best_in : goal.decreases-best_in
-decreases-best_in l = length l.results.now
