@@ -110,16 +110,16 @@ pub fn changed(alloc: Global, arguments: &str) -> Result<String> {
     let (seed, arguments) = arguments.split_once(' ').context("no file")?;
     let (file, runs) = arguments.split_once(' ').context("no runs")?;
     let (count, seed) = (count.parse::<u64>()?, seed.parse::<u64>()?);
-    let recorded = recorded(alloc, file.parse::<u64>()?, runs)?;
+    let recorded = record(alloc, file.parse::<u64>()?, runs)?;
     told(alloc, count, seed, &recorded)
 }
 
-fn recorded(alloc: Global, file: u64, runs: &str) -> Result<Recorded> {
+fn record(alloc: Global, file: u64, runs: &str) -> Result<Recorded> {
     let mut store = empty(alloc);
-    recorded_by(alloc, file, runs, &mut store)
+    record_in(alloc, file, runs, &mut store)
 }
 
-fn recorded_by(alloc: Global, file: u64, runs: &str, store: &mut MemStore) -> Result<Recorded> {
+fn record_in(alloc: Global, file: u64, runs: &str, store: &mut MemStore) -> Result<Recorded> {
     run_each(alloc, runs, store)?;
     Recorded::of(alloc, file, store)
 }
