@@ -1,7 +1,7 @@
 //! Logs of which some bytes are others: what the project's loading and the plain reader make of them.
 
 use crate::logs::{Logs, Reading, Why, read_logs};
-use crate::runs::folder_of;
+use crate::runs::{empty, run_each};
 use crate::table::Held;
 use anyhow::{Context, Result, bail};
 use case_text::draw::Draw;
@@ -66,7 +66,7 @@ fn change(draw: &mut Draw, bytes: &mut [u8]) {
 }
 
 /// How often logs are read in each way.
-#[derive(Default, Drop)]
+#[derive(Clone, Copy, Default)]
 struct Tally {
     loaded: u64,
     /// With as many commands as the logs that weren't changed.
@@ -109,22 +109,22 @@ pub fn changed(alloc: Global, arguments: &str) -> Result<String> {
     let (count, arguments) = arguments.split_once(' ').context("no seed")?;
     let (seed, arguments) = arguments.split_once(' ').context("no file")?;
     let (file, runs) = arguments.split_once(' ').context("no runs")?;
-    let store = folder_of(alloc, runs)?;
-    let recorded = Recorded::of(alloc, file.parse::<u64>()?, &store)?;
-    let whole = same_reading(alloc, &recorded)?;
-    let mut draw = Draw::new(seed.parse::<u64>()?);
-    let mut tally = Tally::default();
-    for number in 0..count.parse::<u64>()? {
-        let changed = recorded.changed(alloc, &mut draw)?;
-        match same_reading(alloc, &changed) {
-            Ok(reading) => tally.count(reading, whole),
-            Err(error) => bail!("logs {number}: {error}"),
-        }
-    }
-    told(alloc, &recorded, &tally)
+    let (count, seed) = (count.parse::<u64>()?, seed.parse::<u64>()?);
+    let recorded = record(alloc, file.parse::<u64>()?, runs)?;
+    told(alloc, count, seed, &recorded)
 }
 
-fn told(alloc: Global, recorded: &Recorded, tally: &Tally) -> Result<String> {
+fn record(alloc: Global, file: u64, runs: &str) -> Result<Recorded> {
+    let mut store = empty(alloc);
+    record_in(alloc, file, runs, &mut store)
+}
+
+fn record_in(alloc: Global, file: u64, runs: &str, store: &mut MemStore) -> Result<Recorded> {
+    run_each(alloc, runs, store)?;
+    Recorded::of(alloc, file, store)
+}
+
+fn told(alloc: Global, count: u64, seed: u64, recorded: &Recorded) -> Result<String> {
     let len = recorded.log.len();
     let Tally {
         loaded,
@@ -133,10 +133,27 @@ fn told(alloc: Global, recorded: &Recorded, tally: &Tally) -> Result<String> {
         no_number,
         no_change,
         misfit,
-    } = tally;
+    } = tallied(alloc, count, Draw::new(seed), recorded)?;
     Ok(format!(in alloc;
         "{len} bytes: {loaded} loaded, {whole} of them with each command; no log {no_log}, no number {no_number}, no change {no_change}, misfit {misfit}"
     )?)
+}
+
+fn tallied(alloc: Global, count: u64, mut draw: Draw, recorded: &Recorded) -> Result<Tally> {
+    let whole = same_reading(alloc, recorded)?;
+    let mut tally = Tally::default();
+    for number in 0..count {
+        match changed_reading(alloc, recorded, &mut draw) {
+            Ok(reading) => tally.count(reading, whole),
+            Err(error) => bail!("logs {number}: {error}"),
+        }
+    }
+    Ok(tally)
+}
+
+fn changed_reading(alloc: Global, recorded: &Recorded, draw: &mut Draw) -> Result<Reading> {
+    let changed = recorded.changed(alloc, draw)?;
+    same_reading(alloc, &changed)
 }
 
 // What the logs are read as, by the plain reader and by loading. It is an error that they differ.
@@ -149,17 +166,25 @@ fn same_reading(alloc: Global, recorded: &Recorded) -> Result<Reading> {
         _ => false,
     };
     if !are_same {
-        bail!("loaded as {loaded:?}, read as {plain:?}");
+        bail!("loaded as another folder than the plain reader's");
     }
     Ok(plain)
 }
 
 // What the catalogue of a loaded folder holds, or the file and the byte where loading stops.
 fn loading(alloc: Global, recorded: &Recorded) -> Result<Result<Held, (u64, u64)>> {
-    let mut store = MemStore::new(alloc, Vec::new(alloc));
+    let mut store = empty(alloc);
+    loading_of(alloc, recorded, &mut store)
+}
+
+fn loading_of(
+    alloc: Global,
+    recorded: &Recorded,
+    store: &mut MemStore,
+) -> Result<Result<Held, (u64, u64)>> {
     store.put(0, &recorded.root)?;
     store.put(recorded.file, &recorded.log)?;
-    match Folder::load(alloc, &mut store) {
+    match Folder::load(alloc, store) {
         Ok(folder) => Ok(Ok(held_by(&folder))),
         Err(LoadRefusal::NotAStore { file, at }) => Ok(Err((file, at))),
         Err(refusal) => Err(refusal.into()),

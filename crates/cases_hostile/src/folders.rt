@@ -1,8 +1,8 @@
 //! Folders whose files are given.
 
-use crate::runs::outcome;
+use crate::runs::{empty, outcome, told};
 use anyhow::{Context, Result};
-use case_text::shown;
+use case_text::script;
 use mem_outside::MemStore;
 use std::alloc::Global;
 
@@ -10,13 +10,17 @@ use std::alloc::Global;
 /// between two files, and the script stands behind ` : `.
 pub fn folder(alloc: Global, arguments: &str) -> Result<String> {
     let (files, text) = arguments.split_once(" : ").context("no script")?;
-    let mut store = MemStore::new(alloc, Vec::new(alloc));
+    let mut store = empty(alloc);
+    run_over(alloc, files, text, &mut store)
+}
+
+fn run_over(alloc: Global, files: &str, text: &str, store: &mut MemStore) -> Result<String> {
     for file in files.split(' ') {
-        put(alloc, file, &mut store)?;
+        put(alloc, file, store)?;
     }
-    let (exit, answers) = outcome(alloc, text, &mut store)?;
-    let answers = shown::lines(alloc, &answers)?;
-    Ok(format!(in alloc; "{exit:?}: {answers}")?)
+    let script = script::bytes(alloc, text)?;
+    let (exit, answers) = outcome(alloc, &script, store)?;
+    told(alloc, exit, &answers)
 }
 
 fn put(alloc: Global, file: &str, store: &mut MemStore) -> Result<()> {

@@ -19,7 +19,7 @@ pub struct Logs<'a> {
 }
 
 /// What the logs are read as.
-#[derive(Clone, Copy, Debug, PartialEq, Eq)]
+#[derive(Clone, Copy)]
 pub enum Reading {
     /// What the catalogue holds.
     Loaded(Held),
@@ -28,7 +28,7 @@ pub enum Reading {
 }
 
 /// Why reading stops.
-#[derive(Clone, Copy, Debug, PartialEq, Eq)]
+#[derive(Clone, Copy)]
 pub enum Why {
     /// A gate, a length or the header isn't that of a log, or bytes are missing.
     NoLog,
@@ -57,7 +57,7 @@ enum Log<'a> {
 /// What the logs are read as, from the front.
 pub fn read_logs(alloc: Global, logs: &Logs<'_>) -> Result<Reading> {
     if logs.root.len() <= 9 {
-        return Ok(Reading::Loaded(Table::new(alloc).held()));
+        return Ok(nothing(alloc));
     }
     let numbers = match read_log(alloc, logs.root)? {
         Log::Bodies(numbers) => numbers,
@@ -70,8 +70,13 @@ pub fn read_logs(alloc: Global, logs: &Logs<'_>) -> Result<Reading> {
     }
     match numbers.len().checked_sub(1) {
         Some(generation) => read_generation(alloc, logs, generation as u64),
-        None => Ok(Reading::Loaded(Table::new(alloc).held())),
+        None => Ok(nothing(alloc)),
     }
+}
+
+// What is read where there is no log.
+fn nothing(alloc: Global) -> Reading {
+    Reading::Loaded(Table::new(alloc).held())
 }
 
 fn stops(why: Why, file: u64, at: usize) -> Reading {
@@ -98,6 +103,15 @@ fn read_generation(alloc: Global, logs: &Logs<'_>, generation: u64) -> Result<Re
 // What the bodies of a log lead to; the first is a checkpoint where one is due, and no other is.
 fn replay(alloc: Global, file: u64, bodies: &[Body<'_>], is_due: bool) -> Result<Reading> {
     let mut table = Table::new(alloc);
+    replay_on(&mut table, file, bodies, is_due)
+}
+
+fn replay_on<'a>(
+    table: &mut Table<'a>,
+    file: u64,
+    bodies: &[Body<'a>],
+    is_due: bool,
+) -> Result<Reading> {
     for (place, body) in bodies.iter().enumerate() {
         let mut reader = Reader::new(body.bytes);
         table.read(&mut reader, is_due && place == 0)?;

@@ -55,7 +55,7 @@ struct Kept<'a> {
 }
 
 /// How much a catalogue holds.
-#[derive(Clone, Copy, Debug, PartialEq, Eq)]
+#[derive(Clone, Copy, PartialEq, Eq)]
 pub struct Held {
     pub tick: u64,
     pub next_file: u64,

@@ -7,7 +7,7 @@ use anyhow::Result;
 use plan_binder::bind;
 use plan_core::{Plan, Schemas, type_plan};
 use plan_spelling::unspell;
-use plan_text::{parse_plan, print_plan};
+use plan_text::{NamedPlan, parse_plan, print_plan};
 use rows_core::{Column, Kind, Name, Schema, Seq};
 use std::alloc::Global;
 
@@ -34,58 +34,77 @@ impl plan_binder::Stream for NamedStream {
 
 /// Whether the text is the canonical one of a plan with a typing, and the cuts are of its leaves.
 pub fn is_program(alloc: Global, streams: &[Stream<'_>], text: &[u8], cuts: &[u8]) -> Result<bool> {
-    match plan_of(alloc, streams, text)? {
-        Some(plan) => is_over(alloc, streams, plan, cuts),
-        None => Ok(false),
+    match parse_plan(alloc, text) {
+        Ok(plan) => is_canonical(alloc, streams, &plan, text, cuts),
+        Err(_) => Ok(false),
     }
+}
+
+// The same of the plan that the text spells.
+fn is_canonical(
+    alloc: Global,
+    streams: &[Stream<'_>],
+    plan: &NamedPlan,
+    text: &[u8],
+    cuts: &[u8],
+) -> Result<bool> {
+    if print_plan(alloc, plan)?.as_slice() != text {
+        return Ok(false);
+    }
+    let schemas = schemas(alloc, streams)?;
+    Ok(match named_streams(alloc, streams) {
+        Ok(named) => match bind(alloc, plan, &named) {
+            Ok(plan) => is_over(alloc, streams, &schemas, plan, cuts),
+            Err(_) => false,
+        },
+        Err(_) => false,
+    })
 }
 
 /// Whether these are a plan's bytes, it has a typing, and the cuts are of its leaves.
 pub fn is_result(alloc: Global, streams: &[Stream<'_>], plan: &[u8], cuts: &[u8]) -> Result<bool> {
-    match unspell(alloc, plan) {
-        Ok(plan) => is_over(alloc, streams, plan, cuts),
-        Err(_) => Ok(false),
-    }
+    let schemas = schemas(alloc, streams)?;
+    Ok(match unspell(alloc, plan) {
+        Ok(plan) => is_over(alloc, streams, &schemas, plan, cuts),
+        Err(_) => false,
+    })
 }
 
-// The plan whose canonical text this is, with numbers for its names.
-fn plan_of(alloc: Global, streams: &[Stream<'_>], text: &[u8]) -> Result<Option<Plan>> {
-    let Ok(plan) = parse_plan(alloc, text) else {
-        return Ok(None);
-    };
-    if print_plan(alloc, &plan)?.as_slice() != text {
-        return Ok(None);
-    }
+fn named_streams(alloc: Global, streams: &[Stream<'_>]) -> Result<Vec<NamedStream>> {
     let mut named = Vec::new(alloc);
     for stream in streams {
-        match named_stream(alloc, stream) {
-            Ok(stream) => named.push(stream)?,
-            Err(_) => return Ok(None),
-        }
+        named.push(named_stream(alloc, stream)?)?;
     }
-    Ok(bind(alloc, &plan, &named).ok())
+    Ok(named)
 }
 
 fn named_stream(alloc: Global, stream: &Stream<'_>) -> Result<NamedStream> {
+    let schema = Schema::new(columns(alloc, stream)?)?;
+    let name = Name::new(alloc, stream.name)?;
+    Ok(NamedStream { name, schema })
+}
+
+fn columns(alloc: Global, stream: &Stream<'_>) -> Result<Vec<Column>> {
     let mut columns = Vec::new(alloc);
     for (name, kind) in &stream.columns {
-        columns.push(Column {
-            name: Name::new(alloc, name)?,
-            kind: *kind,
-        })?;
+        let name = Name::new(alloc, name)?;
+        columns.push(Column { name, kind: *kind })?;
     }
-    Ok(NamedStream {
-        name: Name::new(alloc, stream.name)?,
-        schema: Schema::new(columns)?,
-    })
+    Ok(columns)
 }
 
 // Whether the plan has a typing, and the cuts are one interval for each of its leaves, up to the stream's extents at
 // most.
-fn is_over(alloc: Global, streams: &[Stream<'_>], plan: Plan, cuts: &[u8]) -> Result<bool> {
-    match type_plan(alloc, plan, &schemas(alloc, streams)?) {
-        Ok(typed) => Ok(are_cuts(streams, typed.leaves(), cuts)),
-        Err(_) => Ok(false),
+fn is_over(
+    alloc: Global,
+    streams: &[Stream<'_>],
+    schemas: &Schemas,
+    plan: Plan,
+    cuts: &[u8],
+) -> bool {
+    match type_plan(alloc, plan, schemas) {
+        Ok(typed) => are_cuts(streams, typed.leaves(), cuts),
+        Err(_) => false,
     }
 }
 

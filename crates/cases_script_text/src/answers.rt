@@ -9,34 +9,51 @@ use std::alloc::Global;
 /// The line of the answer of this word and argument.
 pub fn answer(alloc: Global, arguments: &str) -> Result<String> {
     let (word, argument) = arguments.split_once(' ').unwrap_or((arguments, ""));
-    let answer = match word {
+    let answer = answer_of(alloc, word, argument)?;
+    line_of(alloc, &answer)
+}
+
+fn answer_of(alloc: Global, word: &str, argument: &str) -> Result<Answer> {
+    Ok(match word {
         "done" => Answer::Ok,
         "held" => Answer::Held(argument.parse::<u64>()?),
         "ready" => Answer::Ready(argument.parse::<u64>()?),
         "left" => Answer::Left(argument.parse::<u64>()?),
         _ => Answer::Refused(refusal(alloc, word, argument)?),
-    };
-    if line_count(&answer, false) != 1 {
+    })
+}
+
+// The one line of the answer, behind a word.
+fn line_of(alloc: Global, answer: &Answer) -> Result<String> {
+    if line_count(answer, false) != 1 {
         return None.context("not one line");
     }
     let mut to = Vec::from_slice(alloc, b"before ")?;
-    print_line(&answer, false, 0, &mut to)?;
+    print_line(answer, false, 0, &mut to)?;
     shown::lines(alloc, &to)
 }
 
 /// The text of a result of so many rows of one number, with the results that were used and kept, numbers with
 /// commas or `-`, and the bytes that were read.
 pub fn result(alloc: Global, quiet: bool, arguments: &str) -> Result<String> {
+    let answer = result_of(alloc, arguments)?;
+    text_of(alloc, &answer, quiet)
+}
+
+fn result_of(alloc: Global, arguments: &str) -> Result<Answer> {
     let (count, others) = arguments.split_once(' ').context("no results")?;
     let (used, others) = others.split_once(' ').context("no kept results")?;
     let (kept, read) = others.split_once(' ').context("no bytes")?;
-    let answer = Answer::Result {
-        rows: Seq::new(rows(alloc, count.parse::<i64>()?)?),
-        used: Seq::new(ids(alloc, used)?),
-        kept: Seq::new(ids(alloc, kept)?),
-        read: read.parse::<u64>()?,
-    };
-    text_of(alloc, &answer, quiet)
+    let read = read.parse::<u64>()?;
+    let used = Seq::new(ids(alloc, used)?);
+    let kept = Seq::new(ids(alloc, kept)?);
+    let rows = Seq::new(rows(alloc, count)?);
+    Ok(Answer::Result {
+        rows,
+        used,
+        kept,
+        read,
+    })
 }
 
 // All lines of an answer.
@@ -49,12 +66,17 @@ fn text_of(alloc: Global, answer: &Answer, quiet: bool) -> Result<String> {
 }
 
 // The rows of the numbers below `count`.
-fn rows(alloc: Global, count: i64) -> Result<Vec<Row>> {
+fn rows(alloc: Global, count: &str) -> Result<Vec<Row>> {
+    let count = count.parse::<i64>()?;
     let mut rows = Vec::new(alloc);
     for number in 0..count {
-        rows.push(Row::new(vec![in alloc; Value::Int(number)]?))?;
+        rows.push(row(alloc, number)?)?;
     }
     Ok(rows)
+}
+
+fn row(alloc: Global, number: i64) -> Result<Row> {
+    Ok(Row::new(vec![in alloc; Value::Int(number)]?))
 }
 
 fn ids(alloc: Global, text: &str) -> Result<Vec<u32>> {
@@ -110,25 +132,32 @@ fn unreadable(argument: &str) -> Result<Refusal> {
     })
 }
 
+/// The kinds of limits by their words.
+const LIMITS: [(&str, LimitKind); 17] = [
+    ("line", LimitKind::Line),
+    ("block", LimitKind::Block),
+    ("nodes", LimitKind::Nodes),
+    ("wide", LimitKind::Wide),
+    ("expr", LimitKind::Expr),
+    ("text", LimitKind::Text),
+    ("extent", LimitKind::Extent),
+    ("columns", LimitKind::Columns),
+    ("streams", LimitKind::Streams),
+    ("extents", LimitKind::Extents),
+    ("allextents", LimitKind::AllExtents),
+    ("plantext", LimitKind::PlanText),
+    ("programs", LimitKind::Programs),
+    ("jobs", LimitKind::Jobs),
+    ("files", LimitKind::Files),
+    ("commands", LimitKind::Commands),
+    ("machine", LimitKind::Machine),
+];
+
 fn limit(word: &str) -> Result<LimitKind> {
-    Ok(match word {
-        "line" => LimitKind::Line,
-        "block" => LimitKind::Block,
-        "nodes" => LimitKind::Nodes,
-        "wide" => LimitKind::Wide,
-        "expr" => LimitKind::Expr,
-        "text" => LimitKind::Text,
-        "extent" => LimitKind::Extent,
-        "columns" => LimitKind::Columns,
-        "streams" => LimitKind::Streams,
-        "extents" => LimitKind::Extents,
-        "allextents" => LimitKind::AllExtents,
-        "plantext" => LimitKind::PlanText,
-        "programs" => LimitKind::Programs,
-        "jobs" => LimitKind::Jobs,
-        "files" => LimitKind::Files,
-        "commands" => LimitKind::Commands,
-        "machine" => LimitKind::Machine,
-        _ => return None.context("no such limit"),
-    })
+    for (other, kind) in &LIMITS {
+        if *other == word {
+            return Ok(*kind);
+        }
+    }
+    None.context("no such limit")
 }

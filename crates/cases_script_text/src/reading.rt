@@ -22,50 +22,83 @@ pub fn spells(alloc: Global, text: &str) -> Result<String> {
 /// What a block of 1,024 row lines gives, each of 65,536 bytes with its LF, and these bytes behind them.
 pub fn block(alloc: Global, text: &str) -> Result<String> {
     let last = script::bytes(alloc, text)?;
+    let line = row_line(alloc)?;
     let mut reader = Lines::new(alloc)?;
+    block_of(alloc, &line, &last, &mut reader)
+}
+
+fn row_line(alloc: Global) -> Result<Vec<u8>> {
     let mut line = vec![in alloc; b'x'; 65_535]?;
     line.push(b'\n')?;
-    let _ = reader.take(b"append s t\n");
+    Ok(line)
+}
+
+fn block_of(alloc: Global, line: &[u8], last: &[u8], reader: &mut Lines) -> Result<String> {
+    pass(b"append s t\n", reader);
     for _ in 0..1024 {
-        let _ = reader.take(line.as_slice());
+        pass(line, reader);
     }
-    let _ = reader.take(last.as_slice());
+    pass(last, reader);
     let mut to = Vec::new(alloc);
-    if let (_, Some(item)) = reader.take(b"end\n") {
-        push_item(alloc, item, &mut to)?;
-    }
+    push_item(alloc, reader.take(b"end\n").1, &mut to)?;
     shown::lines(alloc, &to)
+}
+
+// Takes bytes that end no command.
+fn pass(bytes: &[u8], reader: &mut Lines) {
+    let _ = reader.take(bytes);
 }
 
 // The items of a script, a line each.
 fn items(alloc: Global, script: &[u8], piece: usize) -> Result<Vec<u8>> {
-    let mut reader = Lines::new(alloc)?;
+    let reader = Lines::new(alloc)?;
     let mut to = Vec::new(alloc);
+    push_items(alloc, script, piece, reader, &mut to)?;
+    Ok(to)
+}
+
+fn push_items(
+    alloc: Global,
+    script: &[u8],
+    piece: usize,
+    mut reader: Lines,
+    to: &mut Vec<u8>,
+) -> Result<()> {
+    match push_ended(alloc, script, piece, &mut reader, to) {
+        Ok(()) => push_item(alloc, reader.finish(), to),
+        Err(error) => Err(error),
+    }
+}
+
+// Appends the items that end within the script.
+fn push_ended(
+    alloc: Global,
+    script: &[u8],
+    piece: usize,
+    reader: &mut Lines,
+    to: &mut Vec<u8>,
+) -> Result<()> {
     let mut rest = script;
     for _ in 0..script.len() {
         let next = &rest[..piece.min(rest.len())];
         let (taken, item) = reader.take(next);
         rest = &rest[taken..];
-        if let Some(item) = item {
-            push_item(alloc, item, &mut to)?;
-        }
+        push_item(alloc, item, to)?;
     }
-    if let Some(item) = reader.finish() {
-        push_item(alloc, item, &mut to)?;
-    }
-    Ok(to)
+    Ok(())
 }
 
-fn push_item(alloc: Global, item: Item, to: &mut Vec<u8>) -> Result<()> {
+fn push_item(alloc: Global, item: Option<Item>, to: &mut Vec<u8>) -> Result<()> {
     match item {
-        Item::Command(command) => push_command(alloc, &command, to),
-        Item::Refused(refusal) => push_refusal(refusal, to),
+        Some(Item::Command(command)) => push_command(alloc, &command, to),
+        Some(Item::Refused(refusal)) => push_refusal(refusal, to),
+        None => Ok(()),
     }
 }
 
 fn push_refusal(refusal: Refusal, to: &mut Vec<u8>) -> Result<()> {
-    print_line(&Answer::Refused(refusal), false, 0, to)?;
-    Ok(())
+    let printed = print_line(&Answer::Refused(refusal), false, 0, to);
+    Ok(printed?)
 }
 
 // A stream with its columns, an append with its row lines behind `>`, a run or a job with its plan, or another
@@ -77,40 +110,32 @@ fn push_command(alloc: Global, command: &Command, to: &mut Vec<u8>) -> Result<()
         Command::Run { name, plan } => push_run(alloc, b"run ", name, plan, to),
         Command::Fetch { name, as_run } => push_fetch(name, *as_run, to),
         Command::Collect { bytes } => push_collect(alloc, *bytes, to),
-        Command::Entries => push_line(b"entries\n", to),
-        Command::Catalog => push_line(b"catalog\n", to),
+        Command::Entries => push_all(&[b"entries\n"], to),
+        Command::Catalog => push_all(&[b"catalog\n"], to),
         Command::OpenJob { job, name, plan } => {
-            push_words(b"open ", job, b" ", to)?;
-            push_run(alloc, b"", name, plan, to)
+            push_all(&[b"open ", job.bytes()], to)?;
+            push_run(alloc, b" ", name, plan, to)
         }
-        Command::Step { job } => push_words(b"step ", job, b"\n", to),
-        Command::Close { job } => push_words(b"close ", job, b"\n", to),
-        Command::DropJob { job } => push_words(b"drop ", job, b"\n", to),
+        Command::Step { job } => push_named(b"step ", job, to),
+        Command::Close { job } => push_named(b"close ", job, to),
+        Command::DropJob { job } => push_named(b"drop ", job, to),
     }
 }
 
 fn push_stream(name: &Name, columns: &[Column], to: &mut Vec<u8>) -> Result<()> {
-    to.extend_from_slice(b"stream ")?;
-    to.extend_from_slice(name.bytes())?;
+    push_all(&[b"stream ", name.bytes()], to)?;
     for column in columns {
-        to.push(b' ')?;
-        to.extend_from_slice(column.name.bytes())?;
-        to.push(b':')?;
-        to.extend_from_slice(column.kind.word())?;
+        push_all(&[b" ", column.name.bytes(), b":", column.kind.word()], to)?;
     }
-    to.push(b'\n')?;
-    Ok(())
+    push_all(&[b"\n"], to)
 }
 
 fn push_append(name: &Name, lines: &[Text], to: &mut Vec<u8>) -> Result<()> {
-    to.extend_from_slice(b"append ")?;
-    to.extend_from_slice(name.bytes())?;
+    push_all(&[b"append ", name.bytes()], to)?;
     for line in lines {
-        to.push(b'>')?;
-        to.extend_from_slice(line.items())?;
+        push_all(&[b">", line.items()], to)?;
     }
-    to.push(b'\n')?;
-    Ok(())
+    push_all(&[b"\n"], to)
 }
 
 fn push_run(
@@ -121,37 +146,27 @@ fn push_run(
     to: &mut Vec<u8>,
 ) -> Result<()> {
     let text = print_plan(alloc, plan)?;
-    push_words(word, name, b" = ", to)?;
-    to.extend_from_slice(text.as_slice())?;
-    to.push(b'\n')?;
-    Ok(())
+    push_all(&[word, name.bytes(), b" = ", text.as_slice(), b"\n"], to)
 }
 
 fn push_fetch(name: &Name, as_run: bool, to: &mut Vec<u8>) -> Result<()> {
-    to.extend_from_slice(b"fetch ")?;
-    to.extend_from_slice(name.bytes())?;
-    if as_run {
-        to.extend_from_slice(b" as-run")?;
-    }
-    to.push(b'\n')?;
-    Ok(())
+    let behind: &[u8] = if as_run { b" as-run\n" } else { b"\n" };
+    push_all(&[b"fetch ", name.bytes(), behind], to)
 }
 
 fn push_collect(alloc: Global, bytes: u64, to: &mut Vec<u8>) -> Result<()> {
     let text = format!(in alloc; "collect {bytes}\n")?;
-    to.extend_from_slice(text.as_bytes())?;
-    Ok(())
+    push_all(&[text.as_bytes()], to)
 }
 
-fn push_line(line: &[u8], to: &mut Vec<u8>) -> Result<()> {
-    to.extend_from_slice(line)?;
-    Ok(())
+// A word and a name in a line.
+fn push_named(word: &[u8], name: &Name, to: &mut Vec<u8>) -> Result<()> {
+    push_all(&[word, name.bytes(), b"\n"], to)
 }
 
-// A name between two words.
-fn push_words(word: &[u8], name: &Name, behind: &[u8], to: &mut Vec<u8>) -> Result<()> {
-    to.extend_from_slice(word)?;
-    to.extend_from_slice(name.bytes())?;
-    to.extend_from_slice(behind)?;
+fn push_all(parts: &[&[u8]], to: &mut Vec<u8>) -> Result<()> {
+    for part in parts {
+        to.extend_from_slice(part)?;
+    }
     Ok(())
 }

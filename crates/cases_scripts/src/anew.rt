@@ -1,10 +1,10 @@
 //! Runs that load the folder anew before each command. Commands stand behind each other with ` ; ` between
 //! them.
 
+use crate::runs::{FOLDER, answers, empty, outcome, outcome_on_none};
 use anyhow::{Context, Result};
 use case_text::{script, shown};
-use mem_outside::{MemSink, MemSource, MemStore};
-use nectar_top::{Exit, nectar};
+use mem_outside::MemStore;
 use std::alloc::Global;
 
 /// The file of the first generation's log.
@@ -13,33 +13,44 @@ const FIRST_LOG: u64 = 4_294_967_296;
 /// The answers to the commands, each of which is given to a run of its own on the same folder: they are those
 /// of one run.
 pub fn anew(alloc: Global, commands: &str) -> Result<String> {
-    let mut store = MemStore::new(alloc, Vec::new(alloc));
-    let mut answers = Vec::new(alloc);
+    let mut folder = empty(alloc);
+    anew_in(alloc, commands, &mut folder)
+}
+
+fn anew_in(alloc: Global, commands: &str, folder: &mut MemStore) -> Result<String> {
+    let mut all = Vec::new(alloc);
     for command in commands.split(" ; ") {
-        let script = script::bytes(alloc, command)?;
-        let (exit, given) = outcome(alloc, &script, &mut store)?;
-        if exit != Exit::Done {
-            return None.context("a run isn't done");
-        }
-        answers.extend_from_slice(&given)?;
+        all.extend_from_slice(&answers(alloc, command, folder)?)?;
     }
-    let whole = script_of(alloc, commands, usize::MAX)?;
-    let mut other = MemStore::new(alloc, Vec::new(alloc));
-    if outcome(alloc, &whole, &mut other)?.1 != answers {
+    let whole = script_of(alloc, commands)?;
+    if outcome_on_none(alloc, &FOLDER, &whole, usize::MAX)?.1 != all {
         return None.context("one run has other answers");
     }
-    shown::lines(alloc, &answers)
+    shown::lines(alloc, &all)
+}
+
+// The script of all commands.
+fn script_of(alloc: Global, commands: &str) -> Result<Vec<u8>> {
+    let mut whole = Vec::new(alloc);
+    for command in commands.split(" ; ") {
+        whole.extend_from_slice(&script::bytes(alloc, command)?)?;
+    }
+    Ok(whole)
 }
 
 /// The bytes that loading alone takes before each command, with the bytes that the two log files then have, and
 /// the bytes that the command takes behind that.
 pub fn taken(alloc: Global, commands: &str) -> Result<String> {
-    let mut store = MemStore::new(alloc, Vec::new(alloc));
+    let mut folder = empty(alloc);
+    taken_in(alloc, commands, &mut folder)
+}
+
+fn taken_in(alloc: Global, commands: &str, folder: &mut MemStore) -> Result<String> {
     let mut lines = Vec::new(alloc);
     for command in commands.split(" ; ") {
-        let logs = store.bytes(0).len() + store.bytes(FIRST_LOG).len();
-        let loading = taken_by(alloc, "", &mut store)?;
-        let both = taken_by(alloc, command, &mut store)?;
+        let logs = folder.bytes(0).len() + folder.bytes(FIRST_LOG).len();
+        let loading = taken_by(alloc, "", folder)?;
+        let both = taken_by(alloc, command, folder)?;
         let more = both.saturating_sub(loading);
         let line = format!(in alloc; "{loading} of {logs} and {more}\n")?;
         lines.extend_from_slice(line.as_bytes())?;
@@ -48,28 +59,9 @@ pub fn taken(alloc: Global, commands: &str) -> Result<String> {
 }
 
 // The bytes that a run on this script takes.
-fn taken_by(alloc: Global, text: &str, store: &mut MemStore) -> Result<u64> {
+fn taken_by(alloc: Global, text: &str, folder: &mut MemStore) -> Result<u64> {
     let script = script::bytes(alloc, text)?;
-    let before = store.taken();
-    outcome(alloc, &script, store)?;
-    Ok(store.taken().saturating_sub(before))
-}
-
-/// The script of the first commands, as many as count.
-pub fn script_of(alloc: Global, commands: &str, count: usize) -> Result<Vec<u8>> {
-    let mut whole = Vec::new(alloc);
-    for command in commands.split(" ; ").take(count) {
-        whole.extend_from_slice(&script::bytes(alloc, command)?)?;
-    }
-    Ok(whole)
-}
-
-/// The exit of a run, and its answers.
-pub fn outcome(alloc: Global, script: &[u8], store: &mut MemStore) -> Result<(Exit, Vec<u8>)> {
-    let bytes = Vec::from_slice(alloc, script)?;
-    let mut source = MemSource::new(bytes, usize::MAX, Vec::new(alloc));
-    let mut sink = MemSink::new(alloc, Vec::new(alloc));
-    let exit = nectar(alloc, &["folder"], &mut source, &mut sink, store);
-    let answers = Vec::from_slice(alloc, sink.written())?;
-    Ok((exit, answers))
+    let before = folder.taken();
+    outcome(alloc, &FOLDER, &script, usize::MAX, folder)?;
+    Ok(folder.taken().saturating_sub(before))
 }

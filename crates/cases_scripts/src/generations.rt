@@ -1,8 +1,8 @@
 //! Folders whose log has grown long. Runs on the same folder stand behind each other with ` ; ` between them.
 
-use crate::anew::outcome;
+use crate::runs::{FOLDER, answers, empty, image, outcome};
 use anyhow::{Context, Result};
-use case_text::{script, shown};
+use case_text::shown;
 use mem_outside::MemStore;
 use nectar_top::Exit;
 use std::alloc::Global;
@@ -22,24 +22,28 @@ const GENERATIONS: u64 = 3;
 /// How many bytes the root and the logs of the first generations have after each run; none where a file isn't
 /// there.
 pub fn logs(alloc: Global, runs: &str) -> Result<String> {
-    let mut store = MemStore::new(alloc, Vec::new(alloc));
+    let mut folder = empty(alloc);
+    logs_in(alloc, runs, &mut folder)
+}
+
+fn logs_in(alloc: Global, runs: &str, folder: &mut MemStore) -> Result<String> {
     let mut lines = Vec::new(alloc);
     for run in runs.split(" ; ") {
-        done(alloc, run, &mut store)?;
-        let root = store.bytes(0).len();
-        lines.extend_from_slice(format!(in alloc; "root {root}, logs")?.as_bytes())?;
-        push_lens(alloc, &store, &mut lines)?;
-        lines.push(b'\n')?;
+        answers(alloc, run, folder)?;
+        push_lens(alloc, folder, &mut lines)?;
     }
     shown::lines(alloc, &lines)
 }
 
-// Appends the lengths of the first generations' logs.
-fn push_lens(alloc: Global, store: &MemStore, lines: &mut Vec<u8>) -> Result<()> {
+// Appends the lengths of the root and the first generations' logs.
+fn push_lens(alloc: Global, folder: &MemStore, lines: &mut Vec<u8>) -> Result<()> {
+    let root = folder.bytes(0).len();
+    lines.extend_from_slice(format!(in alloc; "root {root}, logs")?.as_bytes())?;
     for file in FIRST_LOG..FIRST_LOG + GENERATIONS {
-        let log = store.bytes(file).len();
+        let log = folder.bytes(file).len();
         lines.extend_from_slice(format!(in alloc; " {log}")?.as_bytes())?;
     }
+    lines.push(b'\n')?;
     Ok(())
 }
 
@@ -48,37 +52,40 @@ fn push_lens(alloc: Global, store: &MemStore, lines: &mut Vec<u8>) -> Result<()>
 /// what the probe in front of ` : ` is answered.
 pub fn loading(alloc: Global, arguments: &str) -> Result<String> {
     let (probe, run) = arguments.split_once(" : ").context("no run")?;
-    let mut folder = MemStore::new(alloc, Vec::new(alloc));
-    done(alloc, run, &mut folder)?;
-    let state = done(alloc, probe, &mut folder.image(0)?)?;
+    let mut folder = empty(alloc);
+    loading_of(alloc, probe, run, &mut folder)
+}
+
+fn loading_of(alloc: Global, probe: &str, run: &str, folder: &mut MemStore) -> Result<String> {
+    answers(alloc, run, folder)?;
+    let state = answers_on_image(alloc, probe, folder, 0)?;
     for call in 0..MAX_CALLS {
-        let mut store = folder.image(0)?;
-        store.fail_from(call);
-        let (exit, _) = outcome(alloc, b"", &mut store)?;
-        check_images(alloc, probe, &store, &state)?;
-        if exit == Exit::Done {
+        if !fails(alloc, probe, folder, &state, call)? {
             return Ok(format!(in alloc; "{call} calls")?);
         }
     }
     None.context("too many calls")
 }
 
-// It is an error that the probe is answered something else over an image of the store.
-fn check_images(alloc: Global, probe: &str, store: &MemStore, state: &[u8]) -> Result<()> {
+// What is answered on one of the folders that a crash may leave.
+fn answers_on_image(alloc: Global, text: &str, folder: &MemStore, pick: u64) -> Result<Vec<u8>> {
+    let mut image = image(folder, pick)?;
+    answers(alloc, text, &mut image)
+}
+
+// Whether loading makes the call, from which on the store fails.
+fn fails(alloc: Global, probe: &str, folder: &MemStore, state: &[u8], call: u64) -> Result<bool> {
+    let mut store = image(folder, 0)?;
+    store.fail_from(call);
+    fails_in(alloc, probe, state, &mut store)
+}
+
+fn fails_in(alloc: Global, probe: &str, state: &[u8], store: &mut MemStore) -> Result<bool> {
+    let (exit, _) = outcome(alloc, &FOLDER, b"", usize::MAX, store)?;
     for pick in 0..IMAGES {
-        if done(alloc, probe, &mut store.image(pick)?)?.as_slice() != state {
+        if answers_on_image(alloc, probe, store, pick)?.as_slice() != state {
             return None.context("another state");
         }
     }
-    Ok(())
-}
-
-// The answers of a run that is done.
-fn done(alloc: Global, run: &str, store: &mut MemStore) -> Result<Vec<u8>> {
-    let script = script::bytes(alloc, run)?;
-    let (exit, answers) = outcome(alloc, &script, store)?;
-    if exit != Exit::Done {
-        return None.context("a run isn't done");
-    }
-    Ok(answers)
+    Ok(exit != Exit::Done)
 }

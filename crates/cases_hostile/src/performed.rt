@@ -23,33 +23,39 @@ pub struct Performed {
 
 impl Performed {
     pub fn read(alloc: Global, worked: &Worked, answers: &[u8]) -> Result<Performed> {
-        let (mut script, mut kept) = (Vec::new(alloc), Vec::new(alloc));
-        let (mut refused, mut lines_left) = (0u64, 0u64);
+        let answers = str::from_utf8(answers)?;
+        let mut performed = Performed {
+            script: Vec::new(alloc),
+            answers: Vec::new(alloc),
+            refused: 0,
+            longer: Vec::new(alloc),
+        };
+        performed.take(worked, answers)?;
+        Ok(performed)
+    }
+
+    fn take(&mut self, worked: &Worked, answers: &str) -> Result<()> {
+        let mut lines_left = 0u64;
         let mut commands = worked.commands.iter();
-        for line in str::from_utf8(answers)?.split_inclusive('\n') {
+        for line in answers.split_inclusive('\n') {
             if lines_left > 0 {
                 lines_left = lines_left.saturating_sub(1);
             } else {
                 let command = commands.next().context("more answers than commands")?;
                 if line == FAULT {
-                    refused = refused.saturating_add(1);
+                    self.refused = self.refused.saturating_add(1);
                     continue;
                 }
-                script.extend_from_slice(command)?;
+                self.script.extend_from_slice(command)?;
                 lines_left = lines_behind(line.trim_end())?;
             }
-            kept.extend_from_slice(line.as_bytes())?;
+            self.answers.extend_from_slice(line.as_bytes())?;
         }
-        let mut longer = Vec::from_slice(alloc, &script)?;
+        self.longer.extend_from_slice(&self.script)?;
         if let Some(next) = commands.next() {
-            longer.extend_from_slice(next)?;
+            self.longer.extend_from_slice(next)?;
         }
-        Ok(Performed {
-            script,
-            answers: kept,
-            refused,
-            longer,
-        })
+        Ok(())
     }
 }
 

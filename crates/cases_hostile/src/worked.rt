@@ -16,14 +16,9 @@ impl Worked {
     /// The probe stands in front of ` : `, and behind it the commands, with ` ; ` between them.
     pub fn read(alloc: Global, arguments: &str) -> Result<Worked> {
         let (probe, texts) = arguments.split_once(" : ").context("no commands")?;
-        let mut commands = Vec::new(alloc);
-        for text in texts.split(" ; ") {
-            commands.push(script::bytes(alloc, text)?)?;
-        }
-        Ok(Worked {
-            probe: script::bytes(alloc, probe)?,
-            commands,
-        })
+        let commands = commands_of(alloc, texts)?;
+        let probe = script::bytes(alloc, probe)?;
+        Ok(Worked { probe, commands })
     }
 
     /// The whole script.
@@ -34,4 +29,12 @@ impl Worked {
         }
         Ok(script)
     }
+}
+
+fn commands_of(alloc: Global, texts: &str) -> Result<Vec<Vec<u8>>> {
+    let mut commands = Vec::new(alloc);
+    for text in texts.split(" ; ") {
+        commands.push(script::bytes(alloc, text)?)?;
+    }
+    Ok(commands)
 }

@@ -1,4 +1,4 @@
-//! The commands of a case. None of them is refused: where the name that is drawn for a fetch stands for no
+//! Commands that are drawn. None of them is refused: where the name that is drawn for a fetch stands for no
 //! plan, a run takes its place; and a job that isn't open is opened, and else stepped, closed or dropped.
 
 use crate::meant::{Meant, Rows};
@@ -61,10 +61,7 @@ struct Maker {
 /// So many commands, drawn from the seed.
 pub fn commands_of(alloc: Global, seed: u64, count: u64) -> Result<Made> {
     let mut maker = Maker::new(alloc, seed);
-    let mut commands = Vec::new(alloc);
-    for _ in 0..count {
-        commands.push(maker.command()?)?;
-    }
+    let commands = maker.commands(count)?;
     Ok(Made {
         commands,
         rows: maker.rows,
@@ -83,6 +80,14 @@ impl Maker {
             names: [None; NAME_COUNT as usize],
             jobs: [None; JOB_COUNT as usize],
         }
+    }
+
+    fn commands(&mut self, count: u64) -> Result<Vec<Command>> {
+        let mut commands = Vec::new(self.alloc);
+        for _ in 0..count {
+            commands.push(self.command()?)?;
+        }
+        Ok(commands)
     }
 
     fn command(&mut self) -> Result<Command> {

@@ -1,4 +1,4 @@
-//! The streams and the plans.
+//! The streams and the plans of drawn commands.
 
 /// The commands that make the streams.
 pub const STREAMS: &str = "stream s (k:int, v:int)\nstream t (j:int, w:text)\n";

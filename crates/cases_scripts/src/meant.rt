@@ -2,7 +2,7 @@
 
 use crate::plans::plan;
 use anyhow::Result;
-use postfix_plans::{plan_of, rows_of, streams_of, typed};
+use postfix_plans::{Streams, plan_of, rows_of, streams_of, typed};
 use std::alloc::Global;
 
 /// The row lines of each stream, with their LFs.
@@ -29,8 +29,12 @@ pub fn rows_meant(alloc: Global, meant: Meant, rows: &Rows) -> Result<String> {
 }
 
 fn evaluated(alloc: Global, plan: &str, streams: &str) -> Result<String> {
-    let plan = plan_of(alloc, plan)?;
     let streams = streams_of(alloc, streams)?;
+    evaluated_over(alloc, plan, &streams)
+}
+
+fn evaluated_over(alloc: Global, plan: &str, streams: &Streams) -> Result<String> {
+    let plan = plan_of(alloc, plan)?;
     let typed = typed(alloc, plan, &streams.schemas)?;
-    rows_of(alloc, &typed, &streams)
+    rows_of(alloc, &typed, streams)
 }

@@ -1,4 +1,4 @@
-//! The answers beside what is meant.
+//! The answers to drawn commands beside what is meant.
 
 use crate::making::{Awaited, Command, Made};
 use crate::meant::{Meant, Rows, rows_meant};
