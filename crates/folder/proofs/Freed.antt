@@ -18,7 +18,7 @@ use Rattle.folder.specs.Unnamed.{HasRoot, IsLogOrUnnamed, ChangesUnnamed, Change
 use Rattle.folder.specs.declared.folder.Folder.{Folder}
 use Rattle.folder.proofs.Crash.{left_of_since, since_then_first}
 use Rattle.folder.proofs.JournalLemmas.{none_of_unfinished}
-use Rattle.folder.proofs.Strays.{logs_or_unnamed, strays_alone, strays_stay, then_strays}
+use Rattle.folder.proofs.UnnamedFiles.{logs_or_unnamed, strays_alone, strays_stay, then_strays}
 
 -- a folder without a root has no body
 pub short_of_unfinished : (files : ℕ → List ℕ) → IsUnfinished (files 0) → HaveShortLog files

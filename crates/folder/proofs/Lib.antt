@@ -25,8 +25,8 @@ pub mod Searching
 pub mod SpelledLogs
 pub mod Staying
 pub mod Steps
-pub mod Strays
 pub mod Tables
+pub mod UnnamedFiles
 pub mod Unread
 pub mod ValidLists
 pub mod Whole

@@ -13,7 +13,7 @@ use Rattle.folder.specs.declared.refusal.LoadRefusal.{LoadRefusal}
 use Rattle.folder.specs.declared.refusal.LoadRefusal.TheVariants as refusal
 use Rattle.folder.specs.Unnamed.{IsUnnamed, ChangesUnnamed}
 use Rattle.folder.proofs.Narrowing.{left_narrowed}
-use Rattle.folder.proofs.Strays.{unnamed_narrowed}
+use Rattle.folder.proofs.UnnamedFiles.{unnamed_narrowed}
 use Rattle.nectar_top.specs.Crash.{Found}
 use Rattle.nectar_top.specs.Loading.{exit_of}
 use Rattle.nectar_top.specs.Run.{IsUnloaded}

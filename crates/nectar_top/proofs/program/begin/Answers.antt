@@ -5,7 +5,7 @@ use Rattle.session.specs.Standing.{Stands, HoldsJobs}
 use Rattle.nectar_top.proofs.LoadingLemmas.{goes_on, again, ends_again}
 use Rattle.nectar_top.proofs.ProgressLemmas.{Progress-new}
 use Rattle.nectar_top.proofs.TurnLemmas.{Serving-new}
-use Rattle.folder.proofs.Strays.{unnamed_narrowed}
+use Rattle.folder.proofs.UnnamedFiles.{unnamed_narrowed}
 use Rattle.outside_traits.proofs.RunLemmas.{narrows_none}
 use Rattle.nectar_top.proofs.program.begin.Goals as goal
 

@@ -1,6 +1,6 @@
 use Rattle.std.proofs.Common.{◌∙◌}
 use Rattle.outside_traits.proofs.RunLemmas.{idles_narrow, narrows_on}
-use Rattle.folder.proofs.Strays.{unnamed_narrowed}
+use Rattle.folder.proofs.UnnamedFiles.{unnamed_narrowed}
 use Rattle.nectar_top.proofs.LoadingLemmas.{finished_behind, left_attached, since_attached, unloaded_attached, unloaded_since, stops_before, stops_behind, refusal_is, exit_is, loaded_not_stopped}
 use Rattle.nectar_top.proofs.program.load_folder.Goals as goal
 

@@ -1,7 +1,7 @@
 use Rattle.std.proofs.Common.{sym, subst}
 use Rattle.folder.specs.Unnamed.{named_in}
 use Rattle.std.specs.List.Sorted.{IsPermutation}
-use Rattle.folder.proofs.Strays.{strays_alike, gone_alike}
+use Rattle.folder.proofs.UnnamedFiles.{strays_alike, gone_alike}
 use Rattle.folder.proofs.folder.Folder.free_unnamed.Goals as goal
 
 pub returns-in-Ok-remove_strays-clause-alone : goal.returns-in-Ok-remove_strays-clause-alone

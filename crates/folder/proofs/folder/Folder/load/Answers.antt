@@ -8,7 +8,7 @@ use Rattle.folder.proofs.Freed.{short_of_unfinished, had_none, gone_before, free
 use Rattle.folder.proofs.Going.{err_same}
 use Rattle.folder.proofs.Loading.{reads_or_stops, stop_once}
 use Rattle.folder.proofs.LoadLemmas.{taken_of}
-use Rattle.folder.proofs.Strays.{logs_or_unnamed, strays_mean, strays_stand, strays_use, unnamed_narrowed}
+use Rattle.folder.proofs.UnnamedFiles.{logs_or_unnamed, strays_mean, strays_stand, strays_use, unnamed_narrowed}
 use Rattle.folder.proofs.folder.Folder.load.Goals as goal
 
 -- ---- the logs weren't loaded
