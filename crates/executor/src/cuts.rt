@@ -15,7 +15,7 @@ pub(crate) fn added_cuts(alloc: Global, old: &[Cut], new: &[Cut]) -> Result<Vec<
 }
 
 // Puts them behind others.
-#[tactic(auto, using(crate::proofs::Joined::of_joined))]
+#[tactic(auto, using(crate::proofs::JoinedPieces::of_joined))]
 fn put_added(old: &[Cut], new: &[Cut], to: &mut Vec<Cut>) -> Result<(), Memory>
     ensures { OnOk result (to.new.items ≡ to.old.items ++ added_cuts old.now new.now) }
 {

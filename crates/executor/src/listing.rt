@@ -24,7 +24,7 @@ pub fn pieces(alloc: Global, tree: &Rewriting) -> Result<Vec<Piece>, Memory>
 
 // Puts the pieces of a rewriting behind the others.
 #[cycle(pieces)]
-#[tactic(auto, using(crate::proofs::Joined::of_joined))]
+#[tactic(auto, using(crate::proofs::JoinedPieces::of_joined))]
 fn put_rewriting(alloc: Global, tree: &Rewriting, to: &mut Vec<Piece>) -> Result<(), Memory>
     ensures { OnOk result
         (pieces_said to.new.items ≡ pieces_said to.old.items ++ pieces_of (rewriting_of tree.now)) }
@@ -49,7 +49,7 @@ fn put_rewriting(alloc: Global, tree: &Rewriting, to: &mut Vec<Piece>) -> Result
 
 // Puts the pieces of a grown result that are read behind its kept one behind the others.
 #[cycle(pieces)]
-#[tactic(auto, using(crate::proofs::Joined::of_joined))]
+#[tactic(auto, using(crate::proofs::JoinedPieces::of_joined))]
 fn put_parts(alloc: Global, parts: &Parts, to: &mut Vec<Piece>) -> Result<(), Memory>
     ensures { (plan : PlainPlan) (hit : Hit) → OnOk result (pieces_said to.new.items
         ≡ pieces_said to.old.items ++ drop 1 (pieces_in plan (grown_way hit parts.now))) }
@@ -80,7 +80,7 @@ fn put_parts(alloc: Global, parts: &Parts, to: &mut Vec<Piece>) -> Result<(), Me
 
 // Puts the pieces of a delta behind the others.
 #[cycle(pieces)]
-#[tactic(auto, using(crate::proofs::Joined::of_joined))]
+#[tactic(auto, using(crate::proofs::JoinedPieces::of_joined))]
 fn put_delta(alloc: Global, delta: &Delta, to: &mut Vec<Piece>) -> Result<(), Memory>
     ensures { OnOk result
         (pieces_said to.new.items ≡ pieces_said to.old.items ++ pieces_of_delta (delta_of delta.now)) }

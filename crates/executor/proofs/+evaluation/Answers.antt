@@ -13,7 +13,7 @@ use Rattle.executor.proofs.GrownArms as grown
 use Rattle.executor.proofs.RewritingArms as ways
 use Rattle.executor.proofs.Sizes.{way_size, delta_way_size}
 use Rattle.executor.proofs.TakenPieces as taken
-use Rattle.executor.proofs.+executor.Goals as goal
+use Rattle.executor.proofs.+evaluation.Goals as goal
 
 -- ---- a delta
 

@@ -2,7 +2,7 @@
 use Rattle.std.proofs.Common.{◌+◌, ◌*◌}
 use Rattle.rewrite_core.specs.PlainRewriting.{rewriting_of, way_of, grown_way, delta_of, delta_way_of}
 use Rattle.executor.proofs.Sizes.{size_of, way_size, delta_size, delta_way_size}
-use Rattle.executor.proofs.+executor.Given as goal
+use Rattle.executor.proofs.+evaluation.Given as goal
 
 abbrev pub decreases-rewritings::made : goal.decreases-rewritings::made
 decreases-rewritings::made l = 2 * size_of (rewriting_of l.r.now) + 1
