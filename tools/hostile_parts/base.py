@@ -3,6 +3,8 @@
 import os
 import shutil
 import subprocess
+import threading
+from concurrent.futures import ThreadPoolExecutor
 
 PROGRAM = os.environ["HOSTILE_PROGRAM"]
 WORK = os.environ["HOSTILE_WORK"]
@@ -28,11 +30,22 @@ SCRIPT = "".join(COMMANDS).encode()
 LATER = b'append orders\n7,"jug",3\nend\nrun totals = from orders | group item with n = sum(qty)\ncollect 40\nfetch totals\n'
 
 
+def own(name):
+    """A path of this thread's own."""
+    return f"{WORK}/{name}-{threading.get_ident()}"
+
+
 def folder(name):
-    """The path of a folder that isn't there."""
-    path = f"{WORK}/{name}"
+    """The path of a folder that isn't there, of this thread's own."""
+    path = own(name)
     shutil.rmtree(path, ignore_errors=True)
     return path
+
+
+def of_each(what, items):
+    """What comes of each, several at a time."""
+    with ThreadPoolExecutor(os.cpu_count()) as pool:
+        return list(pool.map(what, items))
 
 
 def copy_of(path, name):

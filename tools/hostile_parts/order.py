@@ -39,10 +39,11 @@ class Order:
             self.stands("an answer")
             if self.short:
                 self.fault("an answer behind a read that came short and wasn't gone on with")
-        elif call.name == "flock" and call.value == 0 and path == self.folder:
+        elif call.name == "flock" and call.value == 0 and path == self.folder and "LOCK_EX" in call.words[1]:
             self.lock = call.words[0]
         elif call.name == "close" and call.words[0] == self.lock:
             self.lock = None
+            self.folders.add(self.folder)  # whoever attaches it next is to sync its name anew
         elif call.name == "mkdir" and call.value == 0:
             self.folders.add(path)
         elif call.name in ("fsync", "fdatasync") and call.value == 0:
@@ -92,20 +93,37 @@ def faults_of(folder, calls):
     return order.faults
 
 
+def syncs_of(folder, calls):
+    """Of each file that is written, of the folder where a name is made, and of the folder above: the places of its syncs."""
+    files, written, syncs = trace.Files(), set(), {}
+    for place, call in enumerate(calls):
+        path = files.take(call)
+        if call.name in ("pwrite64", "ftruncate"):
+            written.add(path)
+        elif call.name == "openat" and "O_CREAT" in call.words[2]:
+            written.add(folder)
+        elif call.name == "fsync":
+            syncs.setdefault(path, set()).add(place)
+    above = os.path.dirname(folder)
+    return {path: places for path, places in syncs.items() if path in written or os.path.normpath(path) == above}
+
+
 def order():
     """The worked script on a new folder and on one that is there, and the second script on one with a long log."""
-    path = base.folder("ordered/with/parents")
-    base.shutil.rmtree(f"{base.WORK}/ordered", ignore_errors=True)
+    path = base.folder("ordered") + "/with/parents"
     again = base.copy_of(base.long_folder(), "ordered-again")
-    gates = answers = 0
+    gates = answers = left_out = 0
     for folder, script in ((path, base.SCRIPT), (path, base.LATER), (again, base.LATER)):
         given, calls = trace.traced(folder, script)
         assert given.returncode == 0, given.stderr
         faults = faults_of(folder, calls)
         assert not faults, f"order: {faults}"
+        for of, places in syncs_of(folder, calls).items():
+            assert faults_of(folder, [call for place, call in enumerate(calls) if place not in places]), f"order: the syncs of {of} may be left out"
+            left_out += 1
         files = trace.Files()
         for call in calls:
             number = trace.number_of(folder, files.take(call) or "")
             gates += number is not None and trace.opens_a_gate(number, call)
             answers += trace.answers(call)
-    print(f"order: {gates} gates opened and {answers} writes of answers, each behind the syncs of all that it stands on")
+    print(f"order: {gates} gates opened and {answers} writes of answers, each behind the syncs of all that it stands on; without the syncs of any one of {left_out} files and folders that is told")

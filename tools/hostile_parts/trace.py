@@ -49,7 +49,7 @@ def calls_on(file, path):
 
 def traced(path, script, more=()):
     """A run, and its calls."""
-    to = f"{base.WORK}/trace"
+    to = base.own("trace")
     given = base.run(path, script, traced_words(to, more))
     calls = calls_on(to, path)
     os.remove(to)

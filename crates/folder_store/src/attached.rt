@@ -69,7 +69,7 @@ fn make_folders<R: AllocGlobal + Files<File = File>>(runtime: &R, path: &str) ->
 
 // Makes a folder, if it is missing. Its name is stable then.
 fn make_folder<R: AllocGlobal + Files<File = File>>(runtime: &R, path: &str) -> io::Result<()> {
-    match fs::create_dir(runtime, path) {
+    match uninterrupted(|| fs::create_dir(runtime, path)) {
         Ok(()) => sync_name(runtime, path),
         Err(_) if is_folder(runtime, path) => sync_name_that_was_there(runtime, path),
         Err(error) => Err(error),

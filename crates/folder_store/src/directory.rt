@@ -6,7 +6,7 @@ use crate::attached::Attached;
 use crate::patience::uninterrupted;
 use crate::regular::{Access, find_regular, make_regular, open_regular};
 use itoa::Buffer;
-use std::fs::{DirEntry, File, ReadDir};
+use std::fs::{DirEntry, File};
 use std::io::ErrorKind;
 use std::os::unix::fs::FileExt;
 use std::rt::Files;
@@ -230,7 +230,7 @@ impl<R: AllocGlobal + Files<File = File> + Clone + Drop> Folder<'_, R> {
         let Some(attached) = &self.attached else {
             return Err(no_folder());
         };
-        let numbers = numbers_in(self.runtime, attached.path())?;
+        let numbers = uninterrupted(|| numbers_in(self.runtime, attached.path()))?;
         let next = at_or_above(&numbers, from);
         self.numbers = Some(numbers);
         Ok(next)
@@ -243,27 +243,13 @@ fn numbers_in<R: AllocGlobal + Files<File = File> + Clone + Drop>(
     folder: &str,
 ) -> io::Result<Vec<u64>> {
     let mut numbers = Vec::new(runtime.alloc());
-    for entry in entries_of(runtime, folder)? {
+    for entry in fs::read_dir(runtime, folder)? {
         if let Some(number) = number_of_entry(entry)? {
             numbers.push(number)?;
         }
     }
     numbers.sort_unstable();
     Ok(numbers)
-}
-
-// The entries of a folder. Opening it is tried again as long as a signal interrupts it.
-fn entries_of<R: AllocGlobal + Files<File = File> + Clone + Drop>(
-    runtime: &R,
-    folder: &str,
-) -> io::Result<ReadDir<R>> {
-    for _ in 0..u64::MAX {
-        match fs::read_dir(runtime, folder) {
-            Err(error) if error.kind() == ErrorKind::Interrupted => {}
-            done => return done,
-        }
-    }
-    Err(io::Error::from(ErrorKind::Interrupted))
 }
 
 // The number of the regular file of an entry. None for a name that isn't UTF-8, another name, a link and a

@@ -1,7 +1,8 @@
 //! The store over a real folder.
-ghost use Rattle.std.specs.Prelude.{◌≡◌, ◌≤◌, false, refl, IfOk, IfErr, OnOk, OnErr, Some};
+ghost use Rattle.std.specs.Prelude.{◌≡◌, ◌≤◌, false, refl, IfOk, IfErr, OnOk, OnErr, Some, None};
 ghost use Rattle.outside_traits.specs.Counts.{Rose};
 ghost use Rattle.outside_traits.specs.View.{untold};
+ghost use Rattle.folder_store.specs.Failures.{NeverFailed};
 
 use crate::directory::Folder;
 use outside_traits::{Failed, Store};
@@ -19,6 +20,7 @@ pub struct FolderStore<'a, R> {
     taken: u64,
     /// Why the last call failed that did.
     failure: Option<io::Error>,
+    ghost told: { failure ≡ None → (read_faults ≡ 0) × (write_faults ≡ 0) × (remove_faults ≡ 0) },
 }
 
 impl<'a, R: AllocGlobal + Files<File = File>> FolderStore<'a, R> {
@@ -35,9 +37,11 @@ impl<'a, R: AllocGlobal + Files<File = File>> FolderStore<'a, R> {
     }
 }
 
-impl<R> FolderStore<'_, R> {
-    /// Why the last call failed that did. None where none has failed.
-    pub fn failure(&self) -> Option<io::Error> {
+impl<'a, R: AllocGlobal + Files<File = File> + Clone + Drop> FolderStore<'a, R> {
+    /// Why the last call failed that did. None only where none has failed.
+    pub fn failure(&self) -> Option<io::Error>
+        ensures none { result ≡ None → NeverFailed (⟦<FolderStore<'a, R> as Store>⟧.counts self.now) }
+    {
         self.failure
     }
 }
@@ -112,6 +116,7 @@ fn counted<T: Drop>(
     ensures no_fault { OnOk result (faults.new ≡ faults.old) }
     ensures counts { faults.old ≤ faults.new }
     ensures told { IfErr done (λ error. failure.new ≡ Some error) }
+    ensures untold { OnOk result (failure.new ≡ failure.old) }
 {
     match done {
         Ok(value) => Ok(value),
