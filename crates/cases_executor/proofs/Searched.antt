@@ -15,7 +15,7 @@ use Rattle.rewrite_core.specs.PlainRewriting.{PlainRewriting, Node, rewriting_of
 use Rattle.rewrite_core.specs.declared.rewriting.Rewriting.{Rewriting}
 use Rattle.growth_laws.specs.Parts.{plan_at, cuts_at}
 use Rattle.growth_laws.specs.There.{IsThere}
-use Rattle.evaluation.specs.Parts.{IsFormed}
+use Rattle.executor.specs.Parts.{IsFormed}
 use Rattle.cases_executor.specs.Filed.{counts_of, HasFile, IsFiled, CanRun}
 use Rattle.cases_executor.specs.declared.shelf.KeptFile.{KeptFile}
 use Rattle.cases_executor.specs.declared.shelf.Shelf.{Shelf}

@@ -8,9 +8,9 @@ use Rattle.rewrite_core.specs.Entries.{Entry}
 use Rattle.rewrite_core.specs.Files.{FileName, Extent, Result, files_of}
 use Rattle.rewrite_core.specs.PlainRewriting.{rewriting_of}
 use Rattle.rewrite_core.specs.declared.rewriting.Rewriting.{Rewriting}
-use Rattle.rewriting_pieces.specs.Pieces.{HasTyping}
+use Rattle.executor.specs.Pieces.{HasTyping}
 use Rattle.growth_laws.specs.There.{ExtentCounts}
-use Rattle.evaluation.specs.Parts.{IsFormed}
+use Rattle.executor.specs.Parts.{IsFormed}
 use Rattle.cases_executor.specs.declared.shelf.KeptFile.{KeptFile}
 use Rattle.cases_executor.specs.declared.shelf.Shelf.{Shelf}
 

@@ -4,9 +4,10 @@
 use crate::reader::Reader;
 use crate::table::Stream;
 use anyhow::Result;
+use plan_binder::bind;
 use plan_core::{Plan, Schemas, type_plan};
 use plan_spelling::unspell;
-use plan_text::{bind, parse_plan, print_plan};
+use plan_text::{parse_plan, print_plan};
 use rows_core::{Column, Kind, Name, Schema, Seq};
 use std::alloc::Global;
 
@@ -17,7 +18,7 @@ struct NamedStream {
     schema: Schema,
 }
 
-impl plan_text::Stream for NamedStream {
+impl plan_binder::Stream for NamedStream {
     ghost name_of = { λ stream. stream.name };
 
     ghost columns_of = { λ stream. stream.schema };

@@ -3,8 +3,9 @@
 
 use crate::texts::refused;
 use anyhow::Result;
+use plan_binder::{BindRefusal, Stream, bind as bind_plan};
 use plan_core::{Plan, PlanRefusal, Schemas, type_plan};
-use plan_text::{BindRefusal, NamedPlan, Stream, bind as bind_plan, parse_plan};
+use plan_text::{NamedPlan, parse_plan};
 use rows_core::{Column, Kind, Name, Schema, Seq};
 use std::alloc::Global;
 

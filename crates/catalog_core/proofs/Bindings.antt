@@ -7,8 +7,8 @@ use Rattle.std.specs.Option.{option_map, option_and_then}
 use Rattle.rows_core.specs.declared.schema.Column.{Column}
 use Rattle.plan_core.specs.ExpressionKind.{of_both}
 use Rattle.plan_core.specs.PlainPlan.{PlainPlan}
-use Rattle.plan_grammar.specs.PlainNamed as named
-use Rattle.plan_grammar.specs.PlainNamed.{PlainTree, From, Where, Select, streams_of}
+use Rattle.plan_text.specs.PlainNamed as named
+use Rattle.plan_text.specs.PlainNamed.{PlainTree, From, Where, Select, streams_of}
 use Rattle.plan_binder.specs.Binding.{Names, binding, is_there, absent_stream, present_or, plan_or_ill_typed, bound_tree, bound_from, bound_scan, bound_where, bound_select, bound_distinct, bound_group, bound_join, bound_concat, bound_order}
 use Rattle.catalog_core.proofs.Typings.{sides, there_still}
 

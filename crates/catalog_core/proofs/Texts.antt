@@ -4,12 +4,12 @@ use Rattle.plan_core.specs.PlainPlan.{PlainPlan, leaves}
 use Rattle.plan_core.specs.TypedPlan.{TypedPlan}
 use Rattle.catalog_types.specs.declared.program.Program.{Program}
 use Rattle.plan_core.specs.PlanTyping.{Kinds, plan_typing}
-use Rattle.plan_grammar.specs.declared.limit.PlanLimit.{PlanLimit}
-use Rattle.plan_grammar.specs.declared.limit.PlanLimit.TheVariants as limit
-use Rattle.plan_grammar.specs.Counts.{IsFirstPassed, IsWithinLimits}
-use Rattle.plan_grammar.specs.PlainNamed.{PlainTree}
-use Rattle.plan_grammar.specs.Spelled.{SpellsText}
-use Rattle.plan_printer.specs.Canonical.{canonical_text}
+use Rattle.plan_text.specs.declared.limit.PlanLimit.{PlanLimit}
+use Rattle.plan_text.specs.declared.limit.PlanLimit.TheVariants as limit
+use Rattle.plan_text.specs.Counts.{IsFirstPassed, IsWithinLimits}
+use Rattle.plan_text.specs.PlainNamed.{PlainTree}
+use Rattle.plan_text.specs.Spelled.{SpellsText}
+use Rattle.plan_text.specs.Canonical.{canonical_text}
 use Rattle.plan_binder.specs.Binding.{binding}
 use Rattle.catalog_types.specs.declared.snapshot.StreamState.{StreamState}
 use Rattle.catalog_core.specs.Programs.{names_of, columns_of, kinds_of_streams, IsCanonical, IsPlanOf, AreCuts, IsProgram}

@@ -10,10 +10,10 @@ use Rattle.rows_core.specs.declared.schema.Column.{Column}
 use Rattle.rows_core.specs.Schema.{kinds_of}
 use Rattle.plan_core.specs.PlainPlan.{PlainPlan, leaves}
 use Rattle.plan_core.specs.PlanTyping.{Kinds, plan_typing}
-use Rattle.plan_grammar.specs.PlainNamed.{PlainTree}
-use Rattle.plan_grammar.specs.Counts.{IsWithinLimits}
-use Rattle.plan_grammar.specs.Spelled.{SpellsText}
-use Rattle.plan_printer.specs.Canonical.{canonical_text}
+use Rattle.plan_text.specs.PlainNamed.{PlainTree}
+use Rattle.plan_text.specs.Counts.{IsWithinLimits}
+use Rattle.plan_text.specs.Spelled.{SpellsText}
+use Rattle.plan_text.specs.Canonical.{canonical_text}
 use Rattle.plan_binder.specs.Binding.{binding}
 use Rattle.catalog_types.specs.declared.extent.Extent.{Extent}
 use Rattle.catalog_types.specs.declared.program.Program.{Program}

@@ -3,8 +3,8 @@ ghost use Rattle.std.specs.Prelude.{◌≡◌, ◌↔◌, Ok, IfOk, IfSome, IfNo
 ghost use Rattle.plan_core.specs.PlainPlan.{PlainPlan, leaves, plan_of};
 ghost use Rattle.plan_core.specs.PlanTyping.{Kinds, plan_typing};
 ghost use Rattle.plan_core.specs.TypedPlan.{IsTypedOver};
-ghost use Rattle.plan_grammar.specs.PlainNamed.{PlainTree};
-ghost use Rattle.plan_printer.specs.Canonical.{canonical_text};
+ghost use Rattle.plan_text.specs.PlainNamed.{PlainTree};
+ghost use Rattle.plan_text.specs.Canonical.{canonical_text};
 ghost use Rattle.plan_binder.specs.Binding.{Binds, binding};
 ghost use Rattle.catalog_core.specs.Programs.{names_of, columns_of, kinds_of_streams, extents_at};
 ghost use Rattle.catalog_core.specs.Programs.{IsCanonical, IsPlanOf, IsCut, AreCuts, IsProgram};
@@ -13,10 +13,9 @@ ghost use Rattle.catalog_core.specs.Streams.{states_of};
 use crate::extents::extents_at;
 use crate::stream::CatalogStream;
 use catalog_types::Program;
+use plan_binder::{BindRefusal, Stream, bind};
 use plan_core::{Plan, PlanRefusal, Schemas, Typed, type_plan};
-use plan_text::{
-    BindRefusal, NamedPlan, Stream, TextRefusal, bind, parse_plan, plan_laws, print_plan,
-};
+use plan_text::{NamedPlan, TextRefusal, parse_plan, plan_laws, print_plan};
 use rows_core::{Cut, Memory};
 use std::alloc::Global;
 

@@ -12,8 +12,8 @@ use crate::schemas::kinds_of;
 use crate::stream::CatalogStream;
 use catalog_types::{Entry, StreamState};
 use indexmap::IndexSet;
+use plan_binder::Stream;
 use plan_core::Schemas;
-use plan_text::Stream;
 use rows_core::{Memory, Name, Seq};
 use std::alloc::Global;
 

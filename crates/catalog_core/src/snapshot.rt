@@ -4,7 +4,7 @@ ghost use Rattle.catalog_core.specs.Streams.{state_of, states_of};
 
 use crate::stream::CatalogStream;
 use catalog_types::StreamState;
-use plan_text::Stream;
+use plan_binder::Stream;
 use rows_core::{Memory, Seq, copy_columns};
 use std::alloc::Global;
 

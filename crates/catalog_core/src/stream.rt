@@ -8,7 +8,7 @@ ghost use Rattle.catalog_core.specs.Results.{extent_digests};
 
 use catalog_types::{Extent, StreamState};
 use fingerprints::{chain, chain_start};
-use plan_text::Stream;
+use plan_binder::Stream;
 use rows_core::{Digest, Memory, Name, Schema};
 use std::alloc::Global;
 

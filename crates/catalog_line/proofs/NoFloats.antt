@@ -5,7 +5,7 @@ use Rattle.serde_json.specs.Data.{Data}
 use Rattle.serde_json.specs.Written.{has_float}
 use Rattle.rows_core.specs.declared.cut.Cut.{Cut}
 use Rattle.plan_core.specs.PlainPlan.{leaves}
-use Rattle.plan_parser.specs.Answer.{text_reading}
+use Rattle.plan_text.specs.Answer.{text_reading}
 use Rattle.catalog_types.specs.PlainEntry.{PlainEntry}
 use Rattle.catalog_types.specs.declared.program.Program.{Program}
 use Rattle.catalog_types.specs.declared.snapshot.StreamState.{StreamState}

@@ -7,15 +7,15 @@ use Rattle.std.specs.Str.{IsUtf8}
 use Rattle.plan_core.specs.PlainPlan.{PlainPlan, leaves}
 use Rattle.plan_core.specs.PlanTyping.{Kinds, absent_stream, typed_or, present_or, plan_kinds, has_too_many, plan_typing}
 use Rattle.plan_core.specs.declared.refusal.PlanRefusal.TheVariants.{TooMany}
-use Rattle.plan_grammar.specs.declared.token.Token.{Token}
-use Rattle.plan_grammar.specs.PlainNamed.{PlainTree}
-use Rattle.plan_grammar.specs.TextTokens.{tokens_in}
-use Rattle.plan_grammar.proofs.TextTokenLaws.{tokens_are}
-use Rattle.plan_parser.specs.Answer.{TextReading, AsPlan, AsTooLarge, AsNone, tokens_reading, text_reading}
-use Rattle.plan_parser.specs.Draft.{limits}
-use Rattle.plan_parser.specs.PlanReading.{plan_at}
-use Rattle.plan_parser.proofs.Texts.{plan_texts}
-use Rattle.plan_parser.proofs.Whole.{plan_reading}
+use Rattle.plan_text.specs.declared.token.Token.{Token}
+use Rattle.plan_text.specs.PlainNamed.{PlainTree}
+use Rattle.plan_text.specs.TextTokens.{tokens_in}
+use Rattle.plan_text.proofs.TextTokenLaws.{tokens_are}
+use Rattle.plan_text.specs.Answer.{TextReading, AsPlan, AsTooLarge, AsNone, tokens_reading, text_reading}
+use Rattle.plan_text.specs.Draft.{limits}
+use Rattle.plan_text.specs.PlanReading.{plan_at}
+use Rattle.plan_text.proofs.Texts.{plan_texts}
+use Rattle.plan_text.proofs.Whole.{plan_reading}
 use Rattle.catalog_types.specs.PlainEntry.{PlainEntry}
 use Rattle.catalog_types.specs.declared.program.Program.{Program}
 use Rattle.catalog_types.specs.declared.snapshot.StreamState.{StreamState}

@@ -14,12 +14,12 @@ use Rattle.rows_core.specs.Kind.{kind_word}
 use Rattle.rows_core.specs.Name.{is_name, is_reserved, is_name_byte, begins_with_letter, IsName}
 use Rattle.rows_core.specs.declared.kind.Kind as the_kind
 use Rattle.rows_core.specs.declared.kind.Kind.TheVariants as kind
-use Rattle.plan_grammar.specs.declared.token.Token.{Token}
-use Rattle.plan_grammar.specs.declared.token.Token.TheVariants.{Text, Mark}
-use Rattle.plan_grammar.specs.declared.token.Mark as the_mark
-use Rattle.plan_grammar.specs.declared.token.Mark.TheVariants as mark
-use Rattle.plan_grammar.specs.Token.{ends_word, word_len, word_token, word_at, begins_with, begins_with_digit, with_equal, single_mark, mark_at, is_escaped, with_byte, text_behind, text_at, mark_token, token_at, IsToken, trimmed, AreTokens}
-use Rattle.plan_grammar.proofs.TextTokenLaws.{map_some}
+use Rattle.plan_text.specs.declared.token.Token.{Token}
+use Rattle.plan_text.specs.declared.token.Token.TheVariants.{Text, Mark}
+use Rattle.plan_text.specs.declared.token.Mark as the_mark
+use Rattle.plan_text.specs.declared.token.Mark.TheVariants as mark
+use Rattle.plan_text.specs.Token.{ends_word, word_len, word_token, word_at, begins_with, begins_with_digit, with_equal, single_mark, mark_at, is_escaped, with_byte, text_behind, text_at, mark_token, token_at, IsToken, trimmed, AreTokens}
+use Rattle.plan_text.proofs.TextTokenLaws.{map_some}
 
 -- ---- a text is put together, and cut, at an ASCII byte
 

@@ -11,8 +11,8 @@ use Rattle.rows_core.specs.declared.cut.Cut.{Cut}
 use Rattle.rows_core.specs.declared.file_ref.Digest.{Digest}
 use Rattle.rows_core.specs.declared.schema.Column.{Column}
 use Rattle.plan_core.specs.PlainPlan.{leaves}
-use Rattle.plan_grammar.specs.PlainNamed.{streams_of}
-use Rattle.plan_parser.specs.Answer.{TextReading, AsPlan, text_reading}
+use Rattle.plan_text.specs.PlainNamed.{streams_of}
+use Rattle.plan_text.specs.Answer.{TextReading, AsPlan, text_reading}
 use Rattle.catalog_types.specs.PlainEntry.{PlainEntry}
 use Rattle.catalog_types.specs.declared.program.Program.{Program}
 use Rattle.catalog_types.specs.declared.snapshot.StreamState.{StreamState}

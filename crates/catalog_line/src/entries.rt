@@ -12,7 +12,7 @@ use crate::object::Object;
 use crate::texts::digest_value;
 use catalog_core::CatalogStream;
 use catalog_types::Entry;
-use plan_text::Stream;
+use plan_binder::Stream;
 use rows_core::{Cut, Memory};
 use serde_json::Value;
 use std::alloc::Global;

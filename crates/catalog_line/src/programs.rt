@@ -2,7 +2,7 @@
 ghost use Rattle.std.specs.Prelude.{◌≡◌, IfOk};
 ghost use Rattle.std.specs.List.{AllByRecursion};
 ghost use Rattle.serde_json.specs.View.{view};
-ghost use Rattle.plan_parser.specs.Answer.{text_reading};
+ghost use Rattle.plan_text.specs.Answer.{text_reading};
 ghost use Rattle.catalog_line.specs.CatalogData.{list_of, cuts_data, leaf_names, program_data};
 ghost use Rattle.catalog_line.specs.Readable.{IsReadable};
 

@@ -7,7 +7,7 @@ ghost use Rattle.catalog_line.specs.CatalogData.{list_of, column_data, stream_da
 use crate::object::Object;
 use crate::texts::{name_value, text_value};
 use catalog_core::CatalogStream;
-use plan_text::Stream;
+use plan_binder::Stream;
 use rows_core::{Column, Memory};
 use serde_json::{Value, json};
 use std::alloc::Global;

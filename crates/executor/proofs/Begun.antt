@@ -12,12 +12,12 @@ use Rattle.growth_laws.specs.KeptResults.{KeptResults}
 use Rattle.growth_laws.specs.Lists.{Extents, extents_of, interval_rows}
 use Rattle.growth_laws.specs.Pieces.{Piece, Entry, Gathered, piece_files, gathered_files}
 use Rattle.gathering.specs.Gathered.{Gathers}
-use Rattle.rewriting_pieces.specs.Pieces.{IsPiece}
-use Rattle.rewriting_pieces.proofs.Typings.{kinds_there}
+use Rattle.executor.specs.Pieces.{IsPiece}
+use Rattle.executor.proofs.Typings.{kinds_there}
 use Rattle.executor.specs.declared.part.Part.{Part}
 use Rattle.executor.specs.declared.part.Part.TheVariants as part
 use Rattle.executor.specs.Beginning.{IsOnlyInterval, IsBegun}
-use Rattle.evaluation.specs.Loading.{IsFitLoad}
+use Rattle.executor.specs.Loading.{IsFitLoad}
 use Rattle.executor.specs.Progress.{Loaded, files_left, left_in, up_to, IsLoadOf, IsPartOf, ArePartsOf, HasRead, HaveRead}
 use Rattle.executor.proofs.ExtentRows.{first_rows}
 

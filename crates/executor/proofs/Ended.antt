@@ -18,9 +18,9 @@ use Rattle.result_ops.specs.Steps.{made_of, Makes}
 use Rattle.result_ops.specs.declared.made.Made.{Made}
 use Rattle.result_ops.specs.declared.refusal.MakeRefusal.{MakeRefusal}
 use Rattle.result_ops.specs.declared.refusal.MakeRefusal.TheVariants as refusal
-use Rattle.evaluation.specs.Passing.{Passes, IsWithin}
-use Rattle.evaluation.specs.Recording.{recorded_below, AreMade, AreRecorded}
-use Rattle.evaluation.specs.declared.recording.MadePlace.{MadePlace}
+use Rattle.executor.specs.Passing.{Passes, IsWithin}
+use Rattle.executor.specs.Recording.{recorded_below, AreMade, AreRecorded}
+use Rattle.executor.specs.declared.recording.MadePlace.{MadePlace}
 use Rattle.executor.specs.Outcomes.{IsMadeAt, IsAnyMadeAt, IsResultAt, ComesTo, AreSound, GivesRows, GivesOutcome, Finishes}
 use Rattle.executor.specs.declared.outcome.Outcome.{Outcome}
 use Rattle.executor.proofs.MadeResults.{kept_each}

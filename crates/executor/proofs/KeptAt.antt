@@ -12,7 +12,7 @@ use Rattle.growth_laws.specs.MadePlaces.{Place, place}
 use Rattle.made_places.specs.Picking.{place_of, places_said}
 use Rattle.made_places.specs.declared.place.Place as code
 use Rattle.result_ops.specs.Bounds.{limit}
-use Rattle.evaluation.specs.declared.recording.MadePlace.{MadePlace}
+use Rattle.executor.specs.declared.recording.MadePlace.{MadePlace}
 use Rattle.executor.specs.Outcomes.{IsMadeAt, IsAnyMadeAt, FindsAt, KeepsAt, KeepEach, PutsKept, IsKeptFrom}
 use Rattle.executor.specs.declared.outcome.KeptPlace.{KeptPlace}
 use Rattle.executor.proofs.Joined.{each_more}

@@ -21,9 +21,9 @@ use Rattle.growth_laws.specs.Trees.{made_by}
 use Rattle.result_ops.specs.Bounds.{limit}
 use Rattle.result_ops.specs.Steps.{made_of}
 use Rattle.result_ops.specs.declared.made.Made.{Made}
-use Rattle.evaluation.specs.Recording.{is_recorded, if_recorded, recorded_of, recorded_below, AreMade, IsAmong, IsFoundBelow}
-use Rattle.evaluation.specs.declared.recording.MadePlace.{MadePlace}
-use Rattle.evaluation.proofs.RecordedParts.{all_below}
+use Rattle.executor.specs.Recording.{is_recorded, if_recorded, recorded_of, recorded_below, AreMade, IsAmong, IsFoundBelow}
+use Rattle.executor.specs.declared.recording.MadePlace.{MadePlace}
+use Rattle.executor.proofs.RecordedParts.{all_below}
 use Rattle.executor.specs.Outcomes.{IsMadeAt, IsAnyMadeAt, IsResultAt, IsKeptOf, KeepsAt, IsKeptAt}
 use Rattle.executor.specs.declared.outcome.KeptPlace.{KeptPlace}
 

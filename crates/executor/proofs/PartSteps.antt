@@ -27,9 +27,9 @@ use Rattle.gathering.specs.Gathered as so_far
 use Rattle.result_ops.specs.declared.made.Made.{Made}
 use Rattle.result_ops.specs.Bounds.{IsBounded}
 use Rattle.result_ops.specs.Fitting.{IsFit, StandsInOrder}
-use Rattle.rewriting_pieces.specs.Pieces.{HasTyping}
+use Rattle.executor.specs.Pieces.{HasTyping}
 use Rattle.executor.specs.Reads.{IsOfForm}
-use Rattle.evaluation.specs.Loading.{IsFitLoad}
+use Rattle.executor.specs.Loading.{IsFitLoad}
 use Rattle.executor.specs.Progress.{Loaded, loaded_as, files_left, next_shape, IsStreamPart, IsPartOf, IsLoadOf, up_to, HasRead, LoadsNow, FeedsNow}
 use Rattle.executor.specs.Sources.{sources, HoldsPiece, extent_rows, HasTaken}
 use Rattle.executor.specs.declared.part.Part.{Part}

@@ -11,7 +11,7 @@ use Rattle.rewrite_core.specs.IsRewriting.{IsRewriting, IsWay, IsDelta, IsDeltaW
 use Rattle.rewrite_core.specs.PlainRewriting.{PlainRewriting, Node, PlainWay, Scan, One, Two, Read, Tail, LeftGrew, RightGrew, BothGrew, PlainDelta, Change, PlainDeltaWay, Unchanged, NewRows, OfChild, OfDistinct, OfJoin}
 use Rattle.growth_laws.specs.Chains.{IsChain, IsOneStream}
 use Rattle.growth_laws.specs.Pieces.{Piece, Entry, Gathered, is_gathered, is_chain_delta, pieces_of, pieces_in, pieces_of_delta, pieces_in_delta}
-use Rattle.rewriting_pieces.specs.Pieces.{IsPiece}
+use Rattle.executor.specs.Pieces.{IsPiece}
 use Rattle.executor.specs.Loads.{HasOneCut}
 use Rattle.executor.specs.Progress.{IsPartOf, ArePartsOf}
 use Rattle.executor.specs.declared.part.Part.{Part}

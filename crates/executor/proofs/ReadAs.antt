@@ -6,8 +6,8 @@ use Rattle.growth_laws.specs.KeptResults.{KeptResults}
 use Rattle.growth_laws.specs.Lists.{Extents}
 use Rattle.growth_laws.specs.Parts.{plan_at, cuts_at}
 use Rattle.growth_laws.specs.Pieces.{pieces_of}
-use Rattle.evaluation.specs.Loading.{HoldAll}
-use Rattle.evaluation.specs.Parts.{IsFormed}
+use Rattle.executor.specs.Loading.{HoldAll}
+use Rattle.executor.specs.Parts.{IsFormed}
 use Rattle.executor.specs.Loads.{load_of_part}
 use Rattle.executor.specs.Outcomes.{AreReadAs}
 use Rattle.executor.specs.Progress.{left_in}

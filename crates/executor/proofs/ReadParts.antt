@@ -25,7 +25,7 @@ use Rattle.result_ops.specs.declared.stop.Stop.TheVariants as stop
 use Rattle.result_ops.specs.declared.made.Made.{Made}
 use Rattle.result_ops.specs.Fitting.{StandsInOrder}
 use Rattle.growth_laws.specs.Chains.{IsOneStream}
-use Rattle.evaluation.specs.Loading.{piece_plan, Holds, HoldsPiece, HoldAll, IsFitLoad, AreFit}
+use Rattle.executor.specs.Loading.{piece_plan, Holds, HoldsPiece, HoldAll, IsFitLoad, AreFit}
 use Rattle.executor.specs.Loads.{load_of_rows, load_of_part, HasOneCut}
 use Rattle.executor.specs.Progress.{Loaded, files_left, left_in, IsStreamPart, IsPartOf, ArePartsOf, IsLoadOf, up_to, HasFedTo, HasRead, HaveRead}
 use Rattle.executor.specs.declared.part.Part.{Part}

@@ -7,9 +7,9 @@ use Rattle.row_blob.specs.declared.shape.Shape.{Shape}
 use Rattle.outside_traits.specs.Counts.{Rose}
 use Rattle.outside_traits.specs.View.{Counts}
 use Rattle.outside_traits.specs.Calls.{CountsTaken}
-use Rattle.kept_files.specs.Reads.{HasCause, FoundIn}
-use Rattle.kept_files.specs.declared.refusal.ReadRefusal.{ReadRefusal}
-use Rattle.kept_files.specs.declared.refusal.ReadRefusal.TheVariants as read
+use Rattle.extent_files.specs.Reads.{HasCause, FoundIn}
+use Rattle.extent_files.specs.declared.read_refusal.ReadRefusal.{ReadRefusal}
+use Rattle.extent_files.specs.declared.read_refusal.ReadRefusal.TheVariants as read
 use Rattle.plan_core.specs.PlanTyping.{Kinds}
 use Rattle.rewrite_core.specs.Files.{FileName}
 use Rattle.growth_laws.specs.Pieces.{Piece}

@@ -10,9 +10,9 @@ use Rattle.plan_core.specs.TypedRows.{HaveKinds, AreOfStreams}
 use Rattle.plan_laws.specs.PlanShape.{kinds_given, plan_shape}
 use Rattle.plan_laws.specs.TypedOn.{IsTypedOn}
 use Rattle.growth_laws.specs.Chains.{IsChain, IsOneStream}
-use Rattle.rewriting_pieces.specs.Pieces.{HasTyping}
+use Rattle.executor.specs.Pieces.{HasTyping}
 use Rattle.executor.proofs.FileForms.{rows_kinds}
-use Rattle.rewriting_pieces.proofs.Typings.{of_filter, of_project, of_distinct, of_group, kinds_there}
+use Rattle.executor.proofs.Typings.{of_filter, of_project, of_distinct, of_group, kinds_there}
 
 module _ (schemas : List Kinds) (stream : ℕ) where
   of_chain : (plan : PlainPlan) → IsChain plan → HasTyping schemas plan → leaves plan ≡ stream ∷ [] → HasTyping schemas (Scan stream)

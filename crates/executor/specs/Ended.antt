@@ -1,8 +1,8 @@
 -- How far a run came that ended without an outcome.
 use Rattle.std.specs.Prelude.{ℕ, ◌+◌, Option, None, Some}
 use Rattle.estimator.specs.Bytes.{capped}
-use Rattle.kept_files.specs.declared.refusal.ReadRefusal.{ReadRefusal}
-use Rattle.kept_files.specs.declared.refusal.ReadRefusal.TheVariants as read
+use Rattle.extent_files.specs.declared.read_refusal.ReadRefusal.{ReadRefusal}
+use Rattle.extent_files.specs.declared.read_refusal.ReadRefusal.TheVariants as read
 use Rattle.rewrite_core.specs.Files.{FileName, Extent, Result}
 use Rattle.executor.specs.declared.refusal.EndedRun.{EndedRun}
 use Rattle.executor.specs.declared.refusal.LostResult.{LostResult}

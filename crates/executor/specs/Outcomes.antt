@@ -23,8 +23,8 @@ use Rattle.result_ops.specs.Steps.{made_of}
 use Rattle.result_ops.specs.declared.made.Made.{Made}
 use Rattle.result_ops.specs.declared.refusal.MakeRefusal.{MakeRefusal}
 use Rattle.result_ops.specs.declared.refusal.MakeRefusal.TheVariants as refusal
-use Rattle.evaluation.specs.Passing.{Passes, IsStored, IsTyped, IsWithin}
-use Rattle.evaluation.specs.declared.recording.MadePlace.{MadePlace}
+use Rattle.executor.specs.Passing.{Passes, IsStored, IsTyped, IsWithin}
+use Rattle.executor.specs.declared.recording.MadePlace.{MadePlace}
 use Rattle.executor.specs.Progress.{ArePartsOf, HaveRead}
 use Rattle.executor.specs.declared.outcome.KeptPlace.{KeptPlace}
 use Rattle.executor.specs.declared.outcome.Outcome.{Outcome}

@@ -23,9 +23,9 @@ use Rattle.gathering.specs.Gathered as so_far
 use Rattle.result_ops.specs.declared.stop.Stop.{Stop}
 use Rattle.result_ops.specs.declared.stop.Stop.TheVariants as stop
 use Rattle.result_ops.specs.declared.made.Made.{Made}
-use Rattle.evaluation.specs.Loading.{IsFitLoad}
+use Rattle.executor.specs.Loading.{IsFitLoad}
 use Rattle.growth_laws.specs.Chains.{IsOneStream}
-use Rattle.rewriting_pieces.specs.Pieces.{HasTyping}
+use Rattle.executor.specs.Pieces.{HasTyping}
 use Rattle.executor.specs.Reads.{IsOfForm, LoadsEntry, MayBeRead}
 use Rattle.executor.specs.declared.part.Part.{Part}
 use Rattle.executor.specs.declared.part.Part.TheVariants as part

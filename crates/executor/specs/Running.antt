@@ -7,9 +7,9 @@ use Rattle.outside_traits.specs.Counts.{Rose}
 use Rattle.outside_traits.specs.View.{Counts}
 use Rattle.outside_traits.specs.Calls.{CountsTaken, MayRaiseReads}
 use Rattle.extent_files.specs.Files.{digest_of}
-use Rattle.kept_files.specs.Reads.{SpellsNone, HasCause, FoundIn}
-use Rattle.kept_files.specs.declared.refusal.ReadRefusal.{ReadRefusal}
-use Rattle.kept_files.specs.declared.refusal.ReadRefusal.TheVariants as read
+use Rattle.extent_files.specs.Reads.{SpellsNone, HasCause, FoundIn}
+use Rattle.extent_files.specs.declared.read_refusal.ReadRefusal.{ReadRefusal}
+use Rattle.extent_files.specs.declared.read_refusal.ReadRefusal.TheVariants as read
 use Rattle.plan_core.specs.PlainPlan.{PlainPlan, Scan}
 use Rattle.plan_core.specs.PlanTyping.{Kinds}
 use Rattle.plan_laws.specs.PlanShape.{plan_shape}

@@ -5,13 +5,13 @@ ghost use Rattle.row_blob.specs.Kept.{AreEach};
 ghost use Rattle.plan_core.specs.PlainPlan.{plan_of, leaves};
 ghost use Rattle.plan_core.specs.PlanTyping.{Kinds};
 ghost use Rattle.growth_laws.specs.Chains.{IsOneStream};
-ghost use Rattle.rewriting_pieces.specs.Pieces.{piece_of, pieces_said, IsPiece};
+ghost use Rattle.executor.specs.Pieces.{piece_of, pieces_said, IsPiece};
 ghost use Rattle.executor.specs.Beginning.{IsOnlyInterval, IsBegun};
 
+use crate::Piece;
 use crate::part::Part;
 use gathering::Gathering;
 use plan_core::Plan;
-use rewriting_pieces::Piece;
 use rows_core::{Cut, Memory};
 use std::alloc::Global;
 

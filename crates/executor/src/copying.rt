@@ -3,8 +3,8 @@ ghost use Rattle.std.specs.Prelude.{◌≡◌, [], map, IfOk};
 ghost use Rattle.executor.specs.Loads.{load_of_rows, load_of_part};
 ghost use Rattle.executor.specs.Progress.{files_left, left_in};
 
+use crate::Loaded;
 use crate::part::Part;
-use evaluation::Loaded;
 use gathering::Gathering;
 use result_ops::Made;
 use rows_core::Memory;

@@ -4,22 +4,22 @@ ghost use Rattle.rows_core.specs.declared.file_ref.FileRef.{FileRef};
 ghost use Rattle.row_blob.specs.Kept.{IsKept};
 ghost use Rattle.plan_core.specs.PlainPlan.{plan_of};
 ghost use Rattle.plan_core.specs.PlanTyping.{Kinds};
-ghost use Rattle.rewriting_pieces.specs.Pieces.{HasTyping};
+ghost use Rattle.executor.specs.Pieces.{HasTyping};
 ghost use Rattle.plan_laws.specs.PlanShape.{plan_shape};
 ghost use Rattle.outside_traits.specs.View.{View, Counts};
 ghost use Rattle.outside_traits.specs.Calls.{Idles, MayRaiseReads};
 ghost use Rattle.rewrite_core.specs.Files.{Result};
-ghost use Rattle.kept_files.specs.Reads.{HasCause, FoundIn};
+ghost use Rattle.extent_files.specs.Reads.{HasCause, FoundIn};
 ghost use Rattle.result_ops.specs.Bounds.{IsBounded};
 ghost use Rattle.result_ops.specs.Fitting.{IsFit, StandsInOrder};
 ghost use Rattle.executor.specs.Reads.{IsOfForm, LoadsEntry};
 
-use kept_files::{ReadRefusal, read_kept};
+use crate::shape_of;
+use extent_files::{ReadRefusal, read_kept};
 use outside_traits::Store;
 use plan_core::Plan;
 use result_ops::{Made, are_bounded};
 use rewrite_core::Places;
-use rewriting_pieces::shape_of;
 use row_blob::Kept;
 use std::alloc::Global;
 

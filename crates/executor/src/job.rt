@@ -10,14 +10,14 @@ ghost use Rattle.rewrite_core.specs.PlainRewriting.{rewriting_of};
 ghost use Rattle.growth_laws.specs.KeptResults.{KeptResults};
 ghost use Rattle.growth_laws.specs.Lists.{Extents};
 ghost use Rattle.growth_laws.specs.Pieces.{pieces_of};
-ghost use Rattle.rewriting_pieces.specs.Pieces.{HasTyping};
+ghost use Rattle.executor.specs.Pieces.{HasTyping};
 ghost use Rattle.executor.specs.Progress.{left_in, held_in, ArePartsOf, HaveRead};
 
 use crate::beginning::parts_of;
 use crate::part::Part;
+use crate::{pieces, pieces_of_typed_rewritings};
 use growth_laws::files_of_pieces;
 use rewrite_core::Rewriting;
-use rewriting_pieces::{pieces, pieces_of_typed_rewritings};
 use rows_core::Memory;
 use std::alloc::Global;
 

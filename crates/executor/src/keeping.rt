@@ -11,9 +11,9 @@ ghost use Rattle.rewrite_core.specs.PlainRewriting.{rewriting_of};
 ghost use Rattle.executor.specs.Outcomes.{IsMadeAt, IsKeptOf, KeepEach, FindsAt, PutsKept, IsKeptFrom};
 ghost use Rattle.executor.specs.Outcomes.{AreKeptFrom};
 
+use crate::MadePlace;
 use crate::outcome::KeptPlace;
 use estimator::are_same_cuts;
-use evaluation::MadePlace;
 use made_places::{Place, made_places};
 use plan_core::Plan;
 use rewrite_core::Rewriting;

@@ -4,18 +4,18 @@ ghost use Rattle.std.specs.List.{AllByRecursion};
 ghost use Rattle.rows_core.specs.declared.file_ref.FileRef.{FileRef};
 ghost use Rattle.row_blob.specs.declared.kept.Kept.{Kept};
 ghost use Rattle.row_blob.specs.declared.shape.Shape.{Shape};
-ghost use Rattle.kept_files.specs.Reads.{Spells};
+ghost use Rattle.extent_files.specs.Reads.{Spells};
 ghost use Rattle.plan_core.specs.PlainPlan.{PlainPlan, leaf_count};
 ghost use Rattle.plan_core.specs.PlanTyping.{Kinds};
 ghost use Rattle.estimator.specs.Cuts.{Cuts};
 ghost use Rattle.rewrite_core.specs.IsRewriting.{IsRewriting, whichever};
 ghost use Rattle.rewrite_core.specs.PlainRewriting.{PlainRewriting};
 ghost use Rattle.growth_laws.specs.Pieces.{pieces_of};
-ghost use Rattle.rewriting_pieces.specs.Pieces.{HasTyping};
+ghost use Rattle.executor.specs.Pieces.{HasTyping};
 ghost use Rattle.executor.specs.Reads.{HoldsOnly};
 ghost use Rattle.executor.specs.Loads.{HasOneCut};
 
-use rewriting_pieces::pieces_of_typed_rewritings;
+use crate::pieces_of_typed_rewritings;
 use row_blob::one_spelling;
 
 /// Where a store tells its files, no form may be read of a file but the one that its first bytes spell, as

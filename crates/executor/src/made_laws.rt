@@ -10,12 +10,12 @@ ghost use Rattle.growth_laws.specs.Parts.{plan_at, cuts_at};
 ghost use Rattle.growth_laws.specs.Trees.{made_by};
 ghost use Rattle.result_ops.specs.Bounds.{limit};
 ghost use Rattle.result_ops.specs.Steps.{made_of};
-ghost use Rattle.evaluation.specs.Passing.{IsWithin};
-ghost use Rattle.evaluation.specs.Recording.{recorded_below, AreMade};
-ghost use Rattle.evaluation.specs.declared.recording.MadePlace.{MadePlace as AMadePlace};
+ghost use Rattle.executor.specs.Passing.{IsWithin};
+ghost use Rattle.executor.specs.Recording.{recorded_below, AreMade};
+ghost use Rattle.executor.specs.declared.recording.MadePlace.{MadePlace as AMadePlace};
 ghost use Rattle.executor.specs.Outcomes.{IsMadeAt, IsAnyMadeAt, IsResultAt};
 
-use evaluation::{made_places_are_recorded, recorded_results_are_results};
+use crate::{made_places_are_recorded, recorded_results_are_results};
 use growth_laws::{machine_times_of_parts, results_of_rewritings};
 
 /// Over sound results, where `own` is what the rewriting makes and `found` are the results that were recorded

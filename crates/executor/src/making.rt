@@ -9,15 +9,15 @@ ghost use Rattle.growth_laws.specs.Making.{IsFormOf};
 ghost use Rattle.growth_laws.specs.Pieces.{pieces_of};
 ghost use Rattle.rewrite_core.specs.PlainRewriting.{rewriting_of};
 ghost use Rattle.result_ops.specs.Bounds.{IsBounded};
-ghost use Rattle.evaluation.specs.Loading.{HoldAll, AreFit};
+ghost use Rattle.executor.specs.Loading.{HoldAll, AreFit};
 ghost use Rattle.result_ops.specs.Fitting.{IsFit, FitRows};
-ghost use Rattle.evaluation.specs.Parts.{IsFormed};
+ghost use Rattle.executor.specs.Parts.{IsFormed};
 ghost use Rattle.executor.specs.Outcomes.{IsMadeAt, ComesTo, Finishes, AreKeptFrom};
 
 use crate::keeping::kept_places;
 use crate::made_laws::made_results_are_results;
 use crate::outcome::Outcome;
-use evaluation::{Loaded, MadePlace, evaluate_recording};
+use crate::{Loaded, MadePlace, evaluate_recording};
 use growth_laws::results_of_rewritings;
 use result_ops::{Made, MakeRefusal, rows_of};
 use rewrite_core::Rewriting;

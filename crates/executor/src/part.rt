@@ -3,7 +3,7 @@ ghost use Rattle.std.specs.Prelude.{◌≡◌, length};
 ghost use Rattle.gathering.specs.Gathered.{kept_length};
 ghost use Rattle.executor.specs.Progress.{files_left, held_in_part, loaded_length};
 
-use evaluation::Loaded;
+use crate::Loaded;
 use gathering::Gathering;
 use plan_core::Plan;
 use row_blob::Kept;

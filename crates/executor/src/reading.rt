@@ -9,7 +9,7 @@ ghost use Rattle.rewrite_core.specs.Files.{FileName};
 ghost use Rattle.growth_laws.specs.KeptResults.{KeptResults};
 ghost use Rattle.growth_laws.specs.Lists.{Extents};
 ghost use Rattle.growth_laws.specs.Pieces.{Piece};
-ghost use Rattle.kept_files.specs.Reads.{HasCause, FoundIn};
+ghost use Rattle.extent_files.specs.Reads.{HasCause, FoundIn};
 ghost use Rattle.executor.specs.Firsts.{IsFirst};
 ghost use Rattle.executor.specs.Progress.{files_left, left_in, result_of, next_shape, IsNextPart, IsPartOf};
 ghost use Rattle.executor.specs.Progress.{ArePartsOf, HaveRead};
@@ -19,7 +19,7 @@ ghost use Rattle.executor.specs.Sources.{sources, HoldFiles, HasTaken, HasReadNe
 use crate::job::Job;
 use crate::part::Part;
 use crate::step::{feed_extent, load_entry};
-use kept_files::ReadRefusal;
+use extent_files::ReadRefusal;
 use outside_traits::Store;
 use rewrite_core::Places;
 use std::alloc::Global;

@@ -4,7 +4,7 @@ ghost use Rattle.executor.specs.Ended.{ended_by};
 ghost use Rattle.executor.specs.Runs.{of_reading, of_making};
 ghost use Rattle.executor.specs.declared.refusal.RunRefusal.TheVariants as run;
 
-use kept_files::ReadRefusal;
+use extent_files::ReadRefusal;
 use result_ops::MakeRefusal;
 use rows_core::{Digest, Memory};
 use thiserror::Error;

@@ -12,7 +12,7 @@ ghost use Rattle.executor.specs.Sources.{sources};
 
 use crate::job::Job;
 use crate::reading::read_next;
-use kept_files::ReadRefusal;
+use extent_files::ReadRefusal;
 use outside_traits::Store;
 use rewrite_core::Places;
 use std::alloc::Global;

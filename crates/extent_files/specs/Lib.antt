@@ -1,1 +1,3 @@
 pub mod Files
+pub mod Reads
+pub mod Refusals

@@ -5,7 +5,7 @@ use Rattle.outside_traits.specs.Counts.{Rose}
 use Rattle.outside_traits.specs.View.{View, Now}
 use Rattle.outside_traits.specs.Runs.{Narrows, Spans}
 use Rattle.outside_traits.proofs.RunLemmas.{spans_narrowed, spans_on}
-use Rattle.stray_files.specs.Strays.{ChangesStrays}
+use Rattle.folder.specs.Strays.{ChangesStrays}
 use Rattle.journal_store.specs.Journals.{generation_of, had_root_of}
 use Rattle.journal_store.specs.Readings.{IsJournalFile, IsUnfinished}
 use Rattle.folder.specs.Folders.{journal_of, table_in, FolderMeans}

@@ -25,7 +25,7 @@ use Rattle.folder.specs.declared.folder.Folder.{Folder}
 use Rattle.folder.specs.declared.found.Found.{Found}
 use Rattle.folder.specs.declared.refusal.LoadRefusal.{LoadRefusal}
 use Rattle.folder.specs.declared.refusal.LoadRefusal.TheVariants as refusal
-use Rattle.checkpoints.specs.Spelled.{IsSpelledTable}
+use Rattle.folder.specs.Spelled.{IsSpelledTable}
 use Rattle.journal_store.proofs.OneReading.{have_once, root_once, unfinished_names}
 use Rattle.folder.proofs.JournalLemmas.{none_of_unfinished}
 use Rattle.folder.proofs.Crash.{left_of_since}

@@ -9,9 +9,9 @@ use Rattle.record_codec.specs.Spelling.{change_spelling, keyless_snapshot}
 use Rattle.record_codec.proofs.Keyless.{keyless_is, keyless_spelled}
 use Rattle.catalog_core.specs.IsTable.{IsTable}
 use Rattle.catalog_core.specs.Table.{Table, empty_table}
-use Rattle.checkpoints.specs.Spelled.{IsSpelledTable}
-use Rattle.checkpoints.proofs.Restored.{keyless-fits, table-back}
-use Rattle.checkpoints.proofs.Whole.{whole-spelled}
+use Rattle.folder.specs.Spelled.{IsSpelledTable}
+use Rattle.folder.proofs.Restored.{keyless-fits, table-back}
+use Rattle.folder.proofs.Whole.{whole-spelled}
 use Rattle.journal_store.specs.Readings.{is_journal_file, IsJournalFile}
 use Rattle.journal_store.specs.Journals.{HaveFormerOrNext, Keeps}
 use Rattle.journal_store.specs.Making.{AreStable}

@@ -5,8 +5,8 @@ use Rattle.catalog_core.specs.Table.{Table, empty_table, after}
 use Rattle.catalog_core.proofs.Kept.{change-keeps}
 use Rattle.catalog_core.proofs.Places.{first-table}
 use Rattle.entry_table.specs.Work.{none_kept}
-use Rattle.checkpoints.specs.Spelled.{IsSpelledTable}
-use Rattle.checkpoints.proofs.Staying.{stays-spelled}
+use Rattle.folder.specs.Spelled.{IsSpelledTable}
+use Rattle.folder.proofs.Staying.{stays-spelled}
 use Rattle.folder.specs.Replay.{Replays}
 
 empty_is_table : IsTable empty_table

@@ -8,8 +8,8 @@ use Rattle.std.proofs.lemmas.List.Elements.{Contains-append_left, Contains-appen
 use Rattle.outside_traits.specs.View.{View, Now}
 use Rattle.outside_traits.specs.Runs.{Narrows, Spans}
 use Rattle.outside_traits.proofs.RunLemmas.{spans_narrowed, spans_on, spans_wider, image_has}
-use Rattle.stray_files.specs.Strays.{is_named, IsStray, ChangesStrays, OnlyNamed}
-use Rattle.stray_files.proofs.Searching.{decides_named}
+use Rattle.folder.specs.Strays.{is_named, IsStray, ChangesStrays, OnlyNamed}
+use Rattle.folder.proofs.Searching.{decides_named}
 use Rattle.rows_core.specs.declared.file_ref.FileRef.{FileRef}
 use Rattle.plan_laws.proofs.Members.{at_front, behind, front_or_behind, none_in_nothing, mapped}
 use Rattle.catalog_core.specs.OwnFiles.{extent_files, result_files, files_in}

@@ -10,7 +10,7 @@ use Rattle.row_blob.specs.declared.kept.Kept.{Kept}
 use Rattle.row_blob.specs.declared.kept.Kept.TheVariants as kept
 use Rattle.row_blob.specs.declared.shape.Shape.{Shape}
 use Rattle.extent_files.specs.Files.{digest_of}
-use Rattle.kept_files.specs.Reads.{Spells}
+use Rattle.extent_files.specs.Reads.{Spells}
 use Rattle.plan_core.specs.Columns.{Rows}
 use Rattle.plan_core.specs.PlainPlan.{Scan, leaves}
 use Rattle.plan_laws.specs.KeptForm.{kept_form}

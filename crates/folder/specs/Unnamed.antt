@@ -2,7 +2,7 @@
 use Rattle.std.specs.Prelude.{◌⊎◌, ℕ, List, [], ◌∷◌, ◌++◌}
 use Rattle.outside_traits.specs.Runs.{Spans}
 use Rattle.outside_traits.specs.View.{View}
-use Rattle.stray_files.specs.Strays.{IsStray, OnlyNamed}
+use Rattle.folder.specs.Strays.{IsStray, OnlyNamed}
 use Rattle.catalog_core.specs.OwnFiles.{files_in}
 use Rattle.catalog_core.specs.Table.{Table}
 use Rattle.journal_store.specs.Journals.{generation_of}

@@ -6,7 +6,7 @@ ghost use Rattle.outside_traits.specs.Calls.{Rises};
 ghost use Rattle.outside_traits.specs.Runs.{Narrows, Spans};
 ghost use Rattle.gated_log.specs.Logs.{front, contents};
 ghost use Rattle.catalog_core.specs.Table.{Table};
-ghost use Rattle.checkpoints.specs.Spelled.{IsSpelledTable};
+ghost use Rattle.folder.specs.Spelled.{IsSpelledTable};
 ghost use Rattle.journal_store.specs.Journals.{generation_of, had_root_of, end_of, Keeps};
 ghost use Rattle.journal_store.specs.Readings.{HaveBodies, IsJournalFile, IsUnfinished, LogHasAtMost};
 ghost use Rattle.folder.specs.Folders.{journal_of, table_in, FolderMeans, FolderStands, Gives};

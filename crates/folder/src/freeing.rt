@@ -6,7 +6,7 @@ ghost use Rattle.outside_traits.specs.Counts.{Rose};
 ghost use Rattle.outside_traits.specs.View.{View, Counts};
 ghost use Rattle.outside_traits.specs.Calls.{Rises};
 ghost use Rattle.outside_traits.specs.Runs.{Narrows};
-ghost use Rattle.stray_files.specs.Strays.{ChangesStrays};
+ghost use Rattle.folder.specs.Strays.{ChangesStrays};
 ghost use Rattle.catalog_core.specs.Table.{Table};
 ghost use Rattle.journal_store.specs.Journals.{had_root_of};
 ghost use Rattle.journal_store.specs.Readings.{generation_file, HaveBodies, IsUnfinished, LogHasAtMost};
@@ -17,10 +17,10 @@ ghost use Rattle.folder.specs.State.{State};
 
 use crate::folder::Folder;
 use crate::refusal::LoadRefusal;
+use crate::remove_strays;
 use outside_traits::{Failed, Store};
 use rows_core::Memory;
 use std::alloc::Global;
-use stray_files::remove_strays;
 
 impl Folder {
     ghost use Rattle.folder.specs.Folders.{journal_of, table_in, FolderStands, FolderMeans};

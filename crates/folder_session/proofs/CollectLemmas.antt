@@ -15,10 +15,10 @@ use Rattle.entry_table.specs.Ids.{is_among, is_there, without}
 use Rattle.catalog_core.specs.IsTable.{IsTable}
 use Rattle.catalog_core.specs.Table.{Table, Fits, FitsCollection, most_ticks, after}
 use Rattle.catalog_core.proofs.AskedResults.{found-own}
-use Rattle.collection_plan.specs.Collecting.{IsCollection, IsCollectionPlan, file_of, files_of}
-use Rattle.collection_plan.specs.declared.collecting.CollectionPlan.{CollectionPlan}
-use Rattle.collection_plan.specs.declared.refusal.CollectionRefusal.{CollectionRefusal}
-use Rattle.collection_plan.specs.declared.refusal.CollectionRefusal.TheVariants as collection
+use Rattle.planning.specs.Collecting.{IsCollection, IsCollectionPlan, file_of, files_of}
+use Rattle.planning.specs.declared.collecting.CollectionPlan.{CollectionPlan}
+use Rattle.planning.specs.declared.collection_refusal.CollectionRefusal.{CollectionRefusal}
+use Rattle.planning.specs.declared.collection_refusal.CollectionRefusal.TheVariants as collection
 use Rattle.script_text.specs.Answer.{IsNarrow}
 use Rattle.script_text.specs.declared.answer.Answer.{Answer}
 use Rattle.script_text.specs.declared.answer.Answer.TheVariants as answer

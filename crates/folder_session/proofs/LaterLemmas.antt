@@ -6,8 +6,8 @@ use Rattle.outside_traits.specs.declared.failed.Failed.{Failed}
 use Rattle.rewrite_core.proofs.Looking.{Contains-first, Contains-behind, Contains-cons_cases}
 use Rattle.catalog_types.specs.PlainEntry.{PlainEntry}
 use Rattle.catalog_core.specs.Table.{Table}
-use Rattle.collection_plan.specs.Collecting.{IsCollection, IsCollectionPlan}
-use Rattle.collection_plan.specs.declared.collecting.CollectionPlan.{CollectionPlan}
+use Rattle.planning.specs.Collecting.{IsCollection, IsCollectionPlan}
+use Rattle.planning.specs.declared.collecting.CollectionPlan.{CollectionPlan}
 use Rattle.script_text.specs.declared.answer.Answer.{Answer}
 use Rattle.folder.specs.Folders.{table_in}
 use Rattle.later_states.specs.Later.{AreFree, IsLater, SparesHeld}

@@ -4,14 +4,14 @@ use Rattle.scalar_ops.specs.Meaning.{overflow}
 use Rattle.catalog_types.specs.declared.change.Change.{Change}
 use Rattle.catalog_types.specs.declared.program.Program.{Program}
 use Rattle.std.proofs.lemmas.Bool.Decides.{nat_tests}
-use Rattle.plan_grammar.specs.PlainNamed.{PlainTree}
-use Rattle.plan_grammar.specs.Spelled.{SpellsText}
+use Rattle.plan_text.specs.PlainNamed.{PlainTree}
+use Rattle.plan_text.specs.Spelled.{SpellsText}
 use Rattle.catalog_types.specs.declared.snapshot.StreamState.{StreamState}
 use Rattle.catalog_core.specs.IsTable.{IsTable}
 use Rattle.catalog_core.specs.Programs.{program_named, IsPlanOf}
 use Rattle.catalog_core.specs.Table.{Table, place_of, most_ticks}
 use Rattle.catalog_core.proofs.Texts.{one-bound}
-use Rattle.collection_plan.specs.Collecting.{IsCollection}
+use Rattle.planning.specs.Collecting.{IsCollection}
 use Rattle.plan_core.specs.Columns.{Rows}
 use Rattle.plan_core.specs.MachineTime.{machine_time}
 use Rattle.plan_core.specs.PlainPlan.{PlainPlan}

@@ -21,7 +21,7 @@ use Rattle.plan_core.specs.declared.refusal.PlanRefusal.{PlanRefusal}
 use Rattle.plan_core.specs.declared.refusal.PlanRefusal.TheVariants as typing
 use Rattle.plan_core.specs.PlainPlan.{PlainPlan}
 use Rattle.plan_core.specs.PlanTyping.{Kinds}
-use Rattle.plan_grammar.specs.PlainNamed.{PlainTree}
+use Rattle.plan_text.specs.PlainNamed.{PlainTree}
 use Rattle.rewrite_core.specs.Files.{FileName, files_of}
 use Rattle.rewrite_core.specs.PlainRewriting.{PlainRewriting}
 use Rattle.growth_laws.specs.Pieces.{pieces_of}

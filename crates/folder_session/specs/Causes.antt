@@ -7,8 +7,8 @@ use Rattle.rewrite_core.specs.PlainRewriting.{PlainRewriting}
 use Rattle.growth_laws.specs.Pieces.{pieces_of}
 use Rattle.catalog_core.specs.Named.{file_at}
 use Rattle.catalog_core.specs.Table.{Table}
-use Rattle.kept_files.specs.declared.refusal.ReadRefusal.{ReadRefusal}
-use Rattle.kept_files.specs.declared.refusal.ReadRefusal.TheVariants as reading
+use Rattle.extent_files.specs.declared.read_refusal.ReadRefusal.{ReadRefusal}
+use Rattle.extent_files.specs.declared.read_refusal.ReadRefusal.TheVariants as reading
 use Rattle.executor.specs.Running.{EndsOver, IsFileAmong}
 use Rattle.planning.specs.Fetching.{IsFetching}
 use Rattle.planning.specs.Running.{Run, Target, running}

@@ -12,7 +12,7 @@ use Rattle.script_text.specs.declared.answer.Answer.TheVariants as answer
 use Rattle.catalog_core.specs.Named.{HasFile, file_at}
 use Rattle.catalog_core.specs.Table.{Table, most_ticks}
 use Rattle.catalog_line.specs.CatalogText.{catalog_text}
-use Rattle.collection_plan.specs.Collecting.{IsCollection}
+use Rattle.planning.specs.Collecting.{IsCollection}
 use Rattle.script_text.specs.declared.answer.EntrySummary.{EntrySummary}
 use Rattle.script_text.specs.declared.answer.LimitKind.TheVariants as limit
 use Rattle.script_text.specs.declared.answer.Refusal.{Refusal}

@@ -1,6 +1,6 @@
 -- Why work isn't done and nothing is collected, as a refusal of the command.
-use Rattle.collection_plan.specs.declared.refusal.CollectionRefusal.{CollectionRefusal}
-use Rattle.collection_plan.specs.declared.refusal.CollectionRefusal.TheVariants as collection
+use Rattle.planning.specs.declared.collection_refusal.CollectionRefusal.{CollectionRefusal}
+use Rattle.planning.specs.declared.collection_refusal.CollectionRefusal.TheVariants as collection
 use Rattle.executor.specs.declared.refusal.RunRefusal.{RunRefusal}
 use Rattle.executor.specs.declared.refusal.RunRefusal.TheVariants as run
 use Rattle.script_text.specs.declared.answer.LimitKind.TheVariants as limit

@@ -4,7 +4,7 @@ ghost use Rattle.outside_traits.specs.Counts.{Rose};
 ghost use Rattle.outside_traits.specs.View.{View, Counts};
 ghost use Rattle.outside_traits.specs.Calls.{Rises};
 ghost use Rattle.catalog_core.specs.Catalogs.{IsReady};
-ghost use Rattle.collection_plan.specs.Collecting.{IsCollectionPlan};
+ghost use Rattle.planning.specs.Collecting.{IsCollectionPlan};
 ghost use Rattle.folder.specs.Folders.{catalog_of, table_in, FolderStands};
 ghost use Rattle.folder.specs.Next.{with_collection};
 ghost use Rattle.folder.specs.Sound.{Care};
@@ -17,7 +17,7 @@ ghost use Rattle.folder_session.specs.WorkRefusals.{collection_refusal};
 
 use crate::refusals::collection_refusal;
 use crate::session::FolderSession;
-use collection_plan::{CollectionPlan, plan_collection, same_collection_in_any_order};
+use planning::{CollectionPlan, plan_collection, same_collection_in_any_order};
 use folder::{files_that_went, next_states};
 use outside_traits::{Failed, Store};
 use planning::Recording;

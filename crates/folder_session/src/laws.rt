@@ -15,7 +15,7 @@ ghost use Rattle.folder_session.specs.Machine.{Outcome, outcome, refused, Perfor
 ghost use Rattle.folder_session.specs.Outcomes.{Agree};
 ghost use Rattle.folder_session.specs.Refusals.{HasNoChoice, IsRefusedFor, IsOtherEvent};
 
-use collection_plan::one_collection;
+use planning::one_collection;
 use plan_canon::laws::one_normal_form;
 use plan_text::plan_laws::one_plan;
 

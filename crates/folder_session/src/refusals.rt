@@ -2,7 +2,7 @@
 ghost use Rattle.std.specs.Prelude.{◌≡◌};
 ghost use Rattle.folder_session.specs.WorkRefusals.{collection_refusal, refusal_of};
 
-use collection_plan::CollectionRefusal;
+use planning::CollectionRefusal;
 use executor::RunRefusal;
 use script_text::{LimitKind, Refusal};
 

@@ -1,6 +1,6 @@
 //! What a run or a fetch works off.
 ghost use Rattle.std.specs.Prelude.{◌≡◌, IfOk, IsErrOf};
-ghost use Rattle.plan_grammar.specs.Counts.{IsWithinLimits};
+ghost use Rattle.plan_text.specs.Counts.{IsWithinLimits};
 ghost use Rattle.folder.specs.Folders.{table_in};
 ghost use Rattle.script_text.specs.Script.{IsWhole};
 ghost use Rattle.script_text.specs.declared.item.Command.TheVariants as command;

@@ -13,7 +13,7 @@ use Rattle.rewrite_core.specs.PlainRewriting.{PlainRewriting, rewriting_of}
 use Rattle.rewrite_core.proofs.Looking.{Contains-cons_cases, Contains-none}
 use Rattle.growth_laws.specs.Parts.{plan_at}
 use Rattle.growth_laws.specs.Pieces.{pieces_of}
-use Rattle.rewriting_pieces.specs.Pieces.{HasTyping}
+use Rattle.executor.specs.Pieces.{HasTyping}
 use Rattle.catalog_types.specs.PlainEntry.{PlainEntry}
 use Rattle.catalog_types.specs.declared.program.Program.{Program}
 use Rattle.catalog_core.specs.Programs.{IsProgram, kinds_of_streams}

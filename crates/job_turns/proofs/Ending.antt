@@ -1,8 +1,8 @@
 -- A job that is closed, over a state's files.
 use Rattle.std.proofs.Common.{◌≡◌, refl, sym, ap, ◌∙◌, subst, ◌+◌, ◌-◌, ◌^◌, ◌≤◌, min, Bool, List, [], map, Some, Ok, IsTrue, arith}
 use Rattle.outside_traits.specs.View.{View, Counts}
-use Rattle.kept_files.specs.declared.refusal.ReadRefusal.{ReadRefusal}
-use Rattle.kept_files.specs.declared.refusal.ReadRefusal.TheVariants as reading
+use Rattle.extent_files.specs.declared.read_refusal.ReadRefusal.{ReadRefusal}
+use Rattle.extent_files.specs.declared.read_refusal.ReadRefusal.TheVariants as reading
 use Rattle.result_ops.specs.declared.refusal.MakeRefusal.{MakeRefusal}
 use Rattle.result_ops.specs.declared.refusal.MakeRefusal.TheVariants as making
 use Rattle.plan_core.specs.PlainPlan.{PlainPlan, leaves}

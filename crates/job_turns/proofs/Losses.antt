@@ -6,9 +6,9 @@ use Rattle.rows_core.specs.declared.file_ref.FileRef.{FileRef}
 use Rattle.row_blob.specs.declared.shape.Shape.{Shape}
 use Rattle.outside_traits.specs.View.{Counts}
 use Rattle.outside_traits.specs.Calls.{CountsTaken}
-use Rattle.kept_files.specs.Reads.{HasCause, FoundIn}
-use Rattle.kept_files.specs.declared.refusal.ReadRefusal.{ReadRefusal}
-use Rattle.kept_files.specs.declared.refusal.ReadRefusal.TheVariants as read
+use Rattle.extent_files.specs.Reads.{HasCause, FoundIn}
+use Rattle.extent_files.specs.declared.read_refusal.ReadRefusal.{ReadRefusal}
+use Rattle.extent_files.specs.declared.read_refusal.ReadRefusal.TheVariants as read
 use Rattle.plan_core.specs.PlainPlan.{PlainPlan}
 use Rattle.estimator.specs.Bytes.{capped}
 use Rattle.estimator.specs.Cuts.{Cuts}

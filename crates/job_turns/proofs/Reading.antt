@@ -1,9 +1,9 @@
 -- What is read of a job's files, one after another.
 use Rattle.std.proofs.Common.{◌≡◌, ◌⊎◌, refl, sym, ap, ◌∙◌, subst, inr, ℕ, ◌+◌, ◌<◌, ◌≤◌, Bool, true, List, ◌∷◌, length, Option, None, Some, is_some, IsTrue, arith}
 use Rattle.outside_traits.specs.View.{View, Counts}
-use Rattle.kept_files.specs.Reads.{HasCause}
-use Rattle.kept_files.specs.declared.refusal.ReadRefusal.{ReadRefusal}
-use Rattle.kept_files.specs.declared.refusal.ReadRefusal.TheVariants as read
+use Rattle.extent_files.specs.Reads.{HasCause}
+use Rattle.extent_files.specs.declared.read_refusal.ReadRefusal.{ReadRefusal}
+use Rattle.extent_files.specs.declared.read_refusal.ReadRefusal.TheVariants as read
 use Rattle.plan_core.specs.PlainPlan.{PlainPlan}
 use Rattle.plan_laws.proofs.ValidPlans.{all-append}
 use Rattle.rewrite_core.specs.Files.{FileName, files_of}

@@ -1,7 +1,7 @@
 -- One step of a job: a file is read, or the kept result that it is of is noted.
 use Rattle.std.specs.Prelude.{◌≡◌, ◌⊎◌, ℕ, ◌+◌, ◌≤◌, Bool, List, [], ◌∷◌, ◌++◌, Option, None, Some, IsTrue}
-use Rattle.kept_files.specs.declared.refusal.ReadRefusal.{ReadRefusal}
-use Rattle.kept_files.specs.declared.refusal.ReadRefusal.TheVariants as read
+use Rattle.extent_files.specs.declared.read_refusal.ReadRefusal.{ReadRefusal}
+use Rattle.extent_files.specs.declared.read_refusal.ReadRefusal.TheVariants as read
 use Rattle.outside_traits.specs.View.{Counts}
 use Rattle.outside_traits.specs.Calls.{CountsTaken}
 use Rattle.plan_core.specs.PlainPlan.{PlainPlan}

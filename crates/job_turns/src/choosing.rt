@@ -6,7 +6,7 @@ ghost use Rattle.catalog_core.specs.Catalogs.{table_of};
 ghost use Rattle.catalog_core.specs.Programs.{IsProgram, kinds_of_streams};
 ghost use Rattle.entry_table.specs.Ids.{is_among};
 ghost use Rattle.rewrite_core.specs.PlainRewriting.{rewriting_of};
-ghost use Rattle.rewriting_pieces.specs.Pieces.{HasTyping};
+ghost use Rattle.executor.specs.Pieces.{HasTyping};
 ghost use Rattle.work_run.specs.Opened.{opened_rewriting};
 ghost use Rattle.work_turns.specs.Turns.{IsChosenOf};
 ghost use Rattle.job_turns.specs.Jobs.{Suits, IsJob, IsFresh, IsOpened, IsChosenAgain, IsNextWithout};

@@ -3,7 +3,7 @@ ghost use Rattle.std.specs.Prelude.{◌≡◌, ◌≢◌, ◌⊎◌, ℕ, [], So
 ghost use Rattle.outside_traits.specs.View.{View, Counts};
 ghost use Rattle.outside_traits.specs.Calls.{MayRaiseReads};
 ghost use Rattle.outside_traits.specs.Runs.{Narrows};
-ghost use Rattle.kept_files.specs.declared.refusal.ReadRefusal.TheVariants as read;
+ghost use Rattle.extent_files.specs.declared.read_refusal.ReadRefusal.TheVariants as read;
 ghost use Rattle.plan_core.specs.PlainPlan.{PlainPlan};
 ghost use Rattle.catalog_core.specs.Catalogs.{table_of};
 ghost use Rattle.executor.specs.Runs.{of_reading};
@@ -16,10 +16,10 @@ use crate::job::{JobStep, JobWork};
 use catalog_core::{Catalog, kept_results_of_tables, know_table};
 use executor::read_next;
 use folder::{files_of_states, left_stores};
-use kept_files::ReadRefusal;
+use extent_files::ReadRefusal;
 use outside_traits::Store;
 use plan_choice::{results_are_left_out, serving_rewritings, taken_rewritings};
-use rewriting_pieces::pieces_of_typed_rewritings;
+use executor::pieces_of_typed_rewritings;
 use std::alloc::Global;
 
 impl JobWork {

@@ -5,8 +5,8 @@ use Rattle.plan_core.specs.PlainPlan.{PlainPlan, leaves}
 use Rattle.plan_core.specs.PlanTyping.{Kinds}
 use Rattle.growth_laws.specs.Chains.{IsOneStream}
 use Rattle.growth_laws.specs.Pieces.{Piece, Entry, Gathered}
-use Rattle.rewriting_pieces.specs.Pieces.{HasTyping}
-use Rattle.evaluation.specs.Loading.{IsFitLoad}
+use Rattle.executor.specs.Pieces.{HasTyping}
+use Rattle.executor.specs.Loading.{IsFitLoad}
 use Rattle.gathering.specs.Gathered as so_far
 use Rattle.gathering.specs.Gathered.{Gathers}
 use Rattle.executor.specs.Progress.{Loaded, IsStreamPart, IsPartOf, ArePartsOf}

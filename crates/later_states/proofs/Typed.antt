@@ -14,13 +14,13 @@ use Rattle.plan_canon.proofs.StepTyping.{all_steps_typing}
 use Rattle.plan_laws.specs.PlanShape.{kinds_given}
 use Rattle.growth_laws.specs.Chains.{IsOneStream}
 use Rattle.growth_laws.specs.Growth as laws
-use Rattle.rewriting_pieces.specs.Pieces.{HasTyping}
+use Rattle.executor.specs.Pieces.{HasTyping}
 use Rattle.result_ops.specs.Fitting.{IsFit, IsOfKinds}
 use Rattle.result_ops.specs.declared.made.Made.{Made}
 use Rattle.result_ops.specs.declared.stop.Stop.{Stop}
 use Rattle.result_ops.specs.declared.stop.Stop.TheVariants as stop
 use Rattle.rows_core.specs.declared.overflow.Overflow.{Overflow}
-use Rattle.evaluation.specs.Loading.{IsFitLoad}
+use Rattle.executor.specs.Loading.{IsFitLoad}
 use Rattle.gathering.specs.Gathered.{Gathered, Gathers, ComesTo}
 use Rattle.executor.proofs.StreamTypes.{scan_typed}
 use Rattle.catalog_core.proofs.Typings.{typed_still}

@@ -9,8 +9,8 @@ use Rattle.std.specs.Option.{option_and_then, is_some}
 use Rattle.rows_core.specs.declared.kind.Kind as kind
 use Rattle.rows_core.specs.declared.kind.Kind.TheVariants.{Int, Text}
 use Rattle.plan_core.specs.PlanTyping.{all_there, number_kind}
-use Rattle.plan_grammar.specs.declared.plan.NamedColumn.{NamedColumn}
-use Rattle.plan_grammar.specs.PlainNamed.{PlainColumn, expr_of, column_of}
+use Rattle.plan_text.specs.declared.plan.NamedColumn.{NamedColumn}
+use Rattle.plan_text.specs.PlainNamed.{PlainColumn, expr_of, column_of}
 use Rattle.plan_binder.specs.Binding.{Names, Bound, place_of, is_there, bound_expr, kind_or_int, projected, bound_select}
 
 pub number_or_int : (k : Option kind.Kind) → kind_or_int (number_kind k) ≡ Int

@@ -7,11 +7,11 @@ use Rattle.plan_core.specs.PlainExpr as bound
 use Rattle.plan_core.specs.PlainPlan.{PlainPlan, leaves, leaf_count}
 use Rattle.plan_core.specs.PlanTyping.{Kinds, all_there}
 use Rattle.plan_core.proofs.ValueKinds.{map_some}
-use Rattle.plan_grammar.specs.declared.operator.Operator.{Operator}
-use Rattle.plan_grammar.specs.declared.operator.Operator.TheVariants as operator
-use Rattle.plan_grammar.specs.Counts.{expr_nodes, nodes, wide_nodes, all_expr_nodes, IsWithinLimits}
-use Rattle.plan_grammar.specs.PlainNamed as named
-use Rattle.plan_grammar.specs.PlainNamed.{PlainColumn, PlainTree}
+use Rattle.plan_text.specs.declared.operator.Operator.{Operator}
+use Rattle.plan_text.specs.declared.operator.Operator.TheVariants as operator
+use Rattle.plan_text.specs.Counts.{expr_nodes, nodes, wide_nodes, all_expr_nodes, IsWithinLimits}
+use Rattle.plan_text.specs.PlainNamed as named
+use Rattle.plan_text.specs.PlainNamed.{PlainColumn, PlainTree}
 use Rattle.plan_binder.specs.Binding.{Names, Bound, call1, operated, bound_expr, place_of, binding}
 use Rattle.plan_binder.proofs.BoundPlans.{BoundAs, scan, filter, select, distinct, group, join, concat, order, parts}
 use Rattle.plan_binder.proofs.CallRowLaws.{two_some, three_some, all_cons, bound_plan}

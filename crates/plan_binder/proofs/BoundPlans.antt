@@ -8,11 +8,11 @@ use Rattle.plan_core.specs.PlainExpr as bound
 use Rattle.plan_core.specs.PlainPlan.{PlainPlan, Scan, Filter, Project, Group, Join, Concat, Order, leaves}
 use Rattle.plan_core.specs.PlanTyping.{Kinds, all_there, column_kind_of, agg_kind, is_empty, plan_kinds, filter_kinds, project_kinds, group_kinds, join_kinds, concat_kinds, order_kinds}
 use Rattle.plan_core.proofs.ValueKinds.{then_some, map_some, both_some, unless_some, where_some, slice_get-map}
-use Rattle.plan_grammar.specs.declared.plan.NamedResult.{NamedResult}
-use Rattle.plan_grammar.specs.declared.plan.NamedPair.{NamedPair}
-use Rattle.plan_grammar.specs.declared.plan.NamedKey.{NamedKey}
-use Rattle.plan_grammar.specs.PlainNamed as named
-use Rattle.plan_grammar.specs.PlainNamed.{PlainColumn, PlainTree, From, Where, Select, streams_of}
+use Rattle.plan_text.specs.declared.plan.NamedResult.{NamedResult}
+use Rattle.plan_text.specs.declared.plan.NamedPair.{NamedPair}
+use Rattle.plan_text.specs.declared.plan.NamedKey.{NamedKey}
+use Rattle.plan_text.specs.PlainNamed as named
+use Rattle.plan_text.specs.PlainNamed.{PlainColumn, PlainTree, From, Where, Select, streams_of}
 use Rattle.plan_binder.specs.Binding.{Names, Bound, kind_or_int, with_columns, has_repeat, bound_expr, bound_agg, bound_pair, bound_key, place_of, projected, grouped, joined, bound_scan, bound_where, bound_select, bound_distinct, bound_group, bound_join, bound_concat, bound_order, bound_tree}
 use Rattle.std.specs.Option.{option_map}
 use Rattle.rows_core.specs.declared.kind.Kind as a_kind

@@ -12,10 +12,10 @@ use Rattle.plan_core.specs.PlainExpr as bound
 use Rattle.plan_core.specs.PlainPlan.{PlainPlan}
 use Rattle.plan_core.specs.ExpressionKind.{of_both, call_kind, both_truths, choice_kind, expression_kind}
 use Rattle.plan_core.specs.PlanTyping.{Kinds, all_there, is_empty, is_truth, column_kind, column_kind_of, plan_kinds, filter_kinds, project_kinds, group_kinds, join_kinds, concat_kinds, order_kinds}
-use Rattle.plan_grammar.specs.declared.operator.Operator.{Operator}
-use Rattle.plan_grammar.specs.declared.operator.Operator.TheVariants as operator
-use Rattle.plan_grammar.specs.PlainNamed as named
-use Rattle.plan_grammar.specs.PlainNamed.{PlainColumn, PlainTree}
+use Rattle.plan_text.specs.declared.operator.Operator.{Operator}
+use Rattle.plan_text.specs.declared.operator.Operator.TheVariants as operator
+use Rattle.plan_text.specs.PlainNamed as named
+use Rattle.plan_text.specs.PlainNamed.{PlainColumn, PlainTree}
 use Rattle.plan_binder.specs.OpRows.{row_for}
 use Rattle.plan_binder.specs.Binding.{Names, Bound, call1, call2, operated, of_two, of_three, bound_expr, bound_tree, absent_stream, present_or, plan_or_ill_typed, binding}
 use Rattle.plan_binder.specs.CallRows.{has_no_row, operator_lacks_row, bound_kind, lacks_row, test_lacks_row, columns_lack_row, plan_lacks_row}

@@ -18,19 +18,19 @@ use Rattle.plan_core.specs.PlainExpr.{Column, Literal, And, Or, If}
 use Rattle.plan_core.specs.PlainPlan.{PlainPlan, Scan, Filter, Project, Distinct, Group, Join, Concat, Order, plan_of}
 use Rattle.plan_core.specs.ExpressionKind.{of_both, expression_kind}
 use Rattle.plan_core.specs.PlanTyping.{Kinds, all_there, column_kind_of, agg_kind}
-use Rattle.plan_grammar.specs.declared.operator.Operator.{Operator}
-use Rattle.plan_grammar.specs.declared.operator.Operator.TheVariants as operator
-use Rattle.plan_grammar.specs.declared.plan.AggFunction as named_function
-use Rattle.plan_grammar.specs.declared.plan.AggFunction.TheVariants as function
-use Rattle.plan_grammar.specs.declared.plan.NamedAgg.{NamedAgg}
-use Rattle.plan_grammar.specs.declared.plan.NamedAgg.TheVariants as named_agg
-use Rattle.plan_grammar.specs.declared.plan.NamedResult.{NamedResult}
-use Rattle.plan_grammar.specs.declared.plan.NamedPair.{NamedPair}
-use Rattle.plan_grammar.specs.declared.plan.NamedKey.{NamedKey}
+use Rattle.plan_text.specs.declared.operator.Operator.{Operator}
+use Rattle.plan_text.specs.declared.operator.Operator.TheVariants as operator
+use Rattle.plan_text.specs.declared.plan.AggFunction as named_function
+use Rattle.plan_text.specs.declared.plan.AggFunction.TheVariants as function
+use Rattle.plan_text.specs.declared.plan.NamedAgg.{NamedAgg}
+use Rattle.plan_text.specs.declared.plan.NamedAgg.TheVariants as named_agg
+use Rattle.plan_text.specs.declared.plan.NamedResult.{NamedResult}
+use Rattle.plan_text.specs.declared.plan.NamedPair.{NamedPair}
+use Rattle.plan_text.specs.declared.plan.NamedKey.{NamedKey}
 use Rattle.plan_binder.specs.declared.refusal.BindRefusal.{BindRefusal}
 use Rattle.plan_binder.specs.declared.refusal.BindRefusal.TheVariants as refusal
-use Rattle.plan_grammar.specs.PlainNamed as named
-use Rattle.plan_grammar.specs.PlainNamed.{PlainColumn, PlainTree, From, Where, Select, streams_of}
+use Rattle.plan_text.specs.PlainNamed as named
+use Rattle.plan_text.specs.PlainNamed.{PlainColumn, PlainTree, From, Where, Select, streams_of}
 use Rattle.plan_binder.specs.OpRows.{row_for}
 
 abbrev pub Names : Type 0

@@ -7,9 +7,9 @@ use Rattle.scalar_ops.specs.declared.cell.CellKind.{CellKind}
 use Rattle.scalar_ops.specs.declared.table.Op.{Op}
 use Rattle.plan_core.specs.ExpressionKind.{expression_kind}
 use Rattle.plan_core.specs.PlanTyping.{Kinds, all_there}
-use Rattle.plan_grammar.specs.declared.operator.Operator.{Operator}
-use Rattle.plan_grammar.specs.declared.operator.Operator.TheVariants as operator
-use Rattle.plan_grammar.specs.PlainNamed.{PlainExpr, Column, Literal, Call1, Binary, If, PlainColumn, PlainTree, From, Where, Select, Distinct, Group, Join, Concat, Order}
+use Rattle.plan_text.specs.declared.operator.Operator.{Operator}
+use Rattle.plan_text.specs.declared.operator.Operator.TheVariants as operator
+use Rattle.plan_text.specs.PlainNamed.{PlainExpr, Column, Literal, Call1, Binary, If, PlainColumn, PlainTree, From, Where, Select, Distinct, Group, Join, Concat, Order}
 use Rattle.plan_binder.specs.OpRows.{row_with}
 use Rattle.plan_binder.specs.Binding.{Names, Bound, bound_expr, bound_tree}
 

@@ -10,7 +10,7 @@ ghost use Rattle.plan_binder.specs.Resolves.{Resolves};
 use crate::allocation::push;
 use crate::refusal::BindRefusal;
 use plan_core::Agg;
-use plan_grammar::{AggFunction, NamedAgg, NamedKey, NamedPair, NamedResult};
+use plan_text::{AggFunction, NamedAgg, NamedKey, NamedPair, NamedResult};
 use rows_core::{Key, Name};
 use std::alloc::Global;
 

@@ -4,7 +4,7 @@ ghost use Rattle.std.specs.List.{find};
 ghost use Rattle.std.specs.Option.{option_map};
 ghost use Rattle.plan_core.specs.PlainPlan.{plan_of};
 ghost use Rattle.plan_core.specs.ExpressionKind.{of_both};
-ghost use Rattle.plan_grammar.specs.PlainNamed.{tree_of};
+ghost use Rattle.plan_text.specs.PlainNamed.{tree_of};
 ghost use Rattle.plan_binder.specs.Binding.{Binds, binding, bound_tree, bound_join, bound_concat, is_there};
 ghost use Rattle.plan_binder.specs.BoundPlan.{bound_of};
 ghost use Rattle.plan_binder.specs.Resolves.{Resolves};
@@ -16,7 +16,7 @@ use crate::bound::{
 use crate::refusal::BindRefusal;
 use crate::stream::{Stream, stream_is_there};
 use plan_core::Plan;
-use plan_grammar::{NamedPair, NamedPlan, NamedTree};
+use plan_text::{NamedPair, NamedPlan, NamedTree};
 use rows_core::Name;
 use std::alloc::Global;
 

@@ -4,7 +4,7 @@ ghost use Rattle.std.specs.Prelude.{◌≡◌, ◌++◌, Some, map, IfOk};
 ghost use Rattle.rows_core.specs.Schema.{kinds_of};
 ghost use Rattle.plan_core.specs.PlainExpr as bound;
 ghost use Rattle.plan_core.specs.PlainPlan.{plan_of, Scan, Filter, Project, Group, Order};
-ghost use Rattle.plan_grammar.specs.PlainNamed.{expr_of, column_of};
+ghost use Rattle.plan_text.specs.PlainNamed.{expr_of, column_of};
 ghost use Rattle.plan_binder.specs.Binding.{with_columns, projected, grouped, joined, bound_from};
 ghost use Rattle.plan_binder.specs.Binding.{bound_where, bound_select, bound_distinct, bound_group};
 ghost use Rattle.plan_binder.specs.Binding.{bound_join, bound_concat, bound_order};
@@ -19,7 +19,7 @@ use crate::refusal::BindRefusal;
 use crate::result_columns::{group_columns, names_of, schema_kinds, select_columns};
 use crate::stream::{Stream, stream_place};
 use plan_core::{Expr, Plan};
-use plan_grammar::{NamedColumn, NamedExpr, NamedKey, NamedPair, NamedResult};
+use plan_text::{NamedColumn, NamedExpr, NamedKey, NamedPair, NamedResult};
 use rows_core::{Key, Memory, Name, Schema, Seq};
 use std::alloc::Global;
 

@@ -9,7 +9,7 @@ use crate::allocation::push;
 use crate::bind_names::GroupParts;
 use crate::columns::Columns;
 use plan_core::{Agg, Expr, expression_kind};
-use plan_grammar::{NamedColumn, NamedResult};
+use plan_text::{NamedColumn, NamedResult};
 use rows_core::{Column, Kind, Memory, Name};
 use scalar_ops::CellKind;
 use std::alloc::Global;

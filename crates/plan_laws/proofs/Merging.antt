@@ -60,11 +60,13 @@ module _ {X : Type 0} (lt : X → X → Bool) where
         → ((ys : List X) → Rises (λ y. lt y x ≡ false) ys → Rises (λ y. lt y x ≡ false) (after ys))
         → (ys : List X) (P : X → Type 0) → P x → Rises P ys → Rises P (merge_at first x xs after ys)
     rises_at x xs after rest go [] P p h = (p, rest)
-    rises_at x xs after rest go (y ∷ ys) P p h = by (first x y) refl
+    rises_at x xs after rest go (y ∷ ys) P p h =
+        by (λ e. rises_at x xs after rest go ys (λ z. lt z y ≡ false) (right x y e) h.1) (first x y) refl
       where
-        by : (b : Bool) → first x y ≡ b → Rises P (cond b (x ∷ after (y ∷ ys)) (y ∷ merge_at first x xs after ys))
-        by true e = (p, go (y ∷ ys) (left x y e, h.1))
-        by false e = (h.0, rises_at x xs after rest go ys (λ z. lt z y ≡ false) (right x y e) h.1)
+        by : (first x y ≡ false → Rises (λ z. lt z y ≡ false) (merge_at first x xs after ys)) → (b : Bool) → first x y ≡ b
+            → Rises P (cond b (x ∷ after (y ∷ ys)) (y ∷ merge_at first x xs after ys))
+        by later true e = (p, go (y ∷ ys) (left x y e, h.1))
+        by later false e = (h.0, later e)
 
     rises_merge : (xs ys : List X) (P : X → Type 0) → Rises P xs → Rises P ys → Rises P (merge_by first xs ys)
     rises_merge [] ys P a b = b

@@ -1,0 +1,16 @@
+pub mod CanonicalRead
+pub mod CanonicalSpelled
+pub mod CanonicalTokens
+pub mod DraftLemmas
+pub mod ExprReading
+pub mod Levels
+pub mod ListLemmas
+pub mod NeededParens
+pub mod OperatorLaws
+pub mod Plans
+pub mod Printing
+pub mod RepeatLemmas
+pub mod TextTokenLaws
+pub mod Texts
+pub mod TokenLemmas
+pub mod Whole

@@ -5,8 +5,8 @@ use Rattle.rows_core.specs.declared.cut.Cut.{Cut}
 use Rattle.rows_core.specs.declared.schema.Column.{Column}
 use Rattle.plan_core.specs.Nesting.{node_count, expr_count}
 use Rattle.plan_core.specs.PlainPlan.{PlainPlan, leaves}
-use Rattle.plan_grammar.specs.Counts.{IsWithinLimits}
-use Rattle.plan_grammar.specs.PlainNamed.{PlainTree}
+use Rattle.plan_text.specs.Counts.{IsWithinLimits}
+use Rattle.plan_text.specs.PlainNamed.{PlainTree}
 use Rattle.plan_binder.specs.Binding.{Names, binding}
 use Rattle.catalog_types.specs.declared.program.Program.{Program}
 use Rattle.catalog_core.specs.Programs.{names_of, columns_of, AreCuts}

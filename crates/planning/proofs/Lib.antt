@@ -1,8 +1,13 @@
 pub mod AppendFits
 pub mod AppendLemmas
+pub mod Ascending
+pub mod Collections
+pub mod Entries
 pub mod Fetches
-pub mod ReadingLemmas
-pub mod RunLemmas
-pub mod Stored
+pub mod Going
 pub mod Openings
+pub mod ReadingLemmas
+pub mod Recorded
+pub mod RunLemmas
 pub mod Runs
+pub mod Stored

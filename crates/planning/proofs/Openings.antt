@@ -3,7 +3,7 @@ use Rattle.std.proofs.Common.{◌≡◌, ◌∙◌, ◌⊎◌, ℕ, Bool, List, 
 use Rattle.plan_core.specs.declared.refusal.PlanRefusal.{PlanRefusal}
 use Rattle.plan_core.specs.PlainPlan.{PlainPlan}
 use Rattle.plan_core.specs.PlanTyping.{Kinds}
-use Rattle.plan_grammar.specs.PlainNamed.{PlainTree}
+use Rattle.plan_text.specs.PlainNamed.{PlainTree}
 use Rattle.plan_binder.specs.declared.refusal.BindRefusal.{BindRefusal}
 use Rattle.catalog_core.specs.Table.{Table}
 use Rattle.script_text.specs.declared.answer.Refusal.{Refusal}

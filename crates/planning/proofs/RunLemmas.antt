@@ -13,7 +13,7 @@ use Rattle.plan_core.specs.declared.refusal.PlanRefusal.TheVariants.{Unknown}
 use Rattle.plan_core.specs.PlainPlan.{PlainPlan, leaves}
 use Rattle.plan_core.specs.PlanTyping.{Kinds, absent_stream, plan_kinds, has_too_many, present_or, typed_or}
 use Rattle.plan_core.specs.TypedPlan.{TypedPlan, MeansTyping}
-use Rattle.plan_grammar.specs.PlainNamed.{PlainTree, streams_of}
+use Rattle.plan_text.specs.PlainNamed.{PlainTree, streams_of}
 use Rattle.plan_binder.specs.declared.refusal.BindRefusal.{BindRefusal}
 use Rattle.plan_binder.specs.declared.refusal.BindRefusal.TheVariants as binding
 use Rattle.plan_binder.specs.Binding as binder

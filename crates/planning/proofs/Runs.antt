@@ -1,7 +1,7 @@
 -- A run of a plan that has a typing.
 use Rattle.std.proofs.Common.{◌≡◌, ◌∙◌, ◌⊎◌, ℕ, List, Result, Ok, Err, IfOk, IfErr, inl, inr}
 use Rattle.plan_core.specs.TypedPlan.{TypedPlan, IsTypedOver}
-use Rattle.plan_grammar.specs.PlainNamed.{PlainTree}
+use Rattle.plan_text.specs.PlainNamed.{PlainTree}
 use Rattle.catalog_core.specs.Programs.{kinds_of_streams}
 use Rattle.catalog_core.specs.Table.{Table}
 use Rattle.script_text.specs.declared.answer.Refusal.{Refusal}

@@ -3,10 +3,10 @@ use Rattle.std.proofs.Common.{◌≡◌, ◌+◌, ◌*◌, ◌≤◌, ◌<◌, �
 use Rattle.plan_core.specs.Nesting.{node_count, expr_count}
 use Rattle.plan_core.specs.PlainPlan.{leaves}
 use Rattle.plan_core.specs.TypedPlan.{TypedPlan, IsTypedOver}
-use Rattle.plan_grammar.specs.Counts.{IsWithinLimits}
-use Rattle.plan_grammar.specs.PlainNamed.{PlainTree}
-use Rattle.plan_grammar.specs.Spelled.{SpellsText}
-use Rattle.plan_printer.specs.Canonical.{canonical_text}
+use Rattle.plan_text.specs.Counts.{IsWithinLimits}
+use Rattle.plan_text.specs.PlainNamed.{PlainTree}
+use Rattle.plan_text.specs.Spelled.{SpellsText}
+use Rattle.plan_text.specs.Canonical.{canonical_text}
 use Rattle.catalog_types.specs.declared.program.Program.{Program}
 use Rattle.catalog_types.specs.declared.snapshot.StreamState.{StreamState}
 use Rattle.catalog_core.specs.Programs.{AreCuts, IsProgram, kinds_of_streams, with_program, is_below, below, above}

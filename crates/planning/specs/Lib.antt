@@ -1,7 +1,8 @@
-pub mod Rows
-pub mod Making
 pub mod Appending
-pub mod Running
+pub mod Collecting
+pub mod Fetching
+pub mod Making
 pub mod Opening
 pub mod Recorded
-pub mod Fetching
+pub mod Rows
+pub mod Running

@@ -7,8 +7,8 @@ use Rattle.plan_core.specs.Nesting.{node_count, expr_count}
 use Rattle.plan_core.specs.PlainPlan.{PlainPlan, leaves}
 use Rattle.plan_core.specs.PlanTyping.{Kinds, plan_typing}
 use Rattle.plan_core.specs.TypedPlan.{TypedPlan, IsTypedOver}
-use Rattle.plan_grammar.specs.PlainNamed.{PlainTree}
-use Rattle.plan_printer.specs.Canonical.{canonical_text}
+use Rattle.plan_text.specs.PlainNamed.{PlainTree}
+use Rattle.plan_text.specs.Canonical.{canonical_text}
 use Rattle.plan_binder.specs.declared.refusal.BindRefusal.{BindRefusal}
 use Rattle.plan_binder.specs.declared.refusal.BindRefusal.TheVariants as binding
 use Rattle.plan_binder.specs.Binding as binder

@@ -1,7 +1,7 @@
 //! The opening of jobs.
 ghost use Rattle.std.specs.Prelude.{◌≡◌, ◌⊎◌, ◌≤◌, length, Ok, Err, IfOk, IfErr, IfSome, IfNone, IsErrOf};
 ghost use Rattle.plan_core.specs.TypedPlan.{IsTypedOver};
-ghost use Rattle.plan_grammar.specs.Counts.{IsWithinLimits};
+ghost use Rattle.plan_text.specs.Counts.{IsWithinLimits};
 ghost use Rattle.catalog_core.specs.Catalogs.{table_of};
 ghost use Rattle.catalog_core.specs.Programs.{kinds_of_streams};
 ghost use Rattle.script_text.specs.declared.answer.Refusal.TheVariants.{Limit};
@@ -15,7 +15,7 @@ use catalog_core::Catalog;
 use catalog_types::Program;
 use plan_binder::bind_laws;
 use plan_core::Typed;
-use plan_grammar::NamedPlan;
+use plan_text::NamedPlan;
 use rows_core::Name;
 use script_text::{LimitKind, Refusal};
 use std::alloc::Global;

@@ -1,7 +1,7 @@
 //! The program that a plan is stored as.
 ghost use Rattle.std.specs.Prelude.{◌≡◌, ◌<◌, ◌≤◌, Ok, Err, IfOk, IfSome, IfNone, length, map, nat_lt};
-ghost use Rattle.plan_grammar.specs.Spelled.{SpellsText};
-ghost use Rattle.plan_printer.specs.Canonical.{canonical_text};
+ghost use Rattle.plan_text.specs.Spelled.{SpellsText};
+ghost use Rattle.plan_text.specs.Canonical.{canonical_text};
 ghost use Rattle.catalog_core.specs.Catalogs.{table_of};
 ghost use Rattle.catalog_core.specs.Programs.{most_text_bytes, with_program, below, above};
 ghost use Rattle.catalog_core.specs.Streams.{states_of};
@@ -12,8 +12,7 @@ ghost use Rattle.planning.specs.Running.{Run, storing, whole_cut};
 use crate::extents::extents_at;
 use catalog_core::{Catalog, CatalogStream, is_below};
 use catalog_types::Program;
-use plan_grammar::NamedPlan;
-use plan_printer::print_plan;
+use plan_text::{NamedPlan, print_plan};
 use rows_core::{Cut, Memory, Name, Seq};
 use script_text::LimitKind;
 use std::alloc::Global;

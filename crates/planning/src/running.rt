@@ -1,7 +1,7 @@
 //! Runs of plans.
 ghost use Rattle.std.specs.Prelude.{◌≡◌, ◌⊎◌, Ok, Err, IfOk, IfErr, IsErrOf};
 ghost use Rattle.plan_core.specs.TypedPlan.{IsTypedOver};
-ghost use Rattle.plan_grammar.specs.Counts.{IsWithinLimits};
+ghost use Rattle.plan_text.specs.Counts.{IsWithinLimits};
 ghost use Rattle.catalog_core.specs.Catalogs.{table_of};
 ghost use Rattle.catalog_core.specs.Programs.{kinds_of_streams};
 ghost use Rattle.planning.specs.Running.{Run, bound_plan, running, storing, run_of, IsRunPlan};
@@ -12,7 +12,7 @@ use catalog_core::Catalog;
 use catalog_types::Program;
 use plan_binder::bind_laws;
 use plan_core::Typed;
-use plan_grammar::NamedPlan;
+use plan_text::NamedPlan;
 use rows_core::Name;
 use script_text::Refusal;
 use std::alloc::Global;

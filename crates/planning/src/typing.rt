@@ -3,7 +3,7 @@ ghost use Rattle.std.specs.Prelude.{◌≡◌, ◌⊎◌, ℕ, Some, Ok, Err, If
 ghost use Rattle.plan_core.specs.PlainPlan.{plan_of, leaves};
 ghost use Rattle.plan_core.specs.TypedPlan.{IsTypedOver};
 ghost use Rattle.plan_core.specs.PlanTyping.{plan_typing};
-ghost use Rattle.plan_grammar.specs.PlainNamed.{PlainTree};
+ghost use Rattle.plan_text.specs.PlainNamed.{PlainTree};
 ghost use Rattle.plan_binder.specs.Binding.{Binds};
 ghost use Rattle.catalog_core.specs.Catalogs.{table_of};
 ghost use Rattle.catalog_core.specs.Programs.{kinds_of_streams};
@@ -12,7 +12,7 @@ ghost use Rattle.planning.specs.Running.{bound_plan, typing_of, unbound, plan_re
 use catalog_core::Catalog;
 use plan_binder::{BindRefusal, bind, bind_laws};
 use plan_core::{Plan, PlanRefusal, Schemas, Typed, type_plan};
-use plan_grammar::NamedPlan;
+use plan_text::NamedPlan;
 use script_text::{LimitKind, Refusal};
 use std::alloc::Global;
 

@@ -2,7 +2,7 @@
 use Rattle.std.proofs.Common.{◌≡◌, ℕ, Bool, true, false, cond, List, [], ◌∷◌, codes, Option, Some, None, Result, Ok, Err, option_and_then, refl, sym, subst, inl, inr}
 use Rattle.std.specs.Prelude.{◌⊎◌, ⊤}
 use Rattle.std.specs.List.{before_first, after_first}
-use Rattle.plan_parser.specs.Answer.{TextReading, AsPlan, AsTooLarge, AsNone, text_reading}
+use Rattle.plan_text.specs.Answer.{TextReading, AsPlan, AsTooLarge, AsNone, text_reading}
 use Rattle.rows_core.specs.declared.schema.Column.{Column}
 use Rattle.script_text.specs.CollectLine.{number_of, collect_with, collect_of}
 use Rattle.script_text.specs.Dispatch.{behind_or, stream_command, command_of}

@@ -2,9 +2,9 @@
 use Rattle.std.proofs.Common.{◌≡◌, ℕ, Bool, true, false, cond, List, [], ◌∷◌, ◌++◌, length, codes, Option, Some, None, Ok, Err, refl, sym, ap, ◌∙◌, subst, length-append, inl, inr, arith}
 use Rattle.std.specs.Prelude.{◌⊎◌}
 use Rattle.std.specs.List.{before_first, after_first}
-use Rattle.plan_grammar.specs.PlainNamed.{PlainTree}
-use Rattle.plan_grammar.specs.declared.limit.PlanLimit.{PlanLimit}
-use Rattle.plan_parser.specs.Answer.{TextReading, AsPlan, AsTooLarge, text_reading}
+use Rattle.plan_text.specs.PlainNamed.{PlainTree}
+use Rattle.plan_text.specs.declared.limit.PlanLimit.{PlanLimit}
+use Rattle.plan_text.specs.Answer.{TextReading, AsPlan, AsTooLarge, text_reading}
 use Rattle.rows_core.specs.Name.{IsName, is_name}
 use Rattle.script_text.specs.Dispatch.{command_of, line_command}
 use Rattle.script_text.specs.JobLine.{job_of, open_with, open_of_words}

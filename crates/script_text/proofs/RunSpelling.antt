@@ -1,10 +1,10 @@
 -- A line spells a run, or one with a plan that is too large, exactly where it is read so.
 use Rattle.std.proofs.Common.{◌≡◌, ℕ, List, ◌∷◌, ◌++◌, codes, Option, Some, None, Ok, Err, refl, sym, ap, ◌∙◌, subst}
 use Rattle.std.specs.Prelude.{⊤}
-use Rattle.plan_grammar.specs.PlainNamed.{PlainTree}
-use Rattle.plan_grammar.specs.declared.limit.PlanLimit.{PlanLimit}
-use Rattle.plan_grammar.specs.declared.limit.PlanLimit.TheVariants.{Nodes, Wide, Exprs}
-use Rattle.plan_parser.specs.Answer.{TextReading, AsPlan, AsTooLarge, AsNone, text_reading}
+use Rattle.plan_text.specs.PlainNamed.{PlainTree}
+use Rattle.plan_text.specs.declared.limit.PlanLimit.{PlanLimit}
+use Rattle.plan_text.specs.declared.limit.PlanLimit.TheVariants.{Nodes, Wide, Exprs}
+use Rattle.plan_text.specs.Answer.{TextReading, AsPlan, AsTooLarge, AsNone, text_reading}
 use Rattle.script_text.specs.Dispatch.{command_of, line_command}
 use Rattle.script_text.specs.RunLine.{SpelledRun, limit_of, run_with, run_of_text, run_named, run_of_parts, named_run, run_command}
 use Rattle.script_text.specs.Spelled.{spelled_by}

@@ -11,9 +11,9 @@ use Rattle.script_text.specs.Dispatch.{behind_or, command_of, line_command}
 use Rattle.script_text.specs.JobLine.{open_with}
 use Rattle.script_text.specs.RunLine.{SpelledRun, run_with, run_of_text, run_named, run_of_parts, named_run, run_command}
 use Rattle.script_text.specs.Spelled.{Spelled, or_syntax, then_spelled, spelled_by}
-use Rattle.plan_grammar.specs.Counts.{IsWithinLimits}
-use Rattle.plan_parser.specs.Answer.{TextReading, AsPlan, AsTooLarge, AsNone, text_reading}
-use Rattle.plan_parser.proofs.Texts.{reading_plan}
+use Rattle.plan_text.specs.Counts.{IsWithinLimits}
+use Rattle.plan_text.specs.Answer.{TextReading, AsPlan, AsTooLarge, AsNone, text_reading}
+use Rattle.plan_text.proofs.Texts.{reading_plan}
 use Rattle.script_text.specs.Script.{Block, block_limit, line_limit, spelled_item, append_with, command_item, is_end, line_item, line_block, unended_item, no_items, last_items, items_of_lines, is_newline, items_by, items, all_items, IsWhole, IsWholeItem, IsForBytes, IsRefusedForBytes}
 use Rattle.script_text.specs.declared.answer.LimitKind.{LimitKind}
 use Rattle.script_text.specs.declared.answer.Refusal.TheVariants.{Syntax}

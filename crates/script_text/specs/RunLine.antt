@@ -1,8 +1,8 @@
 -- The line `run NAME = PLAN`. Any number of spaces stands before, between and behind its parts.
 use Rattle.std.specs.Prelude.{ℕ, List, Option, Some, None, Result, Ok, Err}
-use Rattle.plan_grammar.specs.declared.limit.PlanLimit.{PlanLimit}
-use Rattle.plan_grammar.specs.declared.limit.PlanLimit.TheVariants as plan_limit
-use Rattle.plan_parser.specs.Answer.{TextReading, AsPlan, AsTooLarge, AsNone, text_reading}
+use Rattle.plan_text.specs.declared.limit.PlanLimit.{PlanLimit}
+use Rattle.plan_text.specs.declared.limit.PlanLimit.TheVariants as plan_limit
+use Rattle.plan_text.specs.Answer.{TextReading, AsPlan, AsTooLarge, AsNone, text_reading}
 use Rattle.script_text.specs.Words.{only_name}
 use Rattle.script_text.specs.StreamLine.{Parts, parts_at}
 use Rattle.script_text.specs.Spelled.{Spelled, spelled_by}

@@ -1,7 +1,7 @@
 -- What a script spells: its commands, as functions of whole texts that go line by line.
 use Rattle.std.specs.Prelude.{◌≡◌, ℕ, ◌+◌, ◌<◌, Bool, ◌&&◌, ◌||◌, ◌==◌, nat_le, if◌then◌else◌, List, [], ◌∷◌, ◌++◌, length, sum_by, Option, Some, None, Ok, Err, option_to_list, codes, bytes_eq, ◌⊎◌, ⊤}
 use Rattle.std.specs.List.{slice_split, list_all}
-use Rattle.plan_grammar.specs.Counts.{IsWithinLimits}
+use Rattle.plan_text.specs.Counts.{IsWithinLimits}
 use Rattle.script_text.specs.Words.{is_skipped, begins_block, head_name}
 use Rattle.script_text.specs.Dispatch.{line_command}
 use Rattle.script_text.specs.Spelled.{Spelled, or_syntax}

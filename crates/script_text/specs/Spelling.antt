@@ -4,10 +4,10 @@ use Rattle.std.specs.List.{AllByRecursion}
 use Rattle.rows_core.specs.Kind.{kind_word}
 use Rattle.rows_core.specs.Name.{IsName}
 use Rattle.rows_core.specs.declared.schema.Column.{Column}
-use Rattle.plan_grammar.specs.PlainNamed.{PlainTree}
-use Rattle.plan_grammar.specs.declared.limit.PlanLimit.{PlanLimit}
-use Rattle.plan_grammar.specs.Spelled.{SpellsText}
-use Rattle.plan_grammar.specs.Counts.{IsWithinLimits, IsFirstPassed}
+use Rattle.plan_text.specs.PlainNamed.{PlainTree}
+use Rattle.plan_text.specs.declared.limit.PlanLimit.{PlanLimit}
+use Rattle.plan_text.specs.Spelled.{SpellsText}
+use Rattle.plan_text.specs.Counts.{IsWithinLimits, IsFirstPassed}
 
 abbrev pub AreSpaces : List ℕ → Type 0
 AreSpaces text = AllByRecursion (λ c. c ≡ 32) text

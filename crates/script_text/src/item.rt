@@ -4,7 +4,7 @@ ghost use Rattle.std.specs.List.{AllByRecursion};
 ghost use Rattle.script_text.specs.Script.{items, all_items, IsWholeItem, IsRefusedForBytes};
 
 use crate::answer::Refusal;
-use plan_grammar::NamedPlan;
+use plan_text::NamedPlan;
 use rows_core::{Column, Name, Seq, Text};
 
 /// What a person asks for.

@@ -1,6 +1,6 @@
 //! The line `run NAME = PLAN`.
 ghost use Rattle.std.specs.Prelude.{◌≡◌, IfOk};
-ghost use Rattle.plan_grammar.specs.Counts.{IsWithinLimits};
+ghost use Rattle.plan_text.specs.Counts.{IsWithinLimits};
 ghost use Rattle.script_text.specs.RunLine.{limit_of, run_of, named_run, run_of_text};
 ghost use Rattle.script_text.specs.Script.{IsWhole};
 ghost use Rattle.script_text.specs.Spelled.{IsReadOf};
@@ -9,8 +9,8 @@ use crate::answer::{LimitKind, Refusal};
 use crate::item::Command;
 use crate::stream_line::split_at_mark;
 use crate::words::only_name;
-use plan_grammar::{NamedPlan, PlanLimit};
-use plan_parser::{TextRefusal, parse_plan};
+use plan_text::{NamedPlan, PlanLimit};
+use plan_text::{TextRefusal, parse_plan};
 use rows_core::{Memory, Name};
 use std::alloc::Global;
 

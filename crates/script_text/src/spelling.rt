@@ -3,8 +3,8 @@ ghost use Rattle.std.specs.Prelude.{◌≡◌, ◌↔◌, ℕ, true, false, List
 ghost use Rattle.rows_core.specs.declared.schema.Column.{Column};
 ghost use Rattle.script_text.specs.Words.{head_name};
 ghost use Rattle.script_text.specs.Dispatch.{line_command};
-ghost use Rattle.plan_grammar.specs.PlainNamed.{PlainTree};
-ghost use Rattle.plan_grammar.specs.declared.limit.PlanLimit.{PlanLimit};
+ghost use Rattle.plan_text.specs.PlainNamed.{PlainTree};
+ghost use Rattle.plan_text.specs.declared.limit.PlanLimit.{PlanLimit};
 ghost use Rattle.script_text.specs.RunLine.{limit_of};
 ghost use Rattle.script_text.specs.Spelling.{SpellsStream, SpellsAppend, SpellsRun, SpellsTooLarge};
 ghost use Rattle.script_text.specs.Spelling.{SpellsOpen, SpellsStep, SpellsClose, SpellsDrop};
@@ -14,7 +14,7 @@ ghost use Rattle.script_text.specs.declared.answer.Refusal.TheVariants.{Limit};
 ghost use Rattle.script_text.specs.declared.item.Command.TheVariants.{Stream, Run, Fetch, Collect, Entries};
 ghost use Rattle.script_text.specs.declared.item.Command.TheVariants.{Catalog, OpenJob, Step, Close, DropJob};
 
-use plan_parser::plan_laws::texts_are_read;
+use plan_text::plan_laws::texts_are_read;
 
 /// A stream is read from a line exactly where the line spells `stream NAME (COL:KIND, COL:KIND)`, with any
 /// number of spaces before, between and behind its parts.

@@ -7,8 +7,8 @@ use Rattle.rewrite_core.specs.Files.{FileName}
 use Rattle.catalog_core.specs.IsTable.{IsTable}
 use Rattle.catalog_core.specs.Named.{file_at}
 use Rattle.catalog_core.specs.Table.{Table}
-use Rattle.kept_files.specs.declared.refusal.ReadRefusal.{ReadRefusal}
-use Rattle.kept_files.specs.declared.refusal.ReadRefusal.TheVariants as reading
+use Rattle.extent_files.specs.declared.read_refusal.ReadRefusal.{ReadRefusal}
+use Rattle.extent_files.specs.declared.read_refusal.ReadRefusal.TheVariants as reading
 use Rattle.executor.specs.Runs as runs
 use Rattle.executor.specs.Runs.{of_reading}
 use Rattle.executor.specs.declared.refusal.RunRefusal.{RunRefusal}

@@ -3,7 +3,7 @@ use Rattle.std.proofs.Common.{◌≡◌, ◌⊎◌, inl, inr, refl, sym, ap, ◌
 use Rattle.outside_traits.specs.View.{View}
 use Rattle.estimator.specs.Bytes.{capped}
 use Rattle.rewrite_core.specs.Files.{FileName}
-use Rattle.plan_grammar.specs.PlainNamed.{PlainTree}
+use Rattle.plan_text.specs.PlainNamed.{PlainTree}
 use Rattle.catalog_core.specs.Table.{Table}
 use Rattle.plan_choice.specs.Taken.{IsTaken}
 use Rattle.planning.specs.Opening.{opening}

@@ -5,7 +5,7 @@ use Rattle.plan_binder.specs.declared.refusal.BindRefusal.{BindRefusal}
 use Rattle.plan_core.specs.PlainPlan.{PlainPlan}
 use Rattle.plan_core.specs.PlanTyping.{Kinds}
 use Rattle.plan_core.specs.declared.refusal.PlanRefusal.{PlanRefusal}
-use Rattle.plan_grammar.specs.PlainNamed.{PlainTree}
+use Rattle.plan_text.specs.PlainNamed.{PlainTree}
 use Rattle.catalog_core.specs.Programs.{most_text_bytes}
 use Rattle.catalog_core.specs.Table.{Table}
 use Rattle.estimator.specs.Bytes.{capped}

@@ -5,7 +5,7 @@ use Rattle.plan_core.specs.PlainPlan.{PlainPlan}
 use Rattle.estimator.specs.Bytes.{capped}
 use Rattle.rewrite_core.specs.Files.{files_of}
 use Rattle.catalog_core.specs.Table.{Table}
-use Rattle.kept_files.specs.declared.refusal.ReadRefusal.{ReadRefusal}
+use Rattle.extent_files.specs.declared.read_refusal.ReadRefusal.{ReadRefusal}
 use Rattle.executor.specs.Runs.{of_reading}
 use Rattle.executor.specs.declared.refusal.RunRefusal.{RunRefusal}
 use Rattle.folder.specs.Sound.{Care}

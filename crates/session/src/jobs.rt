@@ -5,7 +5,7 @@ ghost use Rattle.outside_traits.specs.Counts.{Rose};
 ghost use Rattle.outside_traits.specs.View.{View, Counts};
 ghost use Rattle.outside_traits.specs.Calls.{Rises, MayRaiseReads};
 ghost use Rattle.outside_traits.specs.Runs.{Narrows};
-ghost use Rattle.plan_grammar.specs.Counts.{IsWithinLimits};
+ghost use Rattle.plan_text.specs.Counts.{IsWithinLimits};
 ghost use Rattle.folder.specs.Folders.{table_in, FolderStands};
 ghost use Rattle.folder.specs.Sound.{Care};
 ghost use Rattle.script_text.specs.Answer.{IsNarrow};

@@ -5,7 +5,7 @@ ghost use Rattle.outside_traits.specs.View.{View, Counts};
 ghost use Rattle.outside_traits.specs.Calls.{MayRaiseReads};
 ghost use Rattle.outside_traits.specs.Runs.{Narrows};
 ghost use Rattle.plan_core.specs.PlainPlan.{PlainPlan};
-ghost use Rattle.plan_grammar.specs.Counts.{IsWithinLimits};
+ghost use Rattle.plan_text.specs.Counts.{IsWithinLimits};
 ghost use Rattle.catalog_core.specs.Catalogs.{table_of};
 ghost use Rattle.folder.specs.Left.{IsLeft};
 ghost use Rattle.folder.specs.Sound.{Care};

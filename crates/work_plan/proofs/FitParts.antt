@@ -9,7 +9,7 @@ use Rattle.plan_canon.specs.PlanRules.{plan_step}
 use Rattle.plan_canon.proofs.Reached.{nowhere}
 use Rattle.estimator.specs.Cuts.{Cuts}
 use Rattle.rewrite_core.specs.IsRewriting.{lefts, rights}
-use Rattle.rewriting_pieces.proofs.Typings as typing
+use Rattle.executor.proofs.Typings as typing
 use Rattle.catalog_types.specs.declared.snapshot.StreamState.{StreamState}
 use Rattle.catalog_core.specs.Programs.{kinds_of_streams}
 use Rattle.work_plan.specs.Fitting.{IsFit}

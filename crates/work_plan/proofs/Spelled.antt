@@ -6,8 +6,8 @@ use Rattle.rows_core.specs.Name.{IsName}
 use Rattle.plan_core.specs.Nesting.{node_count, expr_count}
 use Rattle.plan_core.specs.PlainPlan.{PlainPlan, leaves, leaf_count}
 use Rattle.plan_spelling.specs.Spelling.{plan_spelling}
-use Rattle.plan_grammar.specs.Counts.{IsWithinLimits}
-use Rattle.plan_grammar.specs.PlainNamed.{PlainTree}
+use Rattle.plan_text.specs.Counts.{IsWithinLimits}
+use Rattle.plan_text.specs.PlainNamed.{PlainTree}
 use Rattle.plan_binder.specs.Binding.{Names, binding}
 use Rattle.catalog_types.specs.PlainEntry.{PlainNewEntry}
 use Rattle.catalog_types.specs.declared.program.Program.{Program}

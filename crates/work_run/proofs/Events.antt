@@ -20,7 +20,7 @@ use Rattle.catalog_core.specs.IsTable.{IsTable}
 use Rattle.catalog_core.specs.Named.{HasFile, file_at, machine_at}
 use Rattle.catalog_core.specs.Table.{Table}
 use Rattle.catalog_core.proofs.AskedResults.{all-at}
-use Rattle.kept_files.specs.declared.refusal.ReadRefusal.TheVariants as read
+use Rattle.extent_files.specs.declared.read_refusal.ReadRefusal.TheVariants as read
 use Rattle.executor.specs.Running.{EndsBy, EndsOver, IsShapeOf}
 use Rattle.folder.specs.Files.{IsPieceIn}
 use Rattle.folder.specs.Sound.{Care, Shown, Whole, Holds, IsSound}

@@ -21,7 +21,7 @@ use Rattle.catalog_types.specs.PlainEntry.{PlainEntry}
 use Rattle.catalog_core.specs.IsTable.{IsTable}
 use Rattle.admission.specs.Admitting.{MadeResult, made_of, next_of, entries_of, Admits}
 use Rattle.admission.specs.declared.new_result.NewResult.{NewResult}
-use Rattle.evaluation.proofs.Bounded.{lists_valid}
+use Rattle.executor.proofs.Bounded.{lists_valid}
 use Rattle.executor.specs.Outcomes.{IsKeptAt}
 use Rattle.executor.specs.declared.outcome.KeptPlace.{KeptPlace}
 use Rattle.folder.specs.Next.{IsNewResultOf}

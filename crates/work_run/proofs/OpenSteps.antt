@@ -3,7 +3,7 @@ use Rattle.std.proofs.Common.{◌≡◌, sym, ap, ◌∙◌, subst, ℕ, ◌+◌
 use Rattle.outside_traits.specs.Counts.{Rose}
 use Rattle.outside_traits.specs.View.{Counts}
 use Rattle.extent_files.specs.Files.{digest_of}
-use Rattle.kept_files.specs.Reads.{SpellsNone}
+use Rattle.extent_files.specs.Reads.{SpellsNone}
 use Rattle.plan_core.specs.PlainPlan.{PlainPlan, leaves}
 use Rattle.plan_core.specs.PlanTyping.{plan_typing}
 use Rattle.estimator.specs.Bytes.{capped}

@@ -7,7 +7,7 @@ use Rattle.estimator.specs.Cuts.{Cuts}
 use Rattle.growth_laws.specs.Chains.{IsChain, IsOneStream}
 use Rattle.growth_laws.specs.Pieces.{Piece, Entry, Gathered}
 use Rattle.growth_laws.specs.There.{ExtentCounts, EndWithin}
-use Rattle.rewriting_pieces.specs.Pieces.{IsPiece}
+use Rattle.executor.specs.Pieces.{IsPiece}
 use Rattle.folder.specs.Files.{IsPieceIn}
 use Rattle.folder.specs.State.{State, table, states_of, kinds_in}
 use Rattle.folder.proofs.GrownStreams.{as-long}

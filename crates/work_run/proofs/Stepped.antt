@@ -4,8 +4,8 @@ use Rattle.std.specs.List.{AllByRecursion}
 use Rattle.row_blob.specs.declared.shape.Shape.{Shape}
 use Rattle.outside_traits.specs.View.{Counts}
 use Rattle.outside_traits.specs.Calls.{CountsTaken}
-use Rattle.kept_files.specs.Reads.{HasCause, FoundIn}
-use Rattle.kept_files.specs.declared.refusal.ReadRefusal.{ReadRefusal}
+use Rattle.extent_files.specs.Reads.{HasCause, FoundIn}
+use Rattle.extent_files.specs.declared.read_refusal.ReadRefusal.{ReadRefusal}
 use Rattle.plan_core.specs.PlainPlan.{PlainPlan}
 use Rattle.rewrite_core.specs.Files.{FileName, files_of}
 use Rattle.rewrite_core.specs.PlainRewriting.{PlainRewriting}

@@ -15,11 +15,11 @@ use Rattle.growth_laws.specs.Lists.{extents_of}
 use Rattle.growth_laws.specs.MadePlaces.{Place, made_places}
 use Rattle.growth_laws.specs.Parts.{plan_at, cuts_at}
 use Rattle.growth_laws.specs.Pieces.{pieces_of}
-use Rattle.kept_files.specs.declared.refusal.ReadRefusal.{ReadRefusal}
-use Rattle.kept_files.specs.declared.refusal.ReadRefusal.TheVariants as read
+use Rattle.extent_files.specs.declared.read_refusal.ReadRefusal.{ReadRefusal}
+use Rattle.extent_files.specs.declared.read_refusal.ReadRefusal.TheVariants as read
 use Rattle.result_ops.specs.declared.refusal.MakeRefusal.{MakeRefusal}
 use Rattle.result_ops.specs.declared.refusal.MakeRefusal.TheVariants as make
-use Rattle.rewriting_pieces.specs.Pieces.{HasTyping, IsPiece}
+use Rattle.executor.specs.Pieces.{HasTyping, IsPiece}
 use Rattle.cache_index.specs.Asked.{asked}
 use Rattle.catalog_types.specs.PlainEntry.{PlainEntry}
 use Rattle.catalog_types.specs.declared.snapshot.StreamState.{StreamState}

@@ -32,7 +32,7 @@ use plan_choice::{
 };
 use plan_core::Typed;
 use plan_laws::kept_forms_have_their_shape;
-use rewriting_pieces::pieces_of_typed_rewritings;
+use executor::pieces_of_typed_rewritings;
 use rows_core::{Cut, Memory};
 use std::alloc::Global;
 use work_plan::places_of_fit_plans;

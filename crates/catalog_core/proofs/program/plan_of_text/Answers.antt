@@ -1,5 +1,5 @@
 use Rattle.std.proofs.Common.{◌≡◌}
-use Rattle.plan_grammar.specs.PlainNamed.{PlainTree}
+use Rattle.plan_text.specs.PlainNamed.{PlainTree}
 use Rattle.catalog_core.specs.Programs.{IsCanonical}
 use Rattle.catalog_core.specs.Streams.{states_of}
 use Rattle.catalog_core.proofs.Nested.{ok-some, ok-none, some-at}

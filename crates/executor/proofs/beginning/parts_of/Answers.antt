@@ -1,8 +1,8 @@
 use Rattle.std.proofs.Common.{◌≡◌, ◌++◌, ◌∷◌, [], List, length, sym, ap, ◌∙◌, subst, append_assoc, arith}
 use Rattle.std.specs.Vec.Iter.{into_iter_items}
 use Rattle.row_blob.specs.Kept.{AreEach}
-use Rattle.rewriting_pieces.specs.declared.piece.Piece.{Piece}
-use Rattle.rewriting_pieces.specs.Pieces.{piece_of, pieces_said, IsPiece}
+use Rattle.executor.specs.declared.piece.Piece.{Piece}
+use Rattle.executor.specs.Pieces.{piece_of, pieces_said, IsPiece}
 use Rattle.executor.specs.declared.part.Part.{Part}
 use Rattle.executor.specs.Beginning.{IsBegun}
 use Rattle.executor.proofs.Joined.{said_of, each_more}

@@ -2,7 +2,7 @@
 use Rattle.std.proofs.Common.{◌≡◌, ◌++◌, length}
 use Rattle.std.specs.Vec.Iter.{into_iter_items, into_iter_len}
 use Rattle.row_blob.specs.Kept.{AreEach}
-use Rattle.rewriting_pieces.specs.Pieces.{pieces_said}
+use Rattle.executor.specs.Pieces.{pieces_said}
 use Rattle.executor.specs.Beginning.{IsBegun}
 use Rattle.executor.proofs.beginning.parts_of.Given as goal
 

@@ -1,7 +1,7 @@
 use Rattle.std.proofs.Common.{◌∙◌, ap}
 use Rattle.plan_core.specs.PlainPlan.{plan_of}
 use Rattle.plan_laws.specs.PlanShape.{plan_shape}
-use Rattle.rewriting_pieces.proofs.Typings.{kinds_there}
+use Rattle.executor.proofs.Typings.{kinds_there}
 use Rattle.executor.proofs.FileForms.{loaded_fits}
 use Rattle.executor.proofs.entry.read_entry.Goals as goal
 

@@ -1,7 +1,7 @@
 use Rattle.std.proofs.Common.{sym, subst, ◌∙◌, ap, map, List}
 use Rattle.growth_laws.specs.Pieces.{pieces_of}
 use Rattle.rewrite_core.specs.PlainRewriting.{rewriting_of}
-use Rattle.evaluation.specs.Loading.{Loads, HoldAll, AreFit}
+use Rattle.executor.specs.Loading.{Loads, HoldAll, AreFit}
 use Rattle.executor.specs.Loads.{load_of_part}
 use Rattle.executor.proofs.ReadAs.{hold_read}
 use Rattle.executor.proofs.ReadParts.{are_fit}

@@ -6,7 +6,7 @@ use Rattle.rewrite_core.specs.PlainRewriting.{rewriting_of}
 use Rattle.growth_laws.specs.KeptResults.{KeptResults}
 use Rattle.growth_laws.specs.Lists.{Extents}
 use Rattle.growth_laws.specs.Pieces.{Piece, pieces_of}
-use Rattle.rewriting_pieces.specs.Pieces.{HasTyping, IsPiece}
+use Rattle.executor.specs.Pieces.{HasTyping, IsPiece}
 use Rattle.std.specs.List.{AllByRecursion}
 use Rattle.executor.specs.Beginning.{IsBegun}
 use Rattle.executor.proofs.Begun.{all_left, all_parts, all_read}

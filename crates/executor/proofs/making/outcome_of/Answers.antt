@@ -5,8 +5,8 @@ use Rattle.growth_laws.specs.KeptResults.{KeptResults}
 use Rattle.growth_laws.specs.Lists.{Extents}
 use Rattle.growth_laws.specs.Parts.{plan_at, cuts_at}
 use Rattle.rewrite_core.specs.PlainRewriting.{rewriting_of}
-use Rattle.evaluation.specs.Recording.{recorded_below, AreMade, AreRecorded}
-use Rattle.evaluation.specs.declared.recording.MadePlace.{MadePlace}
+use Rattle.executor.specs.Recording.{recorded_below, AreMade, AreRecorded}
+use Rattle.executor.specs.declared.recording.MadePlace.{MadePlace}
 use Rattle.executor.specs.Outcomes.{AreSound}
 use Rattle.executor.proofs.Ended.{refused, comes, none_before}
 use Rattle.executor.proofs.making.outcome_of.Goals as goal

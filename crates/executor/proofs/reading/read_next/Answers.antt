@@ -5,7 +5,7 @@ use Rattle.rewrite_core.specs.Files.{FileName}
 use Rattle.growth_laws.specs.KeptResults.{KeptResults}
 use Rattle.growth_laws.specs.Lists.{Extents}
 use Rattle.growth_laws.specs.Pieces.{Piece}
-use Rattle.kept_files.specs.Reads.{HasCause, FoundIn}
+use Rattle.extent_files.specs.Reads.{HasCause, FoundIn}
 use Rattle.executor.specs.declared.part.Part.{Part}
 use Rattle.executor.specs.Firsts.{IsFirst}
 use Rattle.executor.specs.Progress.{files_left, left_in}

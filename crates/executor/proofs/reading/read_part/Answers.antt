@@ -8,7 +8,7 @@ use Rattle.rewrite_core.specs.Files.{FileName, Extent, Result}
 use Rattle.growth_laws.specs.KeptResults.{KeptResults}
 use Rattle.growth_laws.specs.Lists.{Extents}
 use Rattle.growth_laws.specs.Pieces.{Piece}
-use Rattle.kept_files.specs.Reads.{FoundIn}
+use Rattle.extent_files.specs.Reads.{FoundIn}
 use Rattle.executor.specs.declared.part.Part.{Part}
 use Rattle.executor.specs.Progress.{files_left, IsPartOf, HasRead}
 use Rattle.executor.specs.Running.{TookAtMost}

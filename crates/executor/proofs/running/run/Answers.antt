@@ -9,7 +9,7 @@ use Rattle.growth_laws.specs.Pieces.{pieces_of}
 use Rattle.estimator.specs.Bytes.{capped}
 use Rattle.rewrite_core.specs.Files.{FileName, files_of}
 use Rattle.rewrite_core.specs.PlainRewriting.{PlainRewriting, rewriting_of}
-use Rattle.rewriting_pieces.proofs.Typings.{kinds_there}
+use Rattle.executor.proofs.Typings.{kinds_there}
 use Rattle.executor.specs.Outcomes.{AreReadAs}
 use Rattle.executor.specs.Progress.{ArePartsOf}
 use Rattle.executor.specs.Running.{EndsOver, kept_bytes}

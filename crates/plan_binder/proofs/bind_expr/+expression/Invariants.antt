@@ -1,7 +1,7 @@
 -- Each part of an expression has fewer nodes than the whole.
 use Rattle.std.proofs.Common.{◌+◌, ◌*◌}
-use Rattle.plan_grammar.specs.PlainNamed.{expr_of}
-use Rattle.plan_grammar.specs.Counts.{expr_nodes}
+use Rattle.plan_text.specs.PlainNamed.{expr_of}
+use Rattle.plan_text.specs.Counts.{expr_nodes}
 use Rattle.plan_binder.proofs.bind_expr.+expression.Given as goal
 
 abbrev pub decreases-bind_expr : goal.decreases-bind_expr

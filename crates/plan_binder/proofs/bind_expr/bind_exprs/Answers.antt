@@ -2,7 +2,7 @@ use Rattle.std.proofs.Common.{rules, ◌≡◌, ◌∙◌, ap, Err, [], ◌∷�
 use Rattle.std.proofs.lemmas.List.{map_push}
 use Rattle.plan_core.specs.PlainExpr as bound
 use Rattle.plan_core.specs.AllThere.{found_end}
-use Rattle.plan_grammar.specs.PlainNamed.{expr_of}
+use Rattle.plan_text.specs.PlainNamed.{expr_of}
 use Rattle.plan_binder.specs.Binding.{bound_expr}
 use Rattle.plan_binder.specs.BoundPlan.{boxed_expr_of}
 use Rattle.plan_binder.proofs.Collecting.{starts, goes_on, stops}

@@ -2,7 +2,7 @@
 use Rattle.std.proofs.Common.{map}
 use Rattle.plan_core.specs.PlainExpr as bound
 use Rattle.plan_core.specs.AllThere.{HasFound}
-use Rattle.plan_grammar.specs.PlainNamed.{expr_of}
+use Rattle.plan_text.specs.PlainNamed.{expr_of}
 use Rattle.plan_binder.specs.Binding.{bound_expr}
 use Rattle.plan_binder.proofs.bind_expr.bind_exprs.Given as goal
 

@@ -1,7 +1,7 @@
 -- Each part of a plan has fewer nodes than the whole.
 use Rattle.std.proofs.Common.{◌+◌, ◌*◌}
-use Rattle.plan_grammar.specs.PlainNamed.{tree_of}
-use Rattle.plan_grammar.specs.Counts.{nodes}
+use Rattle.plan_text.specs.PlainNamed.{tree_of}
+use Rattle.plan_text.specs.Counts.{nodes}
 use Rattle.plan_binder.proofs.binder.+tree.Given as goal
 
 abbrev pub decreases-bound_tree : goal.decreases-bound_tree

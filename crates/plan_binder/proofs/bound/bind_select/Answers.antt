@@ -5,7 +5,7 @@ use Rattle.std.specs.Option.{option_and_then}
 use Rattle.plan_core.specs.declared.expr.Expr.{Expr}
 use Rattle.plan_core.specs.PlainExpr as bound
 use Rattle.plan_core.specs.PlanTyping.{all_there}
-use Rattle.plan_grammar.specs.PlainNamed.{expr_of, column_of}
+use Rattle.plan_text.specs.PlainNamed.{expr_of, column_of}
 use Rattle.plan_binder.specs.Binding.{bound_expr, bound_select, projected}
 use Rattle.plan_binder.specs.BoundPlan.{bound_of}
 use Rattle.plan_binder.specs.Resolves.{Resolves}

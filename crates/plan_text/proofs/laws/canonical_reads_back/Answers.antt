@@ -1,6 +1,6 @@
-use Rattle.plan_printer.specs.Canonical.{canonical_text}
-use Rattle.plan_printer.proofs.CanonicalTokens.{canonical_spells}
-use Rattle.plan_parser.proofs.Texts.{one_plan_of_text}
+use Rattle.plan_text.specs.Canonical.{canonical_text}
+use Rattle.plan_text.proofs.CanonicalTokens.{canonical_spells}
+use Rattle.plan_text.proofs.Texts.{one_plan_of_text}
 use Rattle.plan_text.proofs.laws.canonical_reads_back.Goals as goal
 
 pub returns : goal.returns

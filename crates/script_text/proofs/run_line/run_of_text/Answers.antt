@@ -1,7 +1,7 @@
 use Rattle.std.proofs.Common.{◌≡◌, Err, sym, ap, ◌∙◌, subst, inl}
-use Rattle.plan_grammar.specs.PlainNamed.{PlainTree}
-use Rattle.plan_parser.specs.Answer.{AsPlan, AsTooLarge, AsNone, Means, text_reading}
-use Rattle.plan_parser.specs.declared.refusal.TextRefusal.{TextRefusal}
+use Rattle.plan_text.specs.PlainNamed.{PlainTree}
+use Rattle.plan_text.specs.Answer.{AsPlan, AsTooLarge, AsNone, Means, text_reading}
+use Rattle.plan_text.specs.declared.text_refusal.TextRefusal.{TextRefusal}
 use Rattle.script_text.specs.RunLine.{limit_of}
 use Rattle.script_text.specs.declared.answer.LimitKind.{LimitKind}
 use Rattle.script_text.specs.declared.answer.Refusal.TheVariants.{Limit}

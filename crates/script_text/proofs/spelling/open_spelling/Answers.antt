@@ -1,5 +1,5 @@
 use Rattle.std.proofs.Common.{ap, ◌∙◌}
-use Rattle.plan_parser.specs.Answer.{AsPlan}
+use Rattle.plan_text.specs.Answer.{AsPlan}
 use Rattle.script_text.specs.JobLine.{open_with}
 use Rattle.script_text.proofs.JobSpelling.{line_command-open, job_plan_is_read}
 use Rattle.script_text.proofs.RunSpelling.{run_of_text-is}

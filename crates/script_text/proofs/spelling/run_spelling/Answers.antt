@@ -1,6 +1,6 @@
 use Rattle.std.proofs.Common.{◌≡◌, ℕ, List, Err, ap, ◌∙◌, inl, inr}
-use Rattle.plan_grammar.specs.declared.limit.PlanLimit.{PlanLimit}
-use Rattle.plan_parser.specs.Answer.{AsPlan, AsTooLarge}
+use Rattle.plan_text.specs.declared.limit.PlanLimit.{PlanLimit}
+use Rattle.plan_text.specs.Answer.{AsPlan, AsTooLarge}
 use Rattle.script_text.specs.Dispatch.{line_command}
 use Rattle.script_text.specs.JobLine.{open_with}
 use Rattle.script_text.specs.RunLine.{limit_of, run_command}

@@ -2,7 +2,7 @@ use Rattle.std.proofs.Common.{◌⊎◌, ◌∙◌, ap, sym, subst, refl, inr}
 use Rattle.outside_traits.proofs.RunLemmas.{narrows_none}
 use Rattle.catalog_core.specs.Catalogs.{table_of}
 use Rattle.catalog_core.specs.Table.{Table}
-use Rattle.collection_plan.specs.Collecting.{IsCollectionPlan}
+use Rattle.planning.specs.Collecting.{IsCollectionPlan}
 use Rattle.script_text.specs.declared.answer.Answer.TheVariants as answer
 use Rattle.script_text.specs.declared.answer.Refusal.{Refusal}
 use Rattle.script_text.specs.declared.answer.Refusal.TheVariants as refusal

@@ -5,7 +5,7 @@ use Rattle.plan_core.specs.PlainPlan.{plan_of}
 use Rattle.growth_laws.specs.MadePlaces.{made_places}
 use Rattle.growth_laws.specs.Parts.{plan_at, cuts_at}
 use Rattle.growth_laws.specs.Pieces.{pieces_of}
-use Rattle.rewriting_pieces.proofs.Typings.{kinds_there}
+use Rattle.executor.proofs.Typings.{kinds_there}
 use Rattle.catalog_types.specs.declared.program.Program.{Program}
 use Rattle.catalog_core.specs.Catalogs.{table_of}
 use Rattle.catalog_core.specs.IsTable.{IsTable}

@@ -1,6 +1,6 @@
 use Rattle.std.proofs.Common.{◌≡◌, ◌≢◌, ◌⊎◌, refl, rules, sym, ap, subst, inl, ℕ, [], ◌∷◌, ◌++◌, Some, Err, arith}
 use Rattle.outside_traits.specs.Calls.{CountsTaken}
-use Rattle.kept_files.specs.declared.refusal.ReadRefusal.TheVariants as read
+use Rattle.extent_files.specs.declared.read_refusal.ReadRefusal.TheVariants as read
 use Rattle.rewrite_core.specs.Files.{Result, files_of}
 use Rattle.rewrite_core.specs.PlainRewriting.{rewriting_of}
 use Rattle.growth_laws.specs.Pieces.{pieces_of}

@@ -1,5 +1,0 @@
-pub mod Order
-pub mod Whole
-pub mod Limits
-pub mod Staying
-pub mod Restored

@@ -1,8 +1,0 @@
-use Rattle.plan_grammar.specs.PlainNamed.{tree_of}
-use Rattle.plan_parser.proofs.Texts.{reading_plan}
-use Rattle.plan_parser.proofs.parse.plan_of_text.Goals as goal
-
-pub new-requires : goal.new-requires
-new-requires c =
-    let p = reading_plan c.args.text.now (tree_of c.in_ok-tree.tree) c.in_ok-tree.ensures in
-    record { written = ((c.args.text.now, p.0), p.1) }

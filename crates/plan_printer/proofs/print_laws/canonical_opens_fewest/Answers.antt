@@ -1,5 +1,0 @@
-use Rattle.plan_printer.proofs.CanonicalSpelled.{canonical_opens_fewest}
-use Rattle.plan_printer.proofs.print_laws.canonical_opens_fewest.Goals as goal
-
-pub returns : goal.returns
-returns c = canonical_opens_fewest

@@ -1,5 +1,0 @@
-use Rattle.plan_printer.proofs.CanonicalTokens.{canonical_spells}
-use Rattle.plan_printer.proofs.print_laws.canonical_spells.Goals as goal
-
-pub returns : goal.returns
-returns c = canonical_spells

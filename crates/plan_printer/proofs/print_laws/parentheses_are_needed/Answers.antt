@@ -1,5 +1,0 @@
-use Rattle.plan_printer.proofs.NeededParens.{needed}
-use Rattle.plan_printer.proofs.print_laws.parentheses_are_needed.Goals as goal
-
-pub returns : goal.returns
-returns c rule levels e from rest less s = needed s less

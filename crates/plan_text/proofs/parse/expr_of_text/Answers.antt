@@ -1,0 +1,12 @@
+use Rattle.std.proofs.Common.{rules}
+use Rattle.plan_text.specs.PlainNamed.{expr_of}
+use Rattle.plan_text.specs.Reading.{expr_at, inner}
+use Rattle.plan_text.specs.Draft.{limits}
+use Rattle.plan_text.proofs.Whole.{means_some, none_means}
+use Rattle.plan_text.proofs.parse.expr_of_text.Goals as goal
+
+pub returns-in-Some : goal.returns-in-Some
+returns-in-Some c = means_some expr_of (expr_at limits (inner limits 32)) c.args.text.now c.in-Some.tokens.items c.as_slice.result.now (search rules) c.as_slice.ensures.value c.whole_expr.result c.whole_expr.ensures
+
+pub returns-in-None : goal.returns-in-None
+returns-in-None c = none_means (expr_at limits (inner limits 32)) c.args.text.now (search rules)

@@ -1,5 +1,0 @@
-use Rattle.std.proofs.Common.{length}
-use Rattle.rewriting_pieces.proofs.files.+file_count.Given as goal
-
-abbrev pub decreases-file_count : goal.decreases-file_count
-decreases-file_count l = length l.pieces.now
