@@ -230,7 +230,8 @@ impl<R: AllocGlobal + Files<File = File> + Clone + Drop> Folder<'_, R> {
         let Some(attached) = &self.attached else {
             return Err(no_folder());
         };
-        let numbers = uninterrupted(|| numbers_in(self.runtime, attached.path()))?;
+        let (runtime, folder) = (self.runtime, attached.path());
+        let numbers = uninterrupted(|| numbers_in(runtime, folder))?;
         let next = at_or_above(&numbers, from);
         self.numbers = Some(numbers);
         Ok(next)
