@@ -132,6 +132,7 @@ def interrupted():
             if count > first:
                 print(f"interrupted: {scenario.name}: {call} at each of {count - first} calls: as if nothing were", flush=True)
     unsupported()
+    closed_above()
 
 
 def unsupported():
@@ -148,6 +149,24 @@ def unsupported():
         given = base.run(base.folder("unsupported"), base.SCRIPT, inject)
         assert given.returncode == (0 if is_folder else 5), f"fsync {when}: {given}"
     print(f"interrupted: fsync answering EINVAL: let pass at each of {sum(syncs)} of folders, status 5 at each of {len(syncs) - sum(syncs)} of files")
+
+
+def closed_above():
+    """The folder above may not be opened: let pass where the folder was there, and not where it was just made."""
+
+    def when(path):
+        _, traced = trace.traced(path, base.PROBE)
+        opened = [trace.path_of(call.words[1]) for call in traced if call.name == "openat"]
+        return max(place for place, of in enumerate(opened, 1) if of.endswith("/.."))
+
+    def status(path, when):
+        inject = ["strace", "-f", "-qq", "-o", "/dev/null", "-e", "trace=openat", "-e", f"inject=openat:error=EACCES:when={when}"]
+        return base.run(path, base.PROBE, inject).returncode
+
+    made = when(base.folder("closed-other"))
+    path = base.folder("closed")
+    assert status(path, made) == 5 and status(path, when(path)) == 0
+    print("interrupted: a folder above that may not be opened is let pass where the folder was there, and is status 5 where it was just made")
 
 
 # Each read gives at most 3 bytes, and each write takes at most 3.
