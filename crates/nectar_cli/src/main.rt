@@ -1,15 +1,14 @@
 //! The program: `nectar FOLDER [--quiet] [--generate N] < script`.
 #![tactic(auto)]
 
-ghost use Rattle.std.specs.Prelude.{◌≡◌, map, drop, string_bytes, IfOk, IsSome};
-ghost use Rattle.folder_store.specs.Failures.{NeverFailed};
+ghost use Rattle.std.specs.Prelude.{◌≡◌, map, drop, string_bytes, IfOk};
 
 mod report;
 
 use crate::report::{message, status};
 use folder_store::FolderStore;
 use nectar_top::{Exit, nectar};
-use outside_traits::{ReaderSource, Store, WriterSink};
+use outside_traits::{ReaderSource, WriterSink};
 use std::alloc::{AllocError, Global};
 use std::fs::File;
 use std::io::ErrorKind;
@@ -26,9 +25,7 @@ fn main(rt: HostRuntime) -> ExitCode {
 }
 
 // Writes the line on standard error, and behind that of a folder that failed why it did.
-fn tell(rt: &HostRuntime, exit: Exit, failure: Option<io::Error>) -> io::Result<()>
-    requires { exit ≡ Exit.StoreFault → IsSome failure }
-{
+fn tell(rt: &HostRuntime, exit: Exit, failure: Option<io::Error>) -> io::Result<()> {
     if let Exit::NotAStore { file, at } = exit {
         return eprintln!(rt; "nectar: not a store: file {file} at {at}");
     }
@@ -42,11 +39,9 @@ fn tell(rt: &HostRuntime, exit: Exit, failure: Option<io::Error>) -> io::Result<
 }
 
 // Runs the program on the command line, standard input and standard output, over the store.
-fn run<'a, R>(rt: &R, store: &mut FolderStore<'a, R>) -> Exit
+fn run<R>(rt: &R, store: &mut FolderStore<'_, R>) -> Exit
 where
     R: AllocGlobal + Env + Files<File = File> + Input + Print + Clone + Drop,
-    ensures { result ≡ Exit.StoreFault
-        → NeverFailed (⟦<FolderStore<'a, R> as Store>⟧.counts store.new) → ⊥ }
 {
     let arguments = match env::args(rt) {
         Ok(arguments) => arguments,
