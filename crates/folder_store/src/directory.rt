@@ -63,7 +63,7 @@ impl<'a, R: AllocGlobal + Files<File = File>> Folder<'a, R> {
     /// The file's length, 0 where it isn't there.
     pub fn size(&mut self, number: u64) -> io::Result<u64> {
         match self.place(number, Access::Read)? {
-            Some(place) => Ok(self.open[place].file.metadata()?.len()),
+            Some(place) => len_of(&self.open[place].file),
             None => Ok(0),
         }
     }
@@ -309,16 +309,20 @@ fn read_full_at(file: &File, at: u64, buf: &mut [u8]) -> io::Result<usize>
     Ok(count)
 }
 
+fn len_of(file: &File) -> io::Result<u64> {
+    Ok(uninterrupted(|| file.metadata())?.len())
+}
+
 // The system's write of no bytes leaves a file's length.
 fn lengthen_shorter(file: &File, len: u64) -> io::Result<()> {
-    if file.metadata()?.len() < len {
+    if len_of(file)? < len {
         file.set_len(len)?;
     }
     Ok(())
 }
 
 fn cut_longer(file: &File, len: u64) -> io::Result<()> {
-    if file.metadata()?.len() > len {
+    if len_of(file)? > len {
         file.set_len(len)?;
     }
     Ok(())

@@ -38,7 +38,7 @@ pub fn open_regular<R: Files<File = File>>(
     let mut options = OpenOptions::new();
     options.read(true).write(access != Access::Read);
     let file = options.open(runtime, path)?;
-    let opened = file.metadata()?;
+    let opened = uninterrupted(|| file.metadata())?;
     if opened.dev() != found.dev() || opened.ino() != found.ino() {
         return Err(not_regular());
     }
