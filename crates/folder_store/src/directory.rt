@@ -2,19 +2,22 @@
 ghost use Rattle.std.specs.Prelude.{◌≡◌, ◌↔◌, ◌<◌, ◌≤◌, ◌^◌, ◌++◌, ℕ, length, decimal, codes, IsTrue, IfOk};
 ghost use Rattle.std.specs.Prelude.{IfSome, vec_len};
 
+use crate::attached::Attached;
+use crate::patience::uninterrupted;
+use crate::regular::{Access, find_regular, make_regular, open_regular};
 use itoa::Buffer;
-use std::fs::{DirEntry, File, OpenOptions};
+use std::fs::{DirEntry, File};
 use std::io::ErrorKind;
 use std::os::unix::fs::FileExt;
-use std::path::Path;
 use std::rt::Files;
 use std::{fs, io};
 
 /// The most files that are kept open.
 const MAX_OPEN: usize = 16;
 
-/// A folder: file n is `n.nxt`, n in decimal without leading zeros, and other names aren't looked at. A
-/// folder in it with such a name is no file: it isn't listed, and calls on its number are errors.
+/// A folder: file n is `n.nxt`, n in decimal without leading zeros, and other names aren't looked at. A link
+/// or a folder in it with such a name is no file: it isn't listed, calls on its number are errors, and
+/// nothing removes it.
 #[derive(Drop)]
 pub struct Folder<'a, R> {
     runtime: &'a R,
@@ -26,17 +29,12 @@ pub struct Folder<'a, R> {
     names_are_stable: bool,
 }
 
-// The folder in use, with the handle by which its names are made stable.
-#[derive(Drop)]
-struct Attached {
-    path: String,
-    handle: File,
-}
-
 #[derive(Drop)]
 struct OpenFile {
     number: u64,
     file: File,
+    /// Whether it was opened for reading alone.
+    is_read_only: bool,
 }
 
 impl<'a, R: AllocGlobal + Files<File = File>> Folder<'a, R> {
@@ -51,22 +49,21 @@ impl<'a, R: AllocGlobal + Files<File = File>> Folder<'a, R> {
         }
     }
 
-    /// Makes the folder and its missing parents, each of which is stable then, and uses it.
+    /// Makes the folder and its missing parents, and uses it in place of any other: no other process can use
+    /// it as long. Its name is stable then.
     pub fn attach(&mut self, folder: &str) -> io::Result<()> {
-        let path = String::from_str(self.runtime.alloc(), folder)?;
-        make_folders(self.runtime, folder)?;
-        let handle = File::open(self.runtime, folder)?;
-        self.attached = Some(Attached { path, handle });
+        self.attached = None;
         self.open.clear();
         self.numbers = None;
         self.names_are_stable = false;
+        self.attached = Some(Attached::new(self.runtime, folder)?);
         Ok(())
     }
 
     /// The file's length, 0 where it isn't there.
     pub fn size(&mut self, number: u64) -> io::Result<u64> {
-        match self.place(number, false)? {
-            Some(place) => Ok(self.open[place].file.metadata()?.len()),
+        match self.place(number, Access::Read)? {
+            Some(place) => len_of(&self.open[place].file),
             None => Ok(0),
         }
     }
@@ -75,7 +72,7 @@ impl<'a, R: AllocGlobal + Files<File = File>> Folder<'a, R> {
     pub fn read(&mut self, number: u64, at: u64, buf: &mut [u8]) -> io::Result<usize>
         ensures { IfOk result (λ count. count ≤ length buf.new) }
     {
-        match self.place(number, false)? {
+        match self.place(number, Access::Read)? {
             Some(place) => read_full_at(&self.open[place].file, at, buf),
             None => Ok(0),
         }
@@ -84,7 +81,7 @@ impl<'a, R: AllocGlobal + Files<File = File>> Folder<'a, R> {
     /// Writes the bytes at `at`, and makes the file where it isn't there. No bytes make a shorter file that
     /// long too.
     pub fn write(&mut self, number: u64, at: u64, bytes: &[u8]) -> io::Result<()> {
-        match self.place(number, true)? {
+        match self.place(number, Access::Make)? {
             Some(place) if bytes.is_empty() => lengthen_shorter(&self.open[place].file, at),
             Some(place) => self.open[place].file.write_all_at(bytes, at),
             None => Err(io::Error::from(ErrorKind::NotFound)),
@@ -93,7 +90,7 @@ impl<'a, R: AllocGlobal + Files<File = File>> Folder<'a, R> {
 
     /// Cuts a longer file to this length.
     pub fn cut(&mut self, number: u64, len: u64) -> io::Result<()> {
-        match self.place(number, false)? {
+        match self.place(number, Access::Change)? {
             Some(place) => cut_longer(&self.open[place].file, len),
             None => Ok(()),
         }
@@ -102,7 +99,7 @@ impl<'a, R: AllocGlobal + Files<File = File>> Folder<'a, R> {
     /// Makes the file stable, and the folder's names with it, where one was made or removed since they last
     /// were.
     pub fn sync(&mut self, number: u64) -> io::Result<()> {
-        if let Some(place) = self.place(number, false)? {
+        if let Some(place) = self.place(number, Access::Change)? {
             self.open[place].file.sync_all()?;
         }
         if self.names_are_stable {
@@ -113,7 +110,7 @@ impl<'a, R: AllocGlobal + Files<File = File>> Folder<'a, R> {
 
     fn sync_names(&mut self) -> io::Result<()> {
         match &self.attached {
-            Some(attached) => attached.handle.sync_all()?,
+            Some(attached) => attached.sync_names()?,
             None => return Err(no_folder()),
         }
         self.names_are_stable = true;
@@ -123,24 +120,31 @@ impl<'a, R: AllocGlobal + Files<File = File>> Folder<'a, R> {
     /// Removes the file, if it is there.
     pub fn remove(&mut self, number: u64) -> io::Result<()> {
         self.open.retain(|open| open.number != number);
-        self.names_are_stable = false;
         let path = self.path_of(number)?;
-        match fs::remove_file(self.runtime, path.as_str()) {
+        let found = find_regular(self.runtime, path.as_str())?;
+        if found.is_some() {
+            self.remove_found(path.as_str())?;
+        }
+        self.unlist(number);
+        Ok(())
+    }
+
+    // Removes a file that was found. Where that fails, nothing is known of the names.
+    fn remove_found(&mut self, path: &str) -> io::Result<()> {
+        self.names_are_stable = false;
+        match uninterrupted(|| fs::remove_file(self.runtime, path)) {
             Err(error) if error.kind() != ErrorKind::NotFound => {
                 self.numbers = None;
                 Err(error)
             }
-            _ => {
-                self.unlist(number);
-                Ok(())
-            }
+            _ => Ok(()),
         }
     }
 
     fn path_of(&self, number: u64) -> io::Result<String> {
         match &self.attached {
             Some(attached) => {
-                let folder = attached.path.as_str();
+                let folder = attached.path();
                 Ok(format!(in self.runtime.alloc(); "{folder}/{number}.nxt")?)
             }
             None => Err(no_folder()),
@@ -148,35 +152,43 @@ impl<'a, R: AllocGlobal + Files<File = File>> Folder<'a, R> {
     }
 
     // The place of the file among the open ones. None where it isn't there and isn't to be made.
-    fn place(&mut self, number: u64, make: bool) -> io::Result<Option<usize>>
+    fn place(&mut self, number: u64, access: Access) -> io::Result<Option<usize>>
         ensures { IfOk result (λ found. IfSome found (λ place. place < vec_len self.new.open)) }
     {
-        if let Some(place) = place_of(&self.open, number) {
+        if let Some(place) = place_of(&self.open, number, access) {
             return Ok(Some(place));
         }
-        let Some(file) = self.open_file(number, make)? else {
-            return Ok(None);
+        let path = self.path_of(number)?;
+        let file = match find_regular(self.runtime, path.as_str())? {
+            Some(found) => open_regular(self.runtime, path.as_str(), &found, access)?,
+            None if access == Access::Make => self.make_file(number, path.as_str())?,
+            None => return Ok(None),
         };
-        if make {
-            self.list(number);
-            self.names_are_stable = false;
-        }
+        Ok(Some(self.keep(OpenFile {
+            number,
+            file,
+            is_read_only: access == Access::Read,
+        })?))
+    }
+
+    // Makes the file, which isn't there.
+    fn make_file(&mut self, number: u64, path: &str) -> io::Result<File> {
+        self.names_are_stable = false;
+        let file = make_regular(self.runtime, path)?;
+        self.list(number);
+        Ok(file)
+    }
+
+    // Keeps a file open, in place of one that was opened for reading alone, and says its place.
+    fn keep(&mut self, file: OpenFile) -> io::Result<usize>
+        ensures { IfOk result (λ place. place < vec_len self.new.open) }
+    {
+        self.open.retain(|open| open.number != file.number);
         if self.open.len() >= MAX_OPEN {
             self.open.remove(0);
         }
-        self.open.push(OpenFile { number, file })?;
-        Ok(Some(self.open.len() - 1))
-    }
-
-    fn open_file(&self, number: u64, make: bool) -> io::Result<Option<File>> {
-        let path = self.path_of(number)?;
-        let mut options = OpenOptions::new();
-        options.read(true).write(true).create(make);
-        match options.open(self.runtime, path.as_str()) {
-            Ok(file) => Ok(Some(file)),
-            Err(error) if error.kind() == ErrorKind::NotFound => Ok(None),
-            Err(error) => Err(error),
-        }
+        self.open.push(file)?;
+        Ok(self.open.len() - 1)
     }
 }
 
@@ -218,7 +230,8 @@ impl<R: AllocGlobal + Files<File = File> + Clone + Drop> Folder<'_, R> {
         let Some(attached) = &self.attached else {
             return Err(no_folder());
         };
-        let numbers = numbers_in(self.runtime, attached.path.as_str())?;
+        let (runtime, folder) = (self.runtime, attached.path());
+        let numbers = uninterrupted(|| numbers_in(runtime, folder))?;
         let next = at_or_above(&numbers, from);
         self.numbers = Some(numbers);
         Ok(next)
@@ -240,7 +253,8 @@ fn numbers_in<R: AllocGlobal + Files<File = File> + Clone + Drop>(
     Ok(numbers)
 }
 
-// The number of the file of an entry. None for a name that isn't UTF-8, another name and a folder.
+// The number of the regular file of an entry. None for a name that isn't UTF-8, another name, a link and a
+// folder.
 fn number_of_entry<R: Files + Drop>(entry: io::Result<DirEntry<R>>) -> io::Result<Option<u64>> {
     let entry = match entry {
         Ok(entry) => entry,
@@ -248,7 +262,7 @@ fn number_of_entry<R: Files + Drop>(entry: io::Result<DirEntry<R>>) -> io::Resul
         Err(error) => return Err(error),
     };
     match number_of(entry.file_name()) {
-        Some(number) if !entry.file_type()?.is_dir() => Ok(Some(number)),
+        Some(number) if uninterrupted(|| entry.file_type())?.is_file() => Ok(Some(number)),
         _ => Ok(None),
     }
 }
@@ -264,43 +278,16 @@ fn at_or_above(numbers: &[u64], from: u64) -> Option<u64>
     }
 }
 
-// Makes each missing folder of a path.
-fn make_folders<R: Files<File = File>>(runtime: &R, path: &str) -> io::Result<()> {
-    for (end, byte) in path.as_bytes().iter().enumerate() {
-        if *byte == b'/' && end > 0 {
-            if let Some(parent) = path.get(..end) {
-                make_folder(runtime, parent)?;
-            }
-        }
-    }
-    make_folder(runtime, path)
-}
-
-// Makes a folder, if it is missing, and its name in its parent stable.
-fn make_folder<R: Files<File = File>>(runtime: &R, path: &str) -> io::Result<()> {
-    match fs::create_dir(runtime, path) {
-        Ok(()) => File::open(runtime, parent_of(path))?.sync_all(),
-        Err(_) if Path::new(path).is_dir(runtime) => Ok(()),
-        Err(error) => Err(error),
-    }
-}
-
-// The folder that a folder lies in.
-fn parent_of(path: &str) -> &str {
-    match Path::new(path).parent() {
-        Some(parent) if !parent.as_str().is_empty() => parent.as_str(),
-        _ => ".",
-    }
-}
-
 fn no_folder() -> io::Error {
     io::Error::from(ErrorKind::NotFound)
 }
 
-fn place_of(open: &[OpenFile], number: u64) -> Option<usize>
+// The place of a file that is open for such an access.
+fn place_of(open: &[OpenFile], number: u64, access: Access) -> Option<usize>
     ensures { IfSome result (λ place. place < length open.now) }
 {
-    open.iter().position(|open| open.number == number)
+    open.iter().position(|open| open.number == number
+        && (access == Access::Read || !open.is_read_only))
 }
 
 // Reads until the buffer is full or the file ends.
@@ -322,16 +309,20 @@ fn read_full_at(file: &File, at: u64, buf: &mut [u8]) -> io::Result<usize>
     Ok(count)
 }
 
+fn len_of(file: &File) -> io::Result<u64> {
+    Ok(uninterrupted(|| file.metadata())?.len())
+}
+
 // The system's write of no bytes leaves a file's length.
 fn lengthen_shorter(file: &File, len: u64) -> io::Result<()> {
-    if file.metadata()?.len() < len {
+    if len_of(file)? < len {
         file.set_len(len)?;
     }
     Ok(())
 }
 
 fn cut_longer(file: &File, len: u64) -> io::Result<()> {
-    if file.metadata()?.len() > len {
+    if len_of(file)? > len {
         file.set_len(len)?;
     }
     Ok(())

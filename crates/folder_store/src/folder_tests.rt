@@ -2,6 +2,8 @@
 
 use crate::store::FolderStore;
 use outside_traits::{Failed, Store};
+use std::io::ErrorKind;
+use std::os::unix::fs::symlink;
 use std::path::PathBuf;
 use std::test::Fail;
 use std::{env, fs, process};
@@ -57,14 +59,29 @@ fn is_foreign(store: &mut impl Store, file: u64) -> bool {
     store.size(file).is_err() && store.write(file, 0, b"x").is_err() && store.remove(file).is_err()
 }
 
-// Whether these calls, one after another, answer so.
-fn all_answer(store: &mut impl Store, calls: &[Call]) -> Result<bool, Failed> {
+// Whether the folder answers these calls so, one after another.
+fn all_answer(store: &mut impl Store, folder: &str, calls: &[Call]) -> Result<bool, Failed> {
+    store.attach(folder)?;
     for call in calls {
         if !answers(store, call)? {
             return Ok(false);
         }
     }
     Ok(true)
+}
+
+// The same of a store of its own.
+fn all_answer_anew(rt: &HostRuntime, folder: &str, calls: &[Call]) -> Result<bool, Failed> {
+    let mut store = FolderStore::new(rt);
+    all_answer(&mut store, folder, calls)
+}
+
+// The same of a folder that isn't there before, nor afterwards.
+fn all_answer_in_a_new_folder(rt: &HostRuntime, name: &str, calls: &[Call]) -> Result<bool, Fail> {
+    let top = fresh_folder(rt, name)?;
+    let all = all_answer_anew(rt, top.as_str(), calls)?;
+    fs::remove_dir_all(rt, top.as_str())?;
+    Ok(all)
 }
 
 // A folder of this name that isn't there.
@@ -78,9 +95,7 @@ fn folder_is_made_and_its_files_are_read_back(rt: HostRuntime) -> Result<(), Fai
     let top = fresh_folder(&rt, "made")?;
     let folder = top.join(rt.alloc(), "missing/parents")?;
     let written = [Call::Write(7, 2, b"bytes"), Call::Sync(7)];
-    let mut store = FolderStore::new(&rt);
-    store.attach(folder.as_str())?;
-    assert!(rt; all_answer(&mut store, &written)?);
+    assert!(rt; all_answer_anew(&rt, folder.as_str(), &written)?);
     let read = [
         Call::Size(7, 7),
         Call::Read(7, 0, b"\0\0bytes"),
@@ -91,16 +106,29 @@ fn folder_is_made_and_its_files_are_read_back(rt: HostRuntime) -> Result<(), Fai
         Call::Next(0, None),
         Call::Size(7, 0),
     ];
-    let mut again = FolderStore::new(&rt);
-    again.attach(folder.as_str())?;
-    assert!(rt; all_answer(&mut again, &read)?);
+    assert!(rt; all_answer_anew(&rt, folder.as_str(), &read)?);
+    fs::remove_dir_all(&rt, top.as_str())?;
+    Ok(())
+}
+
+#[test]
+fn file_that_was_read_is_written(rt: HostRuntime) -> Result<(), Fail> {
+    let top = fresh_folder(&rt, "read-first")?;
+    let written = [Call::Write(7, 0, b"bytes")];
+    assert!(rt; all_answer_anew(&rt, top.as_str(), &written)?);
+    let rewritten = [
+        Call::Read(7, 1, b"ytes"),
+        Call::Write(7, 4, b"ZZ"),
+        Call::Read(7, 0, b"byteZZ"),
+        Call::Next(0, Some(7)),
+    ];
+    assert!(rt; all_answer_anew(&rt, top.as_str(), &rewritten)?);
     fs::remove_dir_all(&rt, top.as_str())?;
     Ok(())
 }
 
 #[test]
 fn no_bytes_past_the_end_make_a_file_longer(rt: HostRuntime) -> Result<(), Fail> {
-    let top = fresh_folder(&rt, "empty-write")?;
     let calls = [
         Call::Write(1, 0, b"ab"),
         Call::Write(1, 5, b""),
@@ -109,15 +137,13 @@ fn no_bytes_past_the_end_make_a_file_longer(rt: HostRuntime) -> Result<(), Fail>
         Call::Write(2, 0, b""),
         Call::Next(2, Some(2)),
     ];
-    let mut store = FolderStore::new(&rt);
-    store.attach(top.as_str())?;
-    assert!(rt; all_answer(&mut store, &calls)?);
-    fs::remove_dir_all(&rt, top.as_str())?;
+    assert!(rt; all_answer_in_a_new_folder(&rt, "empty-write", &calls)?);
     Ok(())
 }
 
 // Whether files that are written, more than are kept open, are read back.
-fn many_answer(store: &mut impl Store) -> Result<bool, Failed> {
+fn many_answer(store: &mut impl Store, folder: &str) -> Result<bool, Failed> {
+    store.attach(folder)?;
     for number in 0..40 {
         store.write(3 * number, 0, &[number as u8; 3])?;
         store.sync(3 * number)?;
@@ -141,19 +167,21 @@ fn are_listed(store: &mut impl Store) -> Result<bool, Failed> {
     Ok(all && store.next_file(118)?.is_none())
 }
 
+fn many_answer_anew(rt: &HostRuntime, folder: &str) -> Result<bool, Failed> {
+    let mut store = FolderStore::new(rt);
+    many_answer(&mut store, folder)
+}
+
 #[test]
 fn more_files_than_are_kept_open(rt: HostRuntime) -> Result<(), Fail> {
     let top = fresh_folder(&rt, "many")?;
-    let mut store = FolderStore::new(&rt);
-    store.attach(top.as_str())?;
-    assert!(rt; many_answer(&mut store)?);
+    assert!(rt; many_answer_anew(&rt, top.as_str())?);
     fs::remove_dir_all(&rt, top.as_str())?;
     Ok(())
 }
 
 #[test]
 fn listed_files_are_those_that_were_made_and_not_removed(rt: HostRuntime) -> Result<(), Fail> {
-    let top = fresh_folder(&rt, "listed")?;
     let calls = [
         Call::Next(0, None),
         Call::Write(u64::MAX, 0, b"x"),
@@ -167,10 +195,7 @@ fn listed_files_are_those_that_were_made_and_not_removed(rt: HostRuntime) -> Res
         Call::Write(5, 0, b"y"),
         Call::Next(5, Some(5)),
     ];
-    let mut store = FolderStore::new(&rt);
-    store.attach(top.as_str())?;
-    assert!(rt; all_answer(&mut store, &calls)?);
-    fs::remove_dir_all(&rt, top.as_str())?;
+    assert!(rt; all_answer_in_a_new_folder(&rt, "listed", &calls)?);
     Ok(())
 }
 
@@ -186,29 +211,76 @@ const FOREIGN_NAMES: [&str; 8] = [
     "8\u{ff}.nxt",
 ];
 
-// Files of foreign names, and a folder of a file's name.
+// A folder with files of foreign names, and with a folder, a link to a file and a link to nothing, each of a file's name.
 fn make_foreign(rt: &HostRuntime, top: &PathBuf) -> Result<(), Fail> {
+    fs::create_dir(rt, top.as_str())?;
     fs::create_dir(rt, top.join(rt.alloc(), "5.nxt")?.as_str())?;
+    symlink(rt, "05.nxt", top.join(rt.alloc(), "6.nxt")?.as_str())?;
+    symlink(rt, "missing", top.join(rt.alloc(), "7.nxt")?.as_str())?;
     for name in FOREIGN_NAMES {
         fs::write(rt, top.join(rt.alloc(), name)?.as_str(), b"x")?;
     }
     Ok(())
 }
 
+// Whether the links are still there, and what they name is as it was.
+fn links_are_as_before(rt: &HostRuntime, top: &PathBuf) -> Result<bool, Fail> {
+    let to_file = fs::symlink_metadata(rt, top.join(rt.alloc(), "6.nxt")?.as_str())?;
+    let to_nothing = fs::symlink_metadata(rt, top.join(rt.alloc(), "7.nxt")?.as_str())?;
+    let linked = fs::read(rt, top.join(rt.alloc(), "05.nxt")?.as_str())?;
+    let made = fs::exists(rt, top.join(rt.alloc(), "missing")?.as_str())?;
+    Ok(
+        to_file.is_symlink()
+            && to_nothing.is_symlink()
+            && linked.as_slice() == b"x".as_slice()
+            && !made,
+    )
+}
+
 #[test]
 fn foreign_names_are_no_files(rt: HostRuntime) -> Result<(), Fail> {
     let top = fresh_folder(&rt, "foreign")?;
-    let mut store = FolderStore::new(&rt);
-    store.attach(top.as_str())?;
     make_foreign(&rt, &top)?;
     let calls = [
         Call::Next(0, None),
         Call::Write(9, 0, b"x"),
         Call::Next(0, Some(9)),
         Call::IsForeign(5),
+        Call::IsForeign(6),
+        Call::IsForeign(7),
         Call::Next(0, Some(9)),
     ];
-    assert!(rt; all_answer(&mut store, &calls)?);
+    assert!(rt; all_answer_anew(&rt, top.as_str(), &calls)?);
+    assert!(rt; links_are_as_before(&rt, &top)?);
+    fs::remove_dir_all(&rt, top.as_str())?;
+    Ok(())
+}
+
+// Whether no other store can have the folder, while this one has it and attaches it again.
+fn excludes(rt: &HostRuntime, store: &mut impl Store, folder: &str) -> Result<bool, Failed> {
+    store.attach(folder)?;
+    let first = is_in_use(rt, folder);
+    store.attach(folder)?;
+    Ok(first && is_in_use(rt, folder))
+}
+
+fn is_in_use(rt: &HostRuntime, folder: &str) -> bool {
+    let mut store = FolderStore::new(rt);
+    let attached = store.attach(folder);
+    let kind = store.failure().map(|error| error.kind());
+    attached.is_err() && kind == Some(ErrorKind::WouldBlock)
+}
+
+fn excludes_anew(rt: &HostRuntime, folder: &str) -> Result<bool, Failed> {
+    let mut store = FolderStore::new(rt);
+    excludes(rt, &mut store, folder)
+}
+
+#[test]
+fn folder_in_use_is_refused_until_it_is_let_go_of(rt: HostRuntime) -> Result<(), Fail> {
+    let top = fresh_folder(&rt, "in-use")?;
+    assert!(rt; excludes_anew(&rt, top.as_str())?);
+    assert!(rt; !is_in_use(&rt, top.as_str()));
     fs::remove_dir_all(&rt, top.as_str())?;
     Ok(())
 }

@@ -1,5 +1,5 @@
 //! The store over a real folder.
-ghost use Rattle.std.specs.Prelude.{◌≡◌, ◌≤◌, false, refl, IfOk, OnOk, OnErr};
+ghost use Rattle.std.specs.Prelude.{◌≡◌, ◌≤◌, false, refl, IfOk, IfErr, OnOk, OnErr, Some};
 ghost use Rattle.outside_traits.specs.Counts.{Rose};
 ghost use Rattle.outside_traits.specs.View.{untold};
 
@@ -17,6 +17,8 @@ pub struct FolderStore<'a, R> {
     write_faults: u64,
     remove_faults: u64,
     taken: u64,
+    /// Why the last call failed that did.
+    failure: Option<io::Error>,
 }
 
 impl<'a, R: AllocGlobal + Files<File = File>> FolderStore<'a, R> {
@@ -28,7 +30,15 @@ impl<'a, R: AllocGlobal + Files<File = File>> FolderStore<'a, R> {
             write_faults: 0,
             remove_faults: 0,
             taken: 0,
+            failure: None,
         }
+    }
+}
+
+impl<R> FolderStore<'_, R> {
+    /// Why the last call failed that did. None where none has failed.
+    pub fn failure(&self) -> Option<io::Error> {
+        self.failure
     }
 }
 
@@ -49,50 +59,65 @@ impl<R: AllocGlobal + Files<File = File> + Clone + Drop> Store for FolderStore<'
     ghost absent_is_empty = { λ s file e. refl };
 
     fn attach(&mut self, folder: &str) -> Result<(), Failed> {
-        counted(self.folder.attach(folder), &mut self.read_faults)
+        let done = self.folder.attach(folder);
+        counted(done, &mut self.read_faults, &mut self.failure)
     }
 
     fn size(&mut self, file: u64) -> Result<u64, Failed> {
-        counted(self.folder.size(file), &mut self.read_faults)
+        let done = self.folder.size(file);
+        counted(done, &mut self.read_faults, &mut self.failure)
     }
 
     fn read(&mut self, file: u64, at: u64, buf: &mut [u8]) -> Result<usize, Failed> {
-        let count = counted(self.folder.read(file, at, buf), &mut self.read_faults)?;
+        let done = self.folder.read(file, at, buf);
+        let count = counted(done, &mut self.read_faults, &mut self.failure)?;
         self.taken = self.taken.saturating_add(count as u64);
         Ok(count)
     }
 
     fn write(&mut self, file: u64, at: u64, bytes: &[u8]) -> Result<(), Failed> {
-        counted(self.folder.write(file, at, bytes), &mut self.write_faults)
+        let done = self.folder.write(file, at, bytes);
+        counted(done, &mut self.write_faults, &mut self.failure)
     }
 
     fn cut(&mut self, file: u64, len: u64) -> Result<(), Failed> {
-        counted(self.folder.cut(file, len), &mut self.write_faults)
+        let done = self.folder.cut(file, len);
+        counted(done, &mut self.write_faults, &mut self.failure)
     }
 
     fn sync(&mut self, file: u64) -> Result<(), Failed> {
-        counted(self.folder.sync(file), &mut self.write_faults)
+        let done = self.folder.sync(file);
+        counted(done, &mut self.write_faults, &mut self.failure)
     }
 
     fn remove(&mut self, file: u64) -> Result<(), Failed> {
-        counted(self.folder.remove(file), &mut self.remove_faults)
+        let done = self.folder.remove(file);
+        counted(done, &mut self.remove_faults, &mut self.failure)
     }
 
     fn next_file(&mut self, from: u64) -> Result<Option<u64>, Failed> {
-        counted(self.folder.next_file(from), &mut self.read_faults)
+        let done = self.folder.next_file(from);
+        counted(done, &mut self.read_faults, &mut self.failure)
     }
 }
 
-// What a call gave, or `Failed`, which is counted.
-fn counted<T: Drop>(done: io::Result<T>, faults: &mut u64) -> Result<T, Failed>
+// What a call gave, or `Failed`, which is counted, and why it is.
+fn counted<T: Drop>(
+    done: io::Result<T>,
+    faults: &mut u64,
+    failure: &mut Option<io::Error>,
+) -> Result<T, Failed>
     ensures value { IfOk result (λ value. done ≡ Ok value) }
     ensures cause { OnErr result (Rose faults.old faults.new) }
     ensures no_fault { OnOk result (faults.new ≡ faults.old) }
     ensures counts { faults.old ≤ faults.new }
+    ensures told { IfErr done (λ error. failure.new ≡ Some error) }
+    ensures untold { OnOk result (failure.new ≡ failure.old) }
 {
     match done {
         Ok(value) => Ok(value),
-        Err(_) => {
+        Err(error) => {
+            *failure = Some(error);
             *faults = faults.saturating_add(1);
             Err(Failed)
         }

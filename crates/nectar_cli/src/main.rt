@@ -17,25 +17,29 @@ use std::rt::{Env, Files};
 use std::{env, io};
 
 fn main(rt: HostRuntime) -> ExitCode {
-    let exit = run(&rt);
+    let mut store = FolderStore::new(&rt);
+    let exit = run(&rt, &mut store);
     // The status tells as much where standard error takes nothing.
-    let _ = tell(&rt, exit);
+    let _ = tell(&rt, exit, store.failure());
     ExitCode::from(status(exit))
 }
 
-// Writes the line on standard error.
-fn tell(rt: &HostRuntime, exit: Exit) -> io::Result<()> {
+// Writes the line on standard error, and behind that of a folder that failed why it did.
+fn tell(rt: &HostRuntime, exit: Exit, failure: Option<io::Error>) -> io::Result<()> {
     if let Exit::NotAStore { file, at } = exit {
         return eprintln!(rt; "nectar: not a store: file {file} at {at}");
     }
-    match message(exit) {
-        Some(message) => rt.eprintln(message),
-        None => Ok(()),
+    if let Some(message) = message(exit) {
+        rt.eprintln(message)?;
+    }
+    match failure {
+        Some(failure) if exit == Exit::StoreFault => eprintln!(rt; "nectar: {failure}"),
+        _ => Ok(()),
     }
 }
 
-// Runs the program on the command line, standard input and standard output.
-fn run<R>(rt: &R) -> Exit
+// Runs the program on the command line, standard input and standard output, over the store.
+fn run<R>(rt: &R, store: &mut FolderStore<'_, R>) -> Exit
 where
     R: AllocGlobal + Env + Files<File = File> + Input + Print + Clone + Drop,
 {
@@ -52,8 +56,7 @@ where
     };
     let mut source = ReaderSource::new(rt.reader());
     let mut sink = WriterSink::new(io::writer(rt));
-    let mut store = FolderStore::new(rt);
-    nectar(rt.alloc(), &words, &mut source, &mut sink, &mut store)
+    nectar(rt.alloc(), &words, &mut source, &mut sink, store)
 }
 
 // The words of the command line behind the program's own name.
