@@ -1,8 +1,8 @@
 //! Runs that load the folder anew before each command. Commands stand behind each other with ` ; ` between
 //! them.
 
-use crate::runs::{FOLDER, answers, empty, outcome, outcome_on_none};
-use anyhow::{Context, Result};
+use crate::runs::{FOLDER, answers, empty, outcome};
+use anyhow::Result;
 use case_text::{script, shown};
 use mem_outside::MemStore;
 use std::alloc::Global;
@@ -10,8 +10,7 @@ use std::alloc::Global;
 /// The file of the first generation's log.
 const FIRST_LOG: u64 = 4_294_967_296;
 
-/// The answers to the commands, each of which is given to a run of its own on the same folder: they are those
-/// of one run.
+/// The answers to the commands, each of which is given to a run of its own on the same folder.
 pub fn anew(alloc: Global, commands: &str) -> Result<String> {
     let mut folder = empty(alloc);
     anew_in(alloc, commands, &mut folder)
@@ -22,20 +21,7 @@ fn anew_in(alloc: Global, commands: &str, folder: &mut MemStore) -> Result<Strin
     for command in commands.split(" ; ") {
         all.extend_from_slice(&answers(alloc, command, folder)?)?;
     }
-    let whole = script_of(alloc, commands)?;
-    if outcome_on_none(alloc, &FOLDER, &whole, usize::MAX)?.1 != all {
-        return None.context("one run has other answers");
-    }
     shown::lines(alloc, &all)
-}
-
-// The script of all commands.
-fn script_of(alloc: Global, commands: &str) -> Result<Vec<u8>> {
-    let mut whole = Vec::new(alloc);
-    for command in commands.split(" ; ") {
-        whole.extend_from_slice(&script::bytes(alloc, command)?)?;
-    }
-    Ok(whole)
 }
 
 /// The bytes that loading alone takes before each command, with the bytes that the two log files then have, and
@@ -62,6 +48,6 @@ fn taken_in(alloc: Global, commands: &str, folder: &mut MemStore) -> Result<Stri
 fn taken_by(alloc: Global, text: &str, folder: &mut MemStore) -> Result<u64> {
     let script = script::bytes(alloc, text)?;
     let before = folder.taken();
-    outcome(alloc, &FOLDER, &script, usize::MAX, folder)?;
+    outcome(alloc, &FOLDER, &script, folder)?;
     Ok(folder.taken().saturating_sub(before))
 }

@@ -81,7 +81,7 @@ fn fails(alloc: Global, probe: &str, folder: &MemStore, state: &[u8], call: u64)
 }
 
 fn fails_in(alloc: Global, probe: &str, state: &[u8], store: &mut MemStore) -> Result<bool> {
-    let (exit, _) = outcome(alloc, &FOLDER, b"", usize::MAX, store)?;
+    let (exit, _) = outcome(alloc, &FOLDER, b"", store)?;
     for pick in 0..IMAGES {
         if answers_on_image(alloc, probe, store, pick)?.as_slice() != state {
             return None.context("another state");

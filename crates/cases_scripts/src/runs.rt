@@ -19,16 +19,15 @@ pub fn image(folder: &MemStore, pick: u64) -> Result<MemStore> {
     Ok(folder.image(pick)?)
 }
 
-/// The exit of a run on these words and this script, of which a read gives at most `piece` bytes, and its answers.
+/// The exit of a run on these words and this script, and its answers.
 pub fn outcome(
     alloc: Global,
     words: &[&str],
     script: &[u8],
-    piece: usize,
     folder: &mut MemStore,
 ) -> Result<(Exit, Vec<u8>)> {
     let script = Vec::from_slice(alloc, script)?;
-    let mut source = MemSource::new(script, piece.max(1), Vec::new(alloc));
+    let mut source = MemSource::new(script, usize::MAX, Vec::new(alloc));
     let mut sink = MemSink::new(alloc, Vec::new(alloc));
     let exit = nectar(alloc, words, &mut source, &mut sink, folder);
     with_answers(alloc, exit, sink.written())
@@ -39,19 +38,14 @@ fn with_answers(alloc: Global, exit: Exit, written: &[u8]) -> Result<(Exit, Vec<
 }
 
 /// The same of a run on an empty folder.
-pub fn outcome_on_none(
-    alloc: Global,
-    words: &[&str],
-    script: &[u8],
-    piece: usize,
-) -> Result<(Exit, Vec<u8>)> {
+pub fn outcome_on_none(alloc: Global, words: &[&str], script: &[u8]) -> Result<(Exit, Vec<u8>)> {
     let mut folder = empty(alloc);
-    outcome(alloc, words, script, piece, &mut folder)
+    outcome(alloc, words, script, &mut folder)
 }
 
-/// The answers of a run that is done, of which a read gives all bytes.
+/// The answers of a run that is done.
 pub fn done(alloc: Global, script: &[u8], folder: &mut MemStore) -> Result<Vec<u8>> {
-    match outcome(alloc, &FOLDER, script, usize::MAX, folder)? {
+    match outcome(alloc, &FOLDER, script, folder)? {
         (Exit::Done, answers) => Ok(answers),
         _ => None.context("a run isn't done"),
     }

@@ -1,7 +1,7 @@
 //! Runs on an empty folder.
 
 use crate::runs::{FOLDER, empty, outcome_on_none, told};
-use anyhow::{Context, Result};
+use anyhow::Result;
 use case_text::script;
 use mem_outside::MemStore;
 use nectar_top::nectar;
@@ -10,24 +10,31 @@ use std::alloc::Global;
 use std::io;
 use std::io::Write;
 
-/// The exit and the answers, which are the same where reads give at most 1, at most 1,000 and up to all
-/// bytes.
+/// The exit and the answers.
 pub fn run(alloc: Global, text: &str) -> Result<String> {
+    run_on(alloc, &FOLDER, text)
+}
+
+/// The exit and the answers, with the row lines left out.
+pub fn quiet(alloc: Global, text: &str) -> Result<String> {
+    run_on(alloc, &["folder", "--quiet"], text)
+}
+
+/// The exit and what is written of the generated script of this number.
+pub fn generate(alloc: Global, number: &str) -> Result<String> {
+    run_on(alloc, &["folder", "--generate", number], "")
+}
+
+fn run_on(alloc: Global, words: &[&str], text: &str) -> Result<String> {
     let script = script::bytes(alloc, text)?;
-    let (exit, whole) = outcome_on_none(alloc, &FOLDER, &script, usize::MAX)?;
-    for piece in [1, 1000] {
-        let (other, answers) = outcome_on_none(alloc, &FOLDER, &script, piece)?;
-        if other != exit || answers != whole {
-            return None.context("another run in other pieces");
-        }
-    }
-    told(alloc, exit, &whole)
+    let (exit, answers) = outcome_on_none(alloc, words, &script)?;
+    told(alloc, exit, &answers)
 }
 
 /// The exit, and how many bytes each line of the answers has, without its LF.
 pub fn lengths(alloc: Global, text: &str) -> Result<String> {
     let script = script::bytes(alloc, text)?;
-    let (exit, answers) = outcome_on_none(alloc, &FOLDER, &script, usize::MAX)?;
+    let (exit, answers) = outcome_on_none(alloc, &FOLDER, &script)?;
     let mut shown = format!(in alloc; "{exit:?}:")?;
     for line in answers.split_inclusive(|byte| *byte == b'\n') {
         let len = line.len().saturating_sub(1);
@@ -55,25 +62,6 @@ fn over_std_in(alloc: Global, script: &[u8], folder: &mut MemStore) -> Result<St
     told(alloc, exit, &writer.taken)
 }
 
-/// The exit and the answers, with the row lines left out.
-pub fn quiet(alloc: Global, text: &str) -> Result<String> {
-    let script = script::bytes(alloc, text)?;
-    let (exit, answers) = outcome_on_none(alloc, &["folder", "--quiet"], &script, usize::MAX)?;
-    told(alloc, exit, &answers)
-}
-
-/// The exit and what is written of the generated script of this number, which are the same on two empty
-/// folders.
-pub fn generate(alloc: Global, number: &str) -> Result<String> {
-    let words = ["folder", "--generate", number];
-    let (exit, summary) = outcome_on_none(alloc, &words, b"", 1)?;
-    let (other, again) = outcome_on_none(alloc, &words, b"", 1)?;
-    if other != exit || again != summary {
-        return None.context("another summary of the same script");
-    }
-    told(alloc, exit, &summary)
-}
-
 /// The exit on these words, each in `<` and `>`, and how many bytes are written.
 pub fn words(alloc: Global, arguments: &str) -> Result<String> {
     let mut words = Vec::new(alloc);
@@ -82,7 +70,7 @@ pub fn words(alloc: Global, arguments: &str) -> Result<String> {
             words.push(word.trim_matches(['<', '>']))?;
         }
     }
-    let (exit, answers) = outcome_on_none(alloc, &words, b"run\n", usize::MAX)?;
+    let (exit, answers) = outcome_on_none(alloc, &words, b"run\n")?;
     let count = answers.len();
     Ok(format!(in alloc; "{exit:?}, {count} bytes")?)
 }
