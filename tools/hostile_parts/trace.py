@@ -11,6 +11,9 @@ Call = collections.namedtuple("Call", "name words value error")
 # write and writev tell what is answered, the others what becomes of files
 TRACED = "openat,close,pread64,pwrite64,fsync,fdatasync,ftruncate,unlink,mkdir,rename,flock,write,writev,statx,getdents64"
 LINE = re.compile(r"^(\d+) +(\w+)\((.*)\) += (-?\d+)(?: ([A-Z0-9]+))?")
+# A call that another process's call came between stands in two lines.
+BEGUN = re.compile(r"^(\d+) +(.*) <unfinished \.\.\.>$")
+ENDED = re.compile(r"^(\d+) +<\.\.\. \w+ resumed>(.*)$")
 TEXT = re.compile(r'"((?:\\x[0-9a-f]{2})*)"')
 
 
@@ -27,11 +30,24 @@ def traced_words(to, more=()):
     return ["strace", "-f", "-qq", "-xx", "-s", "16777216", "-o", to, "-e", f"trace={TRACED}", *more]
 
 
+def whole_lines(lines):
+    """A line for each call, where it ended."""
+    begun = {}
+    for line in lines:
+        first, last = BEGUN.match(line), ENDED.match(line)
+        if first:
+            begun[first[1]] = first[2]
+        elif last:
+            yield f"{last[1]} {begun.pop(last[1], '')}{last[2]}"
+        else:
+            yield line
+
+
 def calls_of(file):
     """The calls of each process of a trace, in order."""
     calls = {}
     with open(file) as lines:
-        for line in lines:
+        for line in whole_lines(lines):
             found = LINE.match(line)
             if found:
                 process, name, words, value, error = found.groups()
