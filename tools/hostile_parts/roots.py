@@ -62,15 +62,15 @@ def roots():
         os.remove(f"{path}/0.nxt")
         return path
 
-    log = "4294967296.nxt"
+    log = "4294967297.nxt"
     refusals = [
         (lambda path: os.remove(f"{path}/{log}"), "no log"),
         (lambda path: make(path, "0.nxt", b"NXL1\0\0\0\0\0\0"), "0.nxt is there"),
-        (lambda path: make(path, "4294967298.nxt"), "more logs"),
-        (lambda path: make(path, "4294967297.nxt", b"NXL1\0\0\0\0\0"), "empty"),
+        (lambda path: make(path, "4294967299.nxt"), "more logs"),
+        (lambda path: make(path, "4294967298.nxt", b"NXL1\0\0\0\0\0"), "empty"),
         (lambda path: cut(path, log, 40), "stops at byte"),
         (lambda path: turn(path, log, 2), "doesn't begin"),
-        (lambda path: turn(path, log, 13), "kind"),
+        (lambda path: turn(path, log, 51), "kind"),  # behind the checkpoint of nothing
         (lambda path: turn(path, "1.nxt", 0), "damaged"),
         (lambda path: os.remove(f"{path}/1.nxt"), "missing"),
         (lambda path: make(path, "4000000000.nxt"), "doesn't name"),

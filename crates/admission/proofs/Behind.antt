@@ -2,7 +2,8 @@
 use Rattle.std.proofs.Common.{◌≡◌, refl, ap, ◌∙◌, ℕ, zero, suc, ◌+◌, ◌<◌, List, [], ◌∷◌, ◌++◌, length, arith}
 use Rattle.std.specs.List.{AllByRecursion}
 use Rattle.catalog_types.specs.PlainEntry.{PlainEntry, PlainNewEntry}
-use Rattle.entry_table.specs.Results.{file_end, IsOf, HaveNextFiles, Differ}
+use Rattle.entry_table.specs.Results.{IsOf, HaveNextFiles, Differ}
+use Rattle.rows_core.specs.Limits.{file_end}
 
 pub all-behind : {A : Type 0} (P : A → Type 0) (xs : List A) (x : A) → AllByRecursion P xs → P x → AllByRecursion P (xs ++ x ∷ [])
 all-behind P [] x all one = (one, tt)

@@ -5,7 +5,8 @@ use Rattle.std.proofs.lemmas.Bool.{false≢true}
 use Rattle.std.proofs.lemmas.List.{length-map, map-append}
 use Rattle.catalog_types.specs.PlainEntry.{PlainEntry, PlainNewEntry}
 use Rattle.entry_table.specs.Ids.{is_among, without}
-use Rattle.entry_table.specs.Results.{most_entries, IsResult, IsShort, IsNewTo, IsOf, HaveNextFiles, Differ, MayBeKept}
+use Rattle.entry_table.specs.Results.{IsResult, IsShort, IsNewTo, IsOf, HaveNextFiles, Differ, MayBeKept}
+use Rattle.rows_core.specs.Limits.{most_entries}
 use Rattle.entry_table.proofs.Lists.{without-within}
 use Rattle.admission.specs.declared.new_result.NewResult.{NewResult}
 use Rattle.admission.specs.Admitting.{MadeResult, kept_in, entries_of, IsOther, MayBeAdmitted, next_of, Admits}

@@ -9,7 +9,8 @@ use Rattle.extent_files.specs.Files.{digest_of}
 use Rattle.plan_core.specs.PlainPlan.{PlainPlan, plan_of}
 use Rattle.plan_spelling.specs.Spelling.{plan_spelling}
 use Rattle.catalog_types.specs.PlainEntry.{PlainEntry, PlainNewEntry}
-use Rattle.entry_table.specs.Results.{most_entries, most_result_bytes, most_plan_bytes, file_end, IsOf}
+use Rattle.entry_table.specs.Results.{IsOf}
+use Rattle.rows_core.specs.Limits.{most_entries, most_result_bytes, most_plan_bytes, file_end}
 use Rattle.admission.specs.declared.new_result.NewResult.{NewResult}
 use Rattle.executor.specs.declared.outcome.KeptPlace.{KeptPlace}
 

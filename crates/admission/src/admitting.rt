@@ -4,7 +4,7 @@ ghost use Rattle.std.specs.List.{AllByRecursion};
 ghost use Rattle.plan_core.specs.PlainPlan.{plan_of};
 ghost use Rattle.plan_spelling.specs.Spelling.{HasPlanSpelling};
 ghost use Rattle.entry_table.specs.Ids.{without};
-ghost use Rattle.entry_table.specs.Results.{most_entries, file_end};
+ghost use Rattle.rows_core.specs.Limits.{most_entries, file_end};
 ghost use Rattle.executor.specs.declared.outcome.KeptPlace.{KeptPlace};
 ghost use Rattle.admission.specs.Admitting.{made_of, entries_of, Admits};
 

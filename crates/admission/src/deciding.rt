@@ -5,7 +5,7 @@ ghost use Rattle.row_blob.specs.Spelling.{kept_spelling};
 ghost use Rattle.plan_core.specs.PlainPlan.{plan_of};
 ghost use Rattle.plan_spelling.specs.Spelling.{HasPlanSpelling, plan_spelling};
 ghost use Rattle.entry_table.specs.Ids.{is_among, without};
-ghost use Rattle.entry_table.specs.Results.{most_entries, most_result_bytes, most_plan_bytes, file_end};
+ghost use Rattle.rows_core.specs.Limits.{most_entries, most_result_bytes, most_plan_bytes, file_end};
 ghost use Rattle.admission.specs.declared.new_result.NewResult.{NewResult};
 ghost use Rattle.admission.specs.Admitting.{made_of, kept_in, IsOther, MayBeAdmitted, Decides};
 
@@ -17,20 +17,9 @@ use extent_files::digest_of;
 use plan_core::Plan;
 use plan_spelling::spell;
 use row_blob::{Kept, encode, encoded_len};
+use rows_core::limits::{FILE_END, MAX_ENTRIES, MAX_PLAN_BYTES, MAX_RESULT_BYTES};
 use rows_core::{Cut, FileRef, Memory, Seq};
 use std::alloc::Global;
-
-/// The most entries.
-const MAX_ENTRIES: usize = 4_096;
-
-/// The most bytes of a result's file.
-const MAX_RESULT_BYTES: u64 = 67_108_864;
-
-/// The most bytes of a plan's spelling.
-const MAX_PLAN_BYTES: usize = 65_536;
-
-/// The number behind the last file's.
-const FILE_END: u64 = 4_294_967_296;
 
 /// The result as it is kept behind those before it, if it may be, where these entries are dropped. It is written
 /// out only where it may.

@@ -3,7 +3,8 @@ ghost use Rattle.std.specs.Prelude.{ℕ, ◌≤◌, ◌<◌, List, [], length};
 ghost use Rattle.std.specs.List.{AllByRecursion};
 ghost use Rattle.catalog_types.specs.PlainEntry.{PlainEntry};
 ghost use Rattle.entry_table.specs.Ids.{without};
-ghost use Rattle.entry_table.specs.Results.{most_entries, file_end, MayBeKept};
+ghost use Rattle.entry_table.specs.Results.{MayBeKept};
+ghost use Rattle.rows_core.specs.Limits.{most_entries, file_end};
 ghost use Rattle.admission.specs.declared.new_result.NewResult.{NewResult};
 ghost use Rattle.admission.specs.Admitting.{MadeResult, entries_of, Admits};
 

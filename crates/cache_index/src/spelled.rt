@@ -12,7 +12,7 @@ ghost use Rattle.plan_spelling.specs.Spelling.{HasExprSpelling, HasAggSpelling, 
 
 use plan_core::{Agg, Expr, Plan};
 use rows_core::Key;
-use scalar_ops::{Args, Cell, OPS, OpTable};
+use scalar_ops::{Args, Cell, OPS, Operations};
 
 /// The lists of a spelling have fewer items than this.
 const ITEMS_END: usize = 256;
@@ -83,7 +83,7 @@ fn count_of_args(row: u32) -> usize
     count_of_args_in(&table, row)
 }
 
-fn count_of_args_in(table: &OpTable<24>, row: u32) -> usize
+fn count_of_args_in(table: &Operations, row: u32) -> usize
     ensures { result ≡ length (unwrap_or (option_map (λ r. kinds_of_args r.args)
         (slice_get table.now.rows row)) []) }
 {

@@ -25,6 +25,8 @@ const COUNT: &[Range] = &[(1, 4_294_967_295)];
 
 const LEFT_LEN: &[Range] = &[(0, 4_294_967_295)];
 
+const TRUTH: &[Range] = &[(0, 1)];
+
 const TEXT_LEN: &[Range] = &[(0, 1_000)];
 /// From -2^95 to -1 and from 0 to 2^95, as 128 bits.
 const SUM: &[Range] = &[
@@ -156,6 +158,7 @@ fn value(alloc: Global, kind: Kind, bytes: &[u8]) -> Result<&[u8], Stop> {
             let (len, rest) = number(4, TEXT_LEN, bytes)?;
             text(alloc, small(len), rest)
         }
+        Kind::Bool => Ok(number(1, TRUTH, bytes)?.1),
     }
 }
 

@@ -52,11 +52,12 @@ fn row_made(alloc: Global, kinds: &[Kind], generator: &mut Generator) -> Result<
     Ok(Row::new(values))
 }
 
-/// A number from -10 to 10, or one of five texts.
+/// A number from -10 to 10, one of five texts, or a truth value.
 fn value_made(alloc: Global, kind: Kind, number: u64) -> Result<Value> {
     match kind {
         Kind::Int => Ok(Value::Int((number % 21) as i64 - 10)),
         Kind::Text => Ok(Value::Text(Txt::new(alloc, text_made(number))?)),
+        Kind::Bool => Ok(Value::Bool(number % 2 == 1)),
     }
 }
 

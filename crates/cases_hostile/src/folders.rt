@@ -15,12 +15,18 @@ pub fn folder(alloc: Global, arguments: &str) -> Result<String> {
 }
 
 fn run_over(alloc: Global, files: &str, text: &str, store: &mut MemStore) -> Result<String> {
-    for file in files.split(' ') {
-        put(alloc, file, store)?;
-    }
+    put_all(alloc, files, store)?;
     let script = script::bytes(alloc, text)?;
     let (exit, answers) = outcome(alloc, &script, store)?;
     told(alloc, exit, &answers)
+}
+
+/// Puts files into a folder.
+pub fn put_all(alloc: Global, files: &str, store: &mut MemStore) -> Result<()> {
+    for file in files.split(' ') {
+        put(alloc, file, store)?;
+    }
+    Ok(())
 }
 
 fn put(alloc: Global, file: &str, store: &mut MemStore) -> Result<()> {

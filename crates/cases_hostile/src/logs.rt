@@ -76,7 +76,7 @@ pub fn read_logs(alloc: Global, logs: &Logs<'_>) -> Result<Reading> {
 
 // What is read where there is no log.
 fn nothing(alloc: Global) -> Reading {
-    Reading::Loaded(Table::new(alloc).held())
+    Reading::Loaded(Table::new(alloc, 1).held())
 }
 
 fn stops(why: Why, file: u64, at: usize) -> Reading {
@@ -102,8 +102,16 @@ fn read_generation(alloc: Global, logs: &Logs<'_>, generation: u64) -> Result<Re
 
 // What the bodies of a log lead to; the first is a checkpoint where one is due, and no other is.
 fn replay(alloc: Global, file: u64, bodies: &[Body<'_>], is_due: bool) -> Result<Reading> {
-    let mut table = Table::new(alloc);
+    let mut table = Table::new(alloc, form_of(bodies));
     replay_on(&mut table, file, bodies, is_due)
+}
+
+// The form of a log: 2 where its first body begins with 7, else 1.
+fn form_of(bodies: &[Body<'_>]) -> u64 {
+    match bodies.first() {
+        Some(body) if body.bytes.first() == Some(&7) => 2,
+        _ => 1,
+    }
 }
 
 fn replay_on<'a>(

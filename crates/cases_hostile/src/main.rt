@@ -16,6 +16,8 @@ mod damaged;
 mod failing;
 mod folders;
 mod logs;
+mod many;
+mod older;
 mod outages;
 mod performed;
 mod plans;
@@ -42,7 +44,9 @@ fn answer(alloc: Global, case: &str) -> Result<String> {
     let (subject, arguments) = case.split_once(' ').unwrap_or((case, ""));
     match subject {
         "folder" => folders::folder(alloc, arguments),
+        "older" => older::older(alloc, arguments),
         "changed" => changed::changed(alloc, arguments),
+        "many-results" => many::many_results(alloc, arguments),
         "damaged-file" => damaged::damaged_file(alloc, arguments),
         "damaged-results" => damaged::damaged_results(alloc, arguments),
         "stops" => outages::tell(alloc, Outage::Stops, arguments),

@@ -12,8 +12,8 @@ use std::alloc::Global;
 /// The most calls that a run is tried with.
 const MAX_CALLS: u64 = 1_000;
 
-/// The exit and the answers where the first removal of a file fails, and whether the file of this number is
-/// there at that end, and once the folder was loaded again.
+/// The exit and the answers where the first removal fails behind which the file of this number is there, and
+/// whether it is there at that end, and once the folder was loaded again.
 pub fn unremoved(alloc: Global, arguments: &str) -> Result<String> {
     let (file, text) = arguments.split_once(' ').context("no script")?;
     let file = file.parse::<u64>()?;
@@ -44,11 +44,11 @@ fn unremoved_in(
     folder: &mut WatchedStore,
 ) -> Result<Option<String>> {
     let (exit, answers) = failing.outcome(alloc, script, folder)?;
-    if folder.failed != Some(Call::Remove) {
+    let at_end = presence(&mut folder.store, file)?;
+    if folder.failed != Some(Call::Remove) || at_end == "gone" {
         return Ok(None);
     }
     let told = told(alloc, exit, &answers)?;
-    let at_end = presence(&mut folder.store, file)?;
     outcome(alloc, b"", &mut folder.store)?;
     let behind = presence(&mut folder.store, file)?;
     Ok(Some(format!(in alloc; "{told}; {at_end}, {behind}")?))

@@ -22,6 +22,8 @@ const FILE_END: u64 = 4_294_967_296;
 #[derive(Drop)]
 pub struct Table<'a> {
     alloc: Global,
+    /// The form of the log: 1, or 2 where columns may be truth values and a checkpoint has another tag.
+    form: u64,
     tick: u64,
     next_file: u64,
     next_id: u64,
@@ -69,9 +71,10 @@ pub struct Held {
 }
 
 impl<'a> Table<'a> {
-    pub fn new(alloc: Global) -> Table<'a> {
+    pub fn new(alloc: Global, form: u64) -> Table<'a> {
         Table {
             alloc,
+            form,
             tick: 0,
             next_file: 1,
             next_id: 1,
@@ -109,19 +112,16 @@ impl<'a> Table<'a> {
 
     /// Reads a change and makes it. A checkpoint fits where it is due, and nothing else.
     pub fn read(&mut self, reader: &mut Reader<'a>, is_due: bool) -> Result<()> {
-        let tag = reader.number(1, 1, 6);
-        self.ask((tag == 6) == is_due);
+        let tag = reader.number(1, 1, 7);
+        let is_checkpoint = tag == if self.form == 1 { 6 } else { 7 };
+        self.ask(is_checkpoint == is_due);
         self.tick = self.tick.saturating_add(1);
         match tag {
             1 => self.stream(reader),
             2 => self.append(reader),
             3 => self.work(reader),
-            4 => {
-                let ids = self.ids(reader)?;
-                self.let_go(&ids);
-                Ok(())
-            }
-            6 => self.checkpoint(reader),
+            4 => self.collect(reader),
+            _ if is_checkpoint => self.checkpoint(reader),
             _ => {
                 reader.stop_at(0);
                 Ok(())
@@ -138,10 +138,7 @@ impl<'a> Table<'a> {
         let mut columns: Vec<(&[u8], Kind)> = Vec::new(self.alloc);
         for _ in 0..count {
             let name = reader.name(b"");
-            let kind = match reader.number(1, 1, 2) {
-                1 => Kind::Int,
-                _ => Kind::Text,
-            };
+            let kind = self.kind(reader);
             self.ask(columns.iter().all(|(other, _)| *other != name));
             columns.push((name, kind))?;
         }
@@ -151,6 +148,15 @@ impl<'a> Table<'a> {
             extents: 0,
         })?;
         Ok(())
+    }
+
+    fn kind(&self, reader: &mut Reader<'a>) -> Kind {
+        let last = if self.form == 1 { 2 } else { 3 };
+        match reader.number(1, 1, last) {
+            1 => Kind::Int,
+            2 => Kind::Text,
+            _ => Kind::Bool,
+        }
     }
 
     fn append(&mut self, reader: &mut Reader<'a>) -> Result<()> {
@@ -181,9 +187,8 @@ impl<'a> Table<'a> {
         if reader.number(1, 0, 1) == 1 {
             self.program(reader, b"")?;
         }
-        let reads = self.ids(reader)?;
-        let dropped = self.ids(reader)?;
-        self.ask(reads.iter().all(|id| !dropped.contains(id)));
+        let reads = self.ascending_ids(reader)?;
+        let dropped = self.ascending_ids(reader)?;
         self.count_uses(&reads);
         self.let_go(&dropped);
         for _ in 0..reader.word() {
@@ -209,19 +214,35 @@ impl<'a> Table<'a> {
         Ok(name)
     }
 
-    // Ids, which ascend and are of kept results.
+    fn collect(&mut self, reader: &mut Reader<'a>) -> Result<()> {
+        let ids = self.ids(reader)?;
+        self.let_go(&ids);
+        Ok(())
+    }
+
+    // Ids of kept results, each once, in any order.
     fn ids(&mut self, reader: &mut Reader<'a>) -> Result<Vec<u64>> {
         let mut ids = Vec::new(self.alloc);
-        let mut last = 0;
         for _ in 0..reader.word() {
             if reader.is_stopped() {
                 break;
             }
             let id = reader.word();
             let is_there = self.kept.iter().any(|kept| kept.id == id);
-            self.ask(last < id && is_there);
+            let is_new = !ids.contains(&id);
+            self.ask(is_there && is_new);
             ids.push(id)?;
-            last = id;
+        }
+        Ok(ids)
+    }
+
+    // Those that ascend.
+    fn ascending_ids(&mut self, reader: &mut Reader<'a>) -> Result<Vec<u64>> {
+        let ids = self.ids(reader)?;
+        let mut last = 0;
+        for id in &ids {
+            self.ask(last < *id);
+            last = *id;
         }
         Ok(ids)
     }

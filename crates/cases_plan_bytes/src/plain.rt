@@ -143,7 +143,7 @@ fn expr(next: &mut Vec<Want>, below: u32, tag: u8) -> Result<bool> {
 fn row(next: &mut Vec<Want>, below: u32, row: u8) -> Result<bool> {
     match row {
         3 | 4 | 21 | 23 => items(next, 1, &[Want::Expr(below)]),
-        0..=22 => items(next, 2, &[Want::Expr(below)]),
+        0..=31 => items(next, 2, &[Want::Expr(below)]),
         _ => Ok(false),
     }
 }

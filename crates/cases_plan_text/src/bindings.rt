@@ -1,5 +1,5 @@
-//! Texts of plans over the streams `l (t:text, id:int)` and `r (k:text, v:int)`, with numbers in place of
-//! names.
+//! Texts of plans over the streams `l (t:text, id:int)`, `r (k:text, v:int)` and `f (up:bool, n:int)`, with
+//! numbers in place of names.
 
 use crate::texts::{refused, word};
 use anyhow::Result;
@@ -36,16 +36,16 @@ fn unknown(alloc: Global, name: &Name) -> Result<String> {
     Ok(format!(in alloc; "unknown {name}")?)
 }
 
-/// The numbers of a join of two streams by one pair of columns, which is the one plan that the cases bind.
+/// The numbers of a join of two streams by one pair of columns, or the plan itself.
 fn shown(alloc: Global, plan: &Plan) -> Result<String> {
     let Plan::Join { left, right, on } = plan else {
-        return word(alloc, "another plan");
+        return Ok(format!(in alloc; "{plan:?}")?);
     };
     match (stream_of(left), stream_of(right), on.items()) {
         (Some(left), Some(right), [(first, second)]) => {
             Ok(format!(in alloc; "join {left} {right} on {first} = {second}")?)
         }
-        _ => word(alloc, "another plan"),
+        _ => Ok(format!(in alloc; "{plan:?}")?),
     }
 }
 
@@ -105,21 +105,22 @@ fn bound(alloc: Global, plan: &NamedPlan) -> Result<Result<Plan, BindRefusal>> {
 
 fn streams(alloc: Global) -> Result<Vec<KeptStream>> {
     let mut streams = Vec::new(alloc);
-    streams.push(kept(alloc, b"l", b"t", b"id")?)?;
-    streams.push(kept(alloc, b"r", b"k", b"v")?)?;
+    streams.push(kept(alloc, b"l", column(alloc, b"t", Kind::Text)?, b"id")?)?;
+    streams.push(kept(alloc, b"r", column(alloc, b"k", Kind::Text)?, b"v")?)?;
+    streams.push(kept(alloc, b"f", column(alloc, b"up", Kind::Bool)?, b"n")?)?;
     Ok(streams)
 }
 
-/// The stream of this name with a column of texts and one of numbers.
-fn kept(alloc: Global, name: &[u8], text: &[u8], number: &[u8]) -> Result<KeptStream> {
+/// The stream of this name with this column and one of numbers.
+fn kept(alloc: Global, name: &[u8], first: Column, number: &[u8]) -> Result<KeptStream> {
     let name = Name::new(alloc, name)?;
-    let schema = Schema::new(columns(alloc, text, number)?)?;
+    let schema = Schema::new(columns(alloc, first, number)?)?;
     Ok(KeptStream { name, schema })
 }
 
-fn columns(alloc: Global, text: &[u8], number: &[u8]) -> Result<Vec<Column>> {
+fn columns(alloc: Global, first: Column, number: &[u8]) -> Result<Vec<Column>> {
     let mut columns = Vec::new(alloc);
-    columns.push(column(alloc, text, Kind::Text)?)?;
+    columns.push(first)?;
     columns.push(column(alloc, number, Kind::Int)?)?;
     Ok(columns)
 }
@@ -131,13 +132,14 @@ fn column(alloc: Global, name: &[u8], kind: Kind) -> Result<Column> {
 
 fn kinds(alloc: Global) -> Result<Schemas> {
     let mut kinds = Vec::new(alloc);
-    kinds.push(text_and_number(alloc)?)?;
-    kinds.push(text_and_number(alloc)?)?;
+    kinds.push(and_number(alloc, Kind::Text)?)?;
+    kinds.push(and_number(alloc, Kind::Text)?)?;
+    kinds.push(and_number(alloc, Kind::Bool)?)?;
     Ok(Schemas {
         kinds: Seq::new(kinds),
     })
 }
 
-fn text_and_number(alloc: Global) -> Result<Seq<Kind>> {
-    Ok(Seq::new(vec![in alloc; Kind::Text, Kind::Int]?))
+fn and_number(alloc: Global, first: Kind) -> Result<Seq<Kind>> {
+    Ok(Seq::new(vec![in alloc; first, Kind::Int]?))
 }

@@ -47,6 +47,8 @@ fn op_of(word: &str) -> Option<Op> {
     Some(match word {
         "Add" => Op::Add,
         "Neg" => Op::Neg,
+        "Least" => Op::Least,
+        "Most" => Op::Most,
         "Eq" => Op::Eq,
         "Lt" => Op::Lt,
         "Ge" => Op::Ge,

@@ -3,17 +3,19 @@
 //! reading gives with them: `read`, `here` where it stops at this byte, `end` where it stops at the end, or
 //! the place.
 
-use crate::reading::place;
+use crate::reading::{form_and_rest, place};
 use anyhow::Result;
+use record_codec::Form;
 use std::alloc::Global;
 
-pub fn edits(alloc: Global, digits: &str) -> Result<String> {
+pub fn edits(alloc: Global, arguments: &str) -> Result<String> {
+    let (form, digits) = form_and_rest(arguments)?;
     let bytes = hex::decode(alloc, digits)?;
     let mut lines = String::new(alloc);
     let mut first = 0;
     let mut shared = String::new(alloc);
     for at in 0..bytes.len() {
-        let runs = runs(alloc, &bytes, at)?;
+        let runs = runs(alloc, form, &bytes, at)?;
         if runs.as_str() != shared.as_str() {
             put_line(alloc, &mut lines, first, at, shared.as_str())?;
             first = at;
@@ -36,13 +38,13 @@ fn put_line(alloc: Global, lines: &mut String, first: usize, end: usize, runs: &
 }
 
 /// What reading gives with each byte in this place.
-fn runs(alloc: Global, bytes: &[u8], at: usize) -> Result<String> {
+fn runs(alloc: Global, form: Form, bytes: &[u8], at: usize) -> Result<String> {
     let mut runs = String::new(alloc);
     let mut changed = Vec::from_slice(alloc, bytes)?;
     let mut first = 0;
-    let mut shared = outcome(alloc, &mut changed, at, 0)?;
+    let mut shared = outcome(alloc, form, &mut changed, at, 0)?;
     for byte in 1..=u8::MAX {
-        let next = outcome(alloc, &mut changed, at, byte)?;
+        let next = outcome(alloc, form, &mut changed, at, byte)?;
         if next != shared {
             put_run(
                 alloc,
@@ -65,11 +67,17 @@ fn runs(alloc: Global, bytes: &[u8], at: usize) -> Result<String> {
     Ok(runs)
 }
 
-fn outcome(alloc: Global, bytes: &mut Vec<u8>, at: usize, byte: u8) -> Result<Option<u64>> {
+fn outcome(
+    alloc: Global,
+    form: Form,
+    bytes: &mut Vec<u8>,
+    at: usize,
+    byte: u8,
+) -> Result<Option<u64>> {
     if let Some(there) = bytes.get_mut(at) {
         *there = byte;
     }
-    place(alloc, bytes)
+    place(alloc, form, bytes)
 }
 
 fn put_run(alloc: Global, runs: &mut String, first: u8, last: u8, outcome: &str) -> Result<()> {

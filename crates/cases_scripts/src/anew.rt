@@ -7,8 +7,8 @@ use case_text::{script, shown};
 use mem_outside::MemStore;
 use std::alloc::Global;
 
-/// The file of the first generation's log.
-const FIRST_LOG: u64 = 4_294_967_296;
+/// The file of the log in use: loading replaces the first one, which has no body, by that of generation 1.
+const LOG: u64 = 4_294_967_297;
 
 /// The answers to the commands, each of which is given to a run of its own on the same folder.
 pub fn anew(alloc: Global, commands: &str) -> Result<String> {
@@ -34,7 +34,7 @@ pub fn taken(alloc: Global, commands: &str) -> Result<String> {
 fn taken_in(alloc: Global, commands: &str, folder: &mut MemStore) -> Result<String> {
     let mut lines = Vec::new(alloc);
     for command in commands.split(" ; ") {
-        let logs = folder.bytes(0).len() + folder.bytes(FIRST_LOG).len();
+        let logs = folder.bytes(0).len() + folder.bytes(LOG).len();
         let loading = taken_by(alloc, "", folder)?;
         let both = taken_by(alloc, command, folder)?;
         let more = both.saturating_sub(loading);

@@ -66,11 +66,17 @@ fn push_value(alloc: Global, value: &Value, to: &mut String) -> Result<()> {
     match value {
         Value::Int(number) => push_number(alloc, *number, to),
         Value::Text(text) => push_text(text.bytes(), to),
+        Value::Bool(truth) => push_truth(alloc, *truth, to),
     }
 }
 
 fn push_number(alloc: Global, number: i64, to: &mut String) -> Result<()> {
     to.push_str(format!(in alloc; "int {number}")?.as_str())?;
+    Ok(())
+}
+
+fn push_truth(alloc: Global, truth: bool, to: &mut String) -> Result<()> {
+    to.push_str(format!(in alloc; "truth {truth}")?.as_str())?;
     Ok(())
 }
 

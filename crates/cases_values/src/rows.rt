@@ -114,6 +114,11 @@ fn value_of(alloc: Global, part: &str) -> Result<Value> {
     if let Some(text) = part.strip_prefix('\'') {
         return Ok(Value::Text(Txt::new(alloc, text.as_bytes())?));
     }
+    match part {
+        "true" => return Ok(Value::Bool(true)),
+        "false" => return Ok(Value::Bool(false)),
+        _ => {}
+    }
     let number = part.parse::<i64>().ok().context("no number")?;
     Ok(Value::Int(number))
 }

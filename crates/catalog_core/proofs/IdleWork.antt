@@ -7,7 +7,8 @@ use Rattle.entry_table.specs.Ids.{without}
 use Rattle.entry_table.specs.Work.{with_uses}
 use Rattle.entry_table.proofs.Lists.{without-within}
 use Rattle.catalog_core.specs.IsTable.{IsTable}
-use Rattle.catalog_core.specs.Table.{Table, table_with, most_ticks, Fits, FitsProgram, after, with_programs, with_stored, with_tick}
+use Rattle.catalog_core.specs.Table.{Table, table_with, Fits, FitsProgram, after, with_programs, with_stored, with_tick}
+use Rattle.rows_core.specs.Limits.{most_ticks}
 
 pub all-stay : (es : List PlainEntry) → without [] es ≡ es
 all-stay [] = refl
@@ -34,7 +35,6 @@ idle-fits program t is low fits = record {
     results = record {
       read = record { ascend = refl; there = refl };
       gone = record { ascend = refl; there = refl };
-      apart = refl;
       kept = record {
         are_new = record { few = let less = without-within [] t.entries in omega (arith, less, is.kept.few); results = tt; new = tt; differ = tt };
         files = tt;

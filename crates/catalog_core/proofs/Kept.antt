@@ -20,7 +20,8 @@ use Rattle.catalog_core.proofs.OwnNumbers.{files-stream, files-append}
 use Rattle.catalog_core.proofs.StillKeyed.{keyed-stream, keyed-append}
 use Rattle.catalog_core.proofs.StoredPrograms.{stored-stream, stored-append, stored-more}
 use Rattle.catalog_core.proofs.OverStreams.{over-stream, over-append, past-tick, work-keeps-table, collection-keeps-table}
-use Rattle.catalog_core.specs.Table.{Table, place_of, extent_count, new_stream, with_extent, updated, most_ticks, most_extents, most_rows, most_programs, Fits, FitsStream, FitsAppend, IsNextExtent, FitsProgram, FitsWork, FitsCollection, after, with_programs, with_stored, with_tick}
+use Rattle.catalog_core.specs.Table.{Table, place_of, extent_count, new_stream, with_extent, updated, Fits, FitsStream, FitsAppend, IsNextExtent, FitsProgram, FitsWork, FitsCollection, after, with_programs, with_stored, with_tick}
+use Rattle.rows_core.specs.Limits.{most_ticks, most_extents, most_rows, most_programs}
 
 -- ---- names that differ
 

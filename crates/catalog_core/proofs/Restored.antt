@@ -15,7 +15,8 @@ use Rattle.catalog_core.specs.OwnFiles.{HaveOwnFiles, IsGiven, extent_files, res
 use Rattle.catalog_core.specs.Programs.{IsProgram, IsStored}
 use Rattle.catalog_core.specs.Restoring.{AreNumbers, AreStreams, ArePrograms, AreResults}
 use Rattle.catalog_core.specs.Results.{IsEntryOver, digests_of}
-use Rattle.catalog_core.specs.Table.{keyed, table_with, most_ticks}
+use Rattle.catalog_core.specs.Table.{keyed, table_with}
+use Rattle.rows_core.specs.Limits.{most_ticks}
 
 abbrev with_each_keys : Digests → List PlainEntry → List PlainEntry
 with_each_keys digests entries = map (with_keys digests) entries

@@ -16,7 +16,8 @@ use Rattle.rows_core.specs.declared.cut.Cut.{Cut}
 use Rattle.catalog_core.specs.OwnFiles.{HaveOwnFiles, HaveOwnFiles-prop}
 use Rattle.catalog_core.specs.Programs.{names_of, AreByName, AreCuts, IsProgram, IsStored}
 use Rattle.catalog_core.specs.Results.{IsOver, IsEntryOver, digests_of}
-use Rattle.catalog_core.specs.Parts.{Table, kept_of_table, most_ticks, file_end, most_streams, most_extents, most_extents_in_all, most_extent_bytes, most_rows, most_programs, extent_count, row_count}
+use Rattle.catalog_core.specs.Parts.{Table, kept_of_table, extent_count, row_count}
+use Rattle.rows_core.specs.Limits.{most_ticks, file_end, most_streams, most_extents, most_extents_in_all, most_extent_bytes, most_rows, most_programs}
 
 -- it has a row, and its file is short enough
 pub record IsExtent (extent : Extent) : Type 0 where

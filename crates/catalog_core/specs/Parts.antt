@@ -1,10 +1,9 @@
--- The parts of a table, and their limits.
+-- The parts of a table.
 use Rattle.std.specs.Prelude.{ℕ, List, [], length, sum_by}
 use Rattle.catalog_types.specs.PlainEntry.{PlainEntry}
 use Rattle.catalog_types.specs.declared.program.Program.{Program}
 use Rattle.catalog_types.specs.declared.snapshot.Snapshot.{Snapshot}
 use Rattle.catalog_types.specs.declared.snapshot.StreamState.{StreamState}
-pub use Rattle.entry_table.specs.Results.{file_end}
 use Rattle.entry_table.specs.Work.{Kept, kept_with}
 
 -- how many commands were recorded, the next numbers of files and of kept results, and what these are called by
@@ -22,30 +21,6 @@ empty_table = table_with 0 1 1 [] [] []
 -- the kept results of a table, and the id of the next one
 abbrev pub kept_of_table : Table → Kept
 kept_of_table t = kept_with t.next_id t.entries
-
--- ---- limits
-
-abbrev pub most_ticks : ℕ
-most_ticks = 4294967295
-
-abbrev pub most_streams : ℕ
-most_streams = 1024
-
--- of one stream, and of all streams together
-abbrev pub most_extents : ℕ
-most_extents = 65535
-
-abbrev pub most_extents_in_all : ℕ
-most_extents_in_all = 262144
-
-abbrev pub most_extent_bytes : ℕ
-most_extent_bytes = 16777216
-
-abbrev pub most_rows : ℕ
-most_rows = 4294967295
-
-abbrev pub most_programs : ℕ
-most_programs = 1024
 
 -- ---- counts
 

@@ -8,7 +8,8 @@ use Rattle.catalog_types.specs.declared.snapshot.StreamState.{StreamState}
 use Rattle.entry_table.specs.AreKept.{IsPast}
 use Rattle.catalog_core.specs.IsTable.{IsStream}
 use Rattle.catalog_core.specs.OwnFiles.{HaveOwnFiles}
-use Rattle.catalog_core.specs.Parts.{file_end, most_streams, most_extents_in_all, most_programs, extent_count}
+use Rattle.catalog_core.specs.Parts.{extent_count}
+use Rattle.rows_core.specs.Limits.{file_end, most_streams, most_extents_in_all, most_programs}
 use Rattle.catalog_core.specs.Programs.{names_of, AreByName, IsProgram}
 use Rattle.catalog_core.specs.Results.{IsEntryOver}
 

@@ -15,7 +15,8 @@ use Rattle.entry_table.specs.Keyed.{with_keys}
 use Rattle.entry_table.specs.Work as work
 use Rattle.entry_table.specs.Work.{Kept}
 use Rattle.catalog_core.specs.IsTable.{IsTable}
-pub use Rattle.catalog_core.specs.Parts.{Table, table_with, empty_table, kept_of_table, file_end, most_ticks, most_streams, most_extents, most_extents_in_all, most_extent_bytes, most_rows, most_programs, extent_count, row_count}
+pub use Rattle.catalog_core.specs.Parts.{Table, table_with, empty_table, kept_of_table, extent_count, row_count}
+use Rattle.rows_core.specs.Limits.{file_end, most_ticks, most_streams, most_extents, most_extents_in_all, most_extent_bytes, most_rows, most_programs}
 use Rattle.catalog_core.specs.Programs.{extents_at, IsProgram, with_program}
 use Rattle.catalog_core.specs.Results.{IsResultOver, digests_of}
 

@@ -25,27 +25,12 @@ use catalog_types::{
 use entry_table::EntryTable;
 use indexmap::IndexSet;
 use plan_core::Schemas;
+use rows_core::limits::{
+    FILE_END, MAX_ALL_EXTENTS, MAX_EXTENT_BYTES, MAX_EXTENTS, MAX_STREAMS, MAX_TICKS,
+};
 use rows_core::{Column, Memory, Name, Schema, Seq};
 use std::alloc::Global;
 use std::mem;
-
-/// The most ticks.
-const MAX_TICKS: u32 = 4_294_967_295;
-
-/// The number behind the last file's.
-pub(crate) const FILE_END: u64 = 4_294_967_296;
-
-/// The most streams.
-const MAX_STREAMS: usize = 1_024;
-
-/// The most extents of one stream.
-const MAX_EXTENTS: usize = 65_535;
-
-/// The most extents of all streams together.
-const MAX_ALL_EXTENTS: usize = 262_144;
-
-/// The most bytes of an extent's file.
-const MAX_EXTENT_BYTES: u64 = 16_777_216;
 
 /// The table, and room for the change that it was last prepared for.
 #[derive(Drop)]
@@ -91,7 +76,8 @@ impl Catalog {
     ghost use Rattle.catalog_core.specs.Programs.{names_of, columns_of};
     ghost use Rattle.catalog_core.specs.Stored.{GoesBy};
     ghost use Rattle.catalog_core.specs.Streams as stream;
-    ghost use Rattle.catalog_core.specs.Table.{empty_table, place_of, most_ticks, Fits, FitsStream};
+    ghost use Rattle.catalog_core.specs.Table.{empty_table, place_of, Fits, FitsStream};
+    ghost use Rattle.rows_core.specs.Limits.{most_ticks};
     ghost use Rattle.catalog_core.specs.Table.{FitsAppend, IsNextExtent, HasPlaceForExtent, FitsProgram};
     ghost use Rattle.catalog_core.specs.Table.{FitsResults, FitsWork, FitsCollection, after, with_tick};
     ghost use Rattle.catalog_core.specs.Table.{FitsCheckpoint, is_checkpoint, keyed};

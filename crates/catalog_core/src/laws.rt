@@ -19,7 +19,8 @@ ghost use Rattle.catalog_core.specs.Catalogs.{table_of};
 ghost use Rattle.catalog_core.specs.IsTable.{IsTable};
 ghost use Rattle.catalog_core.specs.Named.{lengths_of, HasFile, file_at, machine_at};
 ghost use Rattle.catalog_core.specs.Programs.{extents_at, AreCuts};
-ghost use Rattle.catalog_core.specs.Table.{Table, empty_table, most_ticks, Fits, FitsProgram, after};
+ghost use Rattle.catalog_core.specs.Table.{Table, empty_table, Fits, FitsProgram, after};
+ghost use Rattle.rows_core.specs.Limits.{most_ticks};
 ghost use Rattle.catalog_core.specs.Table.{with_programs, with_stored, with_tick, keyed, told_with};
 
 use crate::catalog::Catalog;

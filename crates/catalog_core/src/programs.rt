@@ -3,7 +3,8 @@ ghost use Rattle.std.specs.Prelude.{◌≡◌, ◌↔◌, ◌<◌, ◌≤◌, Li
 ghost use Rattle.std.specs.Prelude.{vec_len, vec_capacity, option_copied, IfSome, OnOk};
 ghost use Rattle.catalog_types.specs.declared.program.Program as plain;
 ghost use Rattle.catalog_core.specs.Programs.{AreByName, is_below, below, with_program, program_named};
-ghost use Rattle.catalog_core.specs.Table.{most_programs, with_stored};
+ghost use Rattle.catalog_core.specs.Table.{with_stored};
+ghost use Rattle.rows_core.specs.Limits.{most_programs};
 
 use catalog_types::Program;
 use rows_core::{Memory, Name};

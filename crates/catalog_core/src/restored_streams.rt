@@ -4,7 +4,8 @@ ghost use Rattle.std.specs.List.{AllByRecursion};
 ghost use Rattle.catalog_core.specs.IsTable.{IsStream};
 ghost use Rattle.catalog_core.specs.Programs.{names_of, kinds_of_streams};
 ghost use Rattle.catalog_core.specs.Streams.{name_of, states_of};
-ghost use Rattle.catalog_core.specs.Table.{extent_count, most_streams};
+ghost use Rattle.catalog_core.specs.Table.{extent_count};
+ghost use Rattle.rows_core.specs.Limits.{most_streams};
 ghost use Rattle.plan_binder.specs.Binding.{has_repeat};
 
 use crate::chains::know_chains_of;
@@ -14,14 +15,9 @@ use catalog_types::{Entry, StreamState};
 use indexmap::IndexSet;
 use plan_binder::Stream;
 use plan_core::Schemas;
+use rows_core::limits::{MAX_ALL_EXTENTS, MAX_STREAMS};
 use rows_core::{Memory, Name, Seq};
 use std::alloc::Global;
-
-/// The most streams.
-pub(crate) const MAX_STREAMS: usize = 1_024;
-
-/// The most extents of all streams together.
-pub(crate) const MAX_ALL_EXTENTS: usize = 262_144;
 
 /// The streams of a checkpoint in memory, with the index of their names, their kinds and the number of their
 /// extents.

@@ -11,7 +11,6 @@ ghost use Rattle.catalog_core.specs.Restoring.{AreNumbers, ArePrograms, AreResul
 ghost use Rattle.catalog_core.specs.Results.{IsEntryOver, digests_of};
 ghost use Rattle.catalog_core.specs.Streams.{states_of};
 
-use crate::catalog::FILE_END;
 use crate::chains::StreamChains;
 use crate::own_files::have_own_files;
 use crate::program::is_program;
@@ -22,6 +21,7 @@ use crate::stream::CatalogStream;
 use catalog_types::{Entry, Program};
 use entry_table::EntryTable;
 use plan_core::Schemas;
+use rows_core::limits::FILE_END;
 use rows_core::{Memory, Seq};
 use std::alloc::Global;
 

@@ -19,7 +19,8 @@ use rows_core::{Cut, Memory};
 use std::alloc::Global;
 
 /// Whether each of these results is of a plan that has a typing over the streams, and of one interval for
-/// each leaf, up to the present extents at most. A plan that has a typing has a spelling.
+/// each leaf, up to the present extents at most. A plan that has a typing has a spelling. There may be more of
+/// them than may be kept.
 pub(crate) fn are_over(
     alloc: Global,
     streams: &[CatalogStream],
@@ -32,14 +33,14 @@ pub(crate) fn are_over(
     ensures spelled { IfOk result (λ are. IsTrue are
         → AllByRecursion (λ new. HasPlanSpelling new.plan) kept.now) }
 {
-    let [new, others @ ..] = kept else {
-        return Ok(true);
-    };
-    if is_over(alloc, streams, schemas, &new.plan, new.cuts.items())? {
-        are_over(alloc, streams, schemas, others)
-    } else {
-        Ok(false)
+    let mut rest = kept;
+    while let [new, others @ ..] = rest {
+        if !is_over(alloc, streams, schemas, &new.plan, new.cuts.items())? {
+            return Ok(false);
+        }
+        rest = others;
     }
+    Ok(true)
 }
 
 /// Whether the plan has a typing over the streams, and the cuts are one interval for each of its leaves, up to

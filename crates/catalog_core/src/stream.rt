@@ -9,14 +9,9 @@ ghost use Rattle.catalog_core.specs.Results.{extent_digests};
 use catalog_types::{Extent, StreamState};
 use fingerprints::{chain, chain_start};
 use plan_binder::Stream;
+use rows_core::limits::{MAX_EXTENT_BYTES, MAX_EXTENTS};
 use rows_core::{Digest, Memory, Name, Schema};
 use std::alloc::Global;
-
-/// The most extents of a stream.
-pub(crate) const MAX_EXTENTS: usize = 65_535;
-
-/// The most bytes of an extent's file.
-pub(crate) const MAX_EXTENT_BYTES: u64 = 16_777_216;
 
 /// A stream: its name, its columns and its extents in the order of appending.
 #[derive(Drop)]
@@ -42,7 +37,8 @@ impl CatalogStream {
     ghost use Rattle.std.specs.Prelude.{◌<◌, None, IfSome, OnOk};
     ghost use Rattle.catalog_core.specs.IsTable.{IsStream};
     ghost use Rattle.catalog_core.specs.Streams.{state_of, HasRoomForExtent, KnowsChains};
-    ghost use Rattle.catalog_core.specs.Table.{new_stream, with_extent, row_count, most_extents};
+    ghost use Rattle.catalog_core.specs.Table.{new_stream, with_extent, row_count};
+    ghost use Rattle.rows_core.specs.Limits.{most_extents};
 
     /// A stream without an extent. It takes no memory.
     pub fn new(alloc: Global, name: Name, schema: Schema) -> CatalogStream

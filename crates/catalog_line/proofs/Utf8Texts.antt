@@ -229,3 +229,4 @@ name-utf8 name is =
 pub word-utf8 : (kind : the_kind.Kind) → IsUtf8 (kind_word kind)
 word-utf8 kind.Int = IsUtf8-from_ascii (codes "int") (all-name_bytes-ascii (codes "int") refl)
 word-utf8 kind.Text = IsUtf8-from_ascii (codes "text") (all-name_bytes-ascii (codes "text") refl)
+word-utf8 kind.Bool = IsUtf8-from_ascii (codes "bool") (all-name_bytes-ascii (codes "bool") refl)

@@ -1,7 +1,8 @@
 -- The numbers of the files of new results.
 use Rattle.std.proofs.Common.{ℕ, ◌+◌, ◌≤◌, List, [], ◌∷◌, length, arith}
 use Rattle.catalog_types.specs.PlainEntry.{PlainNewEntry}
-use Rattle.entry_table.specs.Results.{HaveNextFiles, file_end}
+use Rattle.entry_table.specs.Results.{HaveNextFiles}
+use Rattle.rows_core.specs.Limits.{file_end}
 
 pub files-fit : (id file : ℕ) (news : List PlainNewEntry) → id ≤ file → file ≤ file_end → HaveNextFiles file news → id + length news ≤ file_end
 files-fit id file [] most last files = omega (arith, most, last)

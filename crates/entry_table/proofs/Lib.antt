@@ -2,6 +2,7 @@ pub mod Lists
 pub mod Places
 pub mod Growth
 pub mod Files
+pub mod OwnIds
 pub mod Past
 pub mod KeyedEntries
 pub mod Restored

@@ -14,7 +14,7 @@ use Rattle.plan_spelling.specs.Spelling.{HasPlanSpelling, plan_spelling}
 use Rattle.plan_spelling.proofs.Told.{one_spelling}
 use Rattle.catalog_types.specs.PlainEntry.{PlainEntry}
 use Rattle.entry_table.specs.AreKept.{AreAlike, NoTwoAreAlike}
-use Rattle.entry_table.specs.Results.{most_plan_bytes}
+use Rattle.rows_core.specs.Limits.{most_plan_bytes}
 use Rattle.entry_table.specs.Restoring.{HasShortPlan, are_fresh, is_fresh, is_same, plan_and_cut}
 use Rattle.entry_table.specs.declared.restoring.PlanAndCut.{PlanAndCut}
 

@@ -5,7 +5,7 @@ use Rattle.std.specs.List.{AllByRecursion, AllByRecursion-prop, list_all}
 use Rattle.plan_spelling.specs.Spelling.{plan_spelling}
 use Rattle.catalog_types.specs.PlainEntry.{PlainEntry}
 use Rattle.entry_table.specs.Ids.{ids_of, ascend_above}
-use Rattle.entry_table.specs.Results.{most_entries, most_plan_bytes, most_result_bytes}
+use Rattle.rows_core.specs.Limits.{most_entries, most_plan_bytes, most_result_bytes}
 use Rattle.entry_table.specs.Work.{Kept, most_uses}
 
 -- it was used at least once, which is its making, its machine time isn't 0, and its file and its plan's spelling are short

@@ -6,7 +6,7 @@ use Rattle.catalog_types.specs.PlainEntry.{PlainEntry}
 use Rattle.entry_table.specs.declared.restoring.PlanAndCut.{PlanAndCut}
 use Rattle.entry_table.specs.contracts.restoring.PlanAndCutPartialEq.TheImpl as derived
 use Rattle.entry_table.specs.Ids.{ids_of, ascend_above}
-use Rattle.entry_table.specs.Results.{most_plan_bytes, most_result_bytes}
+use Rattle.rows_core.specs.Limits.{most_plan_bytes, most_result_bytes}
 use Rattle.entry_table.specs.Work.{most_uses}
 
 -- the ids ascend above this one and are below the next one

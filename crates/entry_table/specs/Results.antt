@@ -1,28 +1,12 @@
 -- Which new results may be kept beside entries.
 use Rattle.std.specs.Prelude.{◌≡◌, ℕ, ◌+◌, ◌<◌, ◌≤◌, List, [], ◌∷◌, length, not, IsTrue}
 use Rattle.std.specs.List.{AllByRecursion}
+use Rattle.rows_core.specs.Limits.{most_entries, most_result_bytes, most_plan_bytes, file_end}
 use Rattle.rows_core.specs.declared.cut.Cut.{Cut}
 use Rattle.plan_core.specs.PlainPlan.{PlainPlan}
 use Rattle.plan_spelling.specs.Spelling.{plan_spelling}
 use Rattle.catalog_types.specs.PlainEntry.{PlainEntry, PlainNewEntry}
 use Rattle.entry_table.specs.Ids.{is_among, without}
-
--- ---- limits
-
-abbrev pub most_entries : ℕ
-most_entries = 4096
-
--- of a result's file
-abbrev pub most_result_bytes : ℕ
-most_result_bytes = 67108864
-
--- of a plan's spelling
-abbrev pub most_plan_bytes : ℕ
-most_plan_bytes = 65536
-
--- the number behind the last file's
-abbrev pub file_end : ℕ
-file_end = 4294967296
 
 -- ---- one new result
 

@@ -2,7 +2,7 @@
 use Rattle.std.specs.Prelude.{ℕ, ◌+◌, min, List, [], ◌∷◌, ◌++◌, length, map, if◌then◌else◌, IsTrue}
 use Rattle.catalog_types.specs.PlainEntry.{PlainEntry, PlainNewEntry}
 use Rattle.entry_table.specs.declared.keys.Keys.{Keys}
-use Rattle.entry_table.specs.Ids.{AreIdsOf, are_apart, is_among, without}
+use Rattle.entry_table.specs.Ids.{AreIdsOf, AreOwnIdsOf, is_among, without}
 use Rattle.entry_table.specs.Keyed.{Digests, keys_of}
 use Rattle.entry_table.specs.Results.{MayBeKept}
 
@@ -19,16 +19,15 @@ none_kept = kept_with 1 []
 
 -- ---- which fit
 
--- The ids read and those dropped are of entries, no id is in both lists, and the new results may be kept.
+-- The ids read and those dropped are of entries, and the new results may be kept. An id may be in both lists.
 pub record FitsWork (next_file : ℕ) (reads dropped : List ℕ) (news : List PlainNewEntry) (k : Kept) : Type 0 where
   pub read : AreIdsOf k.entries reads
   pub gone : AreIdsOf k.entries dropped
-  pub apart : IsTrue (are_apart reads dropped)
   pub kept : MayBeKept k.entries dropped next_file news
 
--- the ids are of entries
+-- the ids are of entries, each once, in any order
 abbrev pub FitsCollection : List ℕ → Kept → Type 0
-FitsCollection ids k = AreIdsOf k.entries ids
+FitsCollection ids k = AreOwnIdsOf k.entries ids
 
 -- ---- what is there afterwards
 
@@ -68,7 +67,8 @@ new_entries digests tick id [] = []
 new_entries digests tick id (new ∷ news) =
     new_entry tick id (keys_of digests new) new ∷ new_entries digests tick (id + 1) news
 
--- Those that are dropped are gone, those that were read have a use more, and the new ones stand behind with the next ids.
+-- Those that are dropped are gone, also where they were read, the others that were read have a use more, and the new ones stand
+-- behind with the next ids.
 abbrev pub after_work : Digests → ℕ → List ℕ → List ℕ → List PlainNewEntry → Kept → Kept
 after_work digests tick reads dropped news k =
     kept_with (k.next_id + length news)

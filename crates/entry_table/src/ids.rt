@@ -1,8 +1,8 @@
 //! Lists of ids.
 ghost use Rattle.std.specs.Prelude.{◌≡◌, ◌↔◌, length, IsTrue};
 ghost use Rattle.std.specs.List.{list_all};
-ghost use Rattle.entry_table.specs.Ids.{ids_of, ascend_above, is_among, is_there, are_apart, AreIdsOf};
-ghost use Rattle.entry_table.specs.Ids.{without};
+ghost use Rattle.entry_table.specs.Ids.{ids_of, ascend_above, is_among, is_there, differ, AreIdsOf};
+ghost use Rattle.entry_table.specs.Ids.{AreOwnIdsOf, without};
 
 use cache_index::place_of;
 use catalog_types::Entry;
@@ -15,18 +15,16 @@ pub(crate) fn are_ids_of(entries: &[Entry], ids: &[u32]) -> bool
     ascend(ids) && are_there(entries, ids)
 }
 
-/// Whether no id stands in both lists.
-pub(crate) fn are_apart(ids: &[u32], others: &[u32]) -> bool
-    ensures { result ≡ are_apart ids.now others.now }
+/// Whether each is the id of an entry, and none stands there twice. More ids than entries can't differ, and aren't
+/// compared.
+pub(crate) fn are_own_ids_of(entries: &[Entry], ids: &[u32]) -> bool
+    requires { IsTrue (ascend_above 0 (ids_of entries.now)) }
+    ensures { IsTrue result ↔ AreOwnIdsOf entries.now ids.now }
 {
-    let mut rest = ids;
-    while let [id, behind @ ..] = rest {
-        if is_among(others, *id) {
-            return false;
-        }
-        rest = behind;
+    if ids.len() > entries.len() {
+        return false;
     }
-    true
+    are_there(entries, ids) && differ(ids)
 }
 
 /// Whether it is one of the ids.
@@ -63,6 +61,20 @@ fn ascend(ids: &[u32]) -> bool
             return false;
         }
         last = *id;
+        rest = behind;
+    }
+    true
+}
+
+// Whether none stands there twice.
+fn differ(ids: &[u32]) -> bool
+    ensures { result ≡ differ ids.now }
+{
+    let mut rest = ids;
+    while let [id, behind @ ..] = rest {
+        if is_among(behind, *id) {
+            return false;
+        }
         rest = behind;
     }
     true

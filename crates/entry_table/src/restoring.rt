@@ -8,10 +8,10 @@ ghost use Rattle.entry_table.specs.Restoring.{HaveIds, IsCounted, HasShortPlan, 
 ghost use Rattle.entry_table.specs.Work.{kept_with};
 
 use crate::keys::{Chains, Keys};
-use crate::results::{MAX_ENTRIES, MAX_PLAN_BYTES, MAX_RESULT_BYTES};
 use catalog_types::Entry;
 use indexmap::IndexSet;
 use plan_spelling::spell;
+use rows_core::limits::{MAX_ENTRIES, MAX_PLAN_BYTES, MAX_RESULT_BYTES};
 use rows_core::{Cut, Memory, Seq, Text};
 use std::alloc::Global;
 

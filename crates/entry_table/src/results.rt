@@ -7,7 +7,8 @@ ghost use Rattle.fingerprints.specs.Keys as fingerprints;
 ghost use Rattle.entry_table.specs.Ids.{is_among, without};
 ghost use Rattle.entry_table.specs.Keyed.{IsOfItsPlan};
 ghost use Rattle.entry_table.specs.Results.{MayBeKept, HaveNextFiles, IsResult, IsNewTo, Differ, IsOf};
-ghost use Rattle.entry_table.specs.Results.{AreNew, IsShort, most_entries};
+ghost use Rattle.entry_table.specs.Results.{AreNew, IsShort};
+ghost use Rattle.rows_core.specs.Limits.{most_entries};
 
 use crate::ids::{count_without, is_among};
 use catalog_types::{Entry, NewEntry};
@@ -15,20 +16,9 @@ use estimator::are_same_cuts;
 use fingerprints::program_key;
 use plan_core::Plan;
 use plan_spelling::spell;
+use rows_core::limits::{FILE_END, MAX_ENTRIES, MAX_PLAN_BYTES, MAX_RESULT_BYTES};
 use rows_core::{Cut, Digest, Memory};
 use std::alloc::Global;
-
-/// The most entries.
-pub(crate) const MAX_ENTRIES: usize = 4_096;
-
-/// The most bytes of a result's file.
-pub(crate) const MAX_RESULT_BYTES: u64 = 67_108_864;
-
-/// The most bytes of a plan's spelling.
-pub(crate) const MAX_PLAN_BYTES: usize = 65_536;
-
-/// The number behind the last file's.
-const FILE_END: u64 = 4_294_967_296;
 
 /// Whether new results may be kept where these of the entries are dropped. It asks for memory, for the plans'
 /// spellings, only where all is right that is told without them.
@@ -77,16 +67,20 @@ fn are_few(entries: &[Entry], dropped: &[u32], kept: &[NewEntry]) -> bool
     count <= MAX_ENTRIES && kept.len() <= MAX_ENTRIES - count
 }
 
-// Whether their files are the next ones, in order.
-fn have_next_files(file: u64, kept: &[NewEntry]) -> bool
-    ensures { IsTrue result ↔ HaveNextFiles file kept.now }
+// Whether their files are the next ones, in order. There may be more of them than may be kept.
+fn have_next_files(next_file: u64, kept: &[NewEntry]) -> bool
+    ensures { IsTrue result ↔ HaveNextFiles next_file kept.now }
 {
-    match kept {
-        [] => true,
-        [new, others @ ..] => {
-            new.file.file == file && file < FILE_END && have_next_files(file + 1, others)
+    let mut file = next_file;
+    let mut rest = kept;
+    while let [new, others @ ..] = rest {
+        if new.file.file != file || FILE_END <= file {
+            return false;
         }
+        file += 1;
+        rest = others;
     }
+    true
 }
 
 fn are_results(kept: &[NewEntry]) -> bool

@@ -6,7 +6,7 @@ ghost use Rattle.cache_index.specs.Index.{IsIndexOf, IsIndexOf-prop};
 ghost use Rattle.entry_table.specs.AreKept.{AreKept, AreKept-prop};
 ghost use Rattle.entry_table.specs.Work.{kept_with};
 
-use crate::ids::{are_apart, are_ids_of};
+use crate::ids::{are_ids_of, are_own_ids_of};
 use crate::keys::{Chains, Keys};
 use crate::restoring::{are_kept, put_keys};
 use crate::results::may_be_kept;
@@ -127,8 +127,8 @@ impl EntryTable {
         self.index.over(self.entries.as_slice(), left_out)
     }
 
-    /// Whether a piece of work fits: it reads entries with these ids, drops others and keeps these results,
-    /// whose files begin with the next one. `Memory` where that for a plan's spelling is refused. The
+    /// Whether a piece of work fits: it reads entries with these ids, drops some, also of those that it reads, and
+    /// keeps these results, whose files begin with the next one. `Memory` where that for a plan's spelling is refused. The
     /// entries have the program keys of their plans, so only plans whose keys are the same are compared.
     pub fn fits_work(
         &self,
@@ -143,10 +143,7 @@ impl EntryTable {
             ↔ FitsWork next_file reads.now dropped.now kept.now (kept_of self.now)) }
     {
         let entries = self.entries.as_slice();
-        let are_ids = are_ids_of(entries, reads)
-            && are_ids_of(entries, dropped)
-            && are_apart(reads, dropped);
-        if !are_ids {
+        if !are_ids_of(entries, reads) || !are_ids_of(entries, dropped) {
             return Ok(false);
         }
         may_be_kept(self.alloc, entries, dropped, next_file, kept)
@@ -188,11 +185,11 @@ impl EntryTable {
         self.next_id += count;
     }
 
-    /// Whether a collection of these ids fits.
+    /// Whether a collection of these ids fits: they are of entries, each once, in any order.
     pub fn fits_collection(&self, ids: &[u32]) -> bool
         ensures { IsTrue result ↔ FitsCollection ids.now (kept_of self.now) }
     {
-        are_ids_of(self.entries.as_slice(), ids)
+        are_own_ids_of(self.entries.as_slice(), ids)
     }
 
     /// Takes out the entries with these ids. It takes no memory.

@@ -44,9 +44,9 @@ use Rattle.result_ops.specs.Fitting.{kind_of_acc, kinds_of_group, IsFit, StandsI
 
 value_kind : (k : Kind) (v : Value) → IsValue k v → kind_of v ≡ k
 value_kind kind.Int (value.Int n) is = refl
-value_kind kind.Int (value.Text t) is = absurd is
-value_kind kind.Text (value.Int n) is = absurd is
 value_kind kind.Text (value.Text t) is = refl
+value_kind kind.Bool (value.Bool b) is = refl
+value_kind _ _ is = absurd is
 
 row_kinds : (kinds : Kinds) (row : Row) → IsRow kinds row → HasKinds kinds row
 row_kinds [] [] is = refl

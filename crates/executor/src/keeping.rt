@@ -17,10 +17,9 @@ use estimator::are_same_cuts;
 use made_places::{Place, made_places};
 use plan_core::Plan;
 use rewrite_core::Rewriting;
+use rows_core::limits::MAX_MACHINE_TIME;
 use rows_core::{Cut, Memory};
 use std::alloc::Global;
-
-const LIMIT: u64 = 4_294_967_295;
 
 /// What is kept at each place that the rewriting makes, where a result of the place's plan was made at its
 /// cut: `own` is the rewriting's own result, and `found` are those below it. Whatever these are, only what was
@@ -97,7 +96,7 @@ fn kept_of(alloc: Global, place: Place, made: &MadePlace) -> Result<KeptPlace, M
 fn machine_of(taken_in: u64) -> u32
     ensures { result ≡ min (taken_in + 1) limit }
 {
-    if taken_in >= LIMIT {
+    if taken_in >= MAX_MACHINE_TIME {
         u32::MAX
     } else {
         taken_in as u32 + 1

@@ -8,11 +8,10 @@ ghost use Rattle.result_ops.specs.Fitting.{IsFit, StandsInOrder};
 ghost use Rattle.executor.specs.Loading.{HoldAll, AreFit, Took, piece_plan};
 
 use result_ops::{Made, MakeRefusal, Stop};
+use rows_core::limits::MAX_MACHINE_TIME;
 
 /// What reading a piece gave.
 pub type Loaded = Result<Made, Stop>;
-
-const LIMIT: u64 = 4_294_967_295;
 
 /// Takes the next piece from the stack. `Machine` also where the machine time of a kept result is above its
 /// limit.
@@ -29,7 +28,7 @@ pub fn taken(pieces: &mut Vec<Loaded>) -> Result<Made, MakeRefusal>
         × OnOk result (HoldAll extents results rest (reverse pieces.new.items)) }
 {
     match next(pieces) {
-        Some(Ok(made)) if made.taken_in < LIMIT => Ok(made),
+        Some(Ok(made)) if made.taken_in < MAX_MACHINE_TIME => Ok(made),
         Some(Err(Stop::Overflow)) => Err(MakeRefusal::Overflow),
         Some(_) => Err(MakeRefusal::Machine),
         None => unreachable!(),

@@ -6,6 +6,7 @@ use Rattle.outside_traits.specs.Runs.{Spans, Touches}
 use Rattle.outside_traits.proofs.RunLemmas.{spans_of, spans_on, spans_wider, image_has, files_have}
 use Rattle.gated_log.specs.Stands.{IsBeforeOrAfter}
 use Rattle.catalog_types.specs.declared.change.Change.{Change}
+use Rattle.record_codec.specs.Forms.{newest}
 use Rattle.catalog_core.specs.Table.{Table, empty_table, after}
 use Rattle.journal_store.specs.Readings.{generation_file, is_journal_file, IsJournalFile}
 use Rattle.journal_store.specs.Journals.{Keeps}
@@ -14,24 +15,25 @@ use Rattle.journal_store.specs.declared.journal.Journal.{Journal}
 use Rattle.journal_store.proofs.Checkpointing.{root_not_log}
 use Rattle.journal_store.proofs.MakingLemmas.{log_is_journal}
 use Rattle.folder.specs.State.{State, IsValid, table}
-use Rattle.folder.specs.Replay.{IsBodyOf, MayBeMade, Replays, due_in}
+use Rattle.folder.specs.Replay.{form_in, IsBodyOf, MayBeMade, Replays, due_in}
 use Rattle.folder.specs.Sound.{Care, HoldsAll, Speaks, IsSound}
 use Rattle.folder.specs.Left.{Near, IsSoundForOneOf, IsLeft, IsLeftWith, Everything, Since, StaysSound}
 use Rattle.folder.specs.Standing.{Stands, Means, IsNext}
-use Rattle.folder.proofs.Replays.{Replays-push}
+use Rattle.folder.proofs.Replays.{form_in-push, reads_of, Replays-push}
 use Rattle.folder.proofs.Frames.{named_is_no_journal, sound_beside, holds_beside, stands_same}
 
 -- ---- the table and the journal, on every store that tells its files
 
 -- after a commit
-pub commit_stands : (u v : View) (t t' : Table) (journal journal' : Journal) (c : Change) (body : List ℕ) (stands : Stands u t journal) → IsBodyOf c body → MayBeMade false t c
+pub commit_stands : (u v : View) (t t' : Table) (journal journal' : Journal) (c : Change) (body : List ℕ) (stands : Stands u t journal) → IsBodyOf newest c body → MayBeMade false t c
     → t' ≡ after c t → Keeps v journal' stands.generation (stands.bodies ++ body ∷ []) → AreStable v stands.generation → Stands v t' journal'
 commit_stands u v t t' journal journal' c body stands is_body may t_is keeps stable = record {
   generation = stands.generation;
   bodies = stands.bodies ++ body ∷ [];
+  form_is = form_in-push stands.bodies body stands.form_is;
   keeps = keeps;
-  replays = subst (λ x. Replays (due_in stands.generation) empty_table (stands.bodies ++ body ∷ []) x) (sym t_is)
-      (Replays-push (due_in stands.generation) empty_table t stands.bodies body c stands.replays is_body may);
+  replays = subst (λ x. Replays newest (due_in stands.generation) empty_table (stands.bodies ++ body ∷ []) x) (sym t_is)
+      (Replays-push newest (due_in stands.generation) empty_table t stands.bodies body c stands.replays is_body may);
   stable = stable;
 }
 
@@ -43,13 +45,16 @@ beside_stands mine u v t journal other run =
 -- ---- a commit
 
 module _ (care : Care) (u v : View) (t : Table) (journal : Journal) (s s' : State) (c : Change) (body : List ℕ)
-    (law : (g : ℕ) → Now u g (u.files g)) (means : Means care u t journal s) (next : IsNext care u s c s') (is_body : IsBodyOf c body) where
-  pub before_replays : Replays (due_in means.stands.generation) empty_table means.stands.bodies (table s)
-  before_replays = subst (λ x. Replays (due_in means.stands.generation) empty_table means.stands.bodies x) means.table_is means.stands.replays
+    (law : (g : ℕ) → Now u g (u.files g)) (means : Means care u t journal s) (next : IsNext care u s c s') (is_body : IsBodyOf newest c body) where
+  pub before_replays : Replays newest (due_in means.stands.generation) empty_table means.stands.bodies (table s)
+  before_replays = subst (λ x. Replays newest (due_in means.stands.generation) empty_table means.stands.bodies x) means.table_is means.stands.replays
 
-  pub after_replays : Replays (due_in means.stands.generation) empty_table (means.stands.bodies ++ body ∷ []) (table s')
-  after_replays = subst (λ x. Replays (due_in means.stands.generation) empty_table (means.stands.bodies ++ body ∷ []) x) (sym next.step.1)
-      (Replays-push (due_in means.stands.generation) empty_table (table s) means.stands.bodies body c before_replays is_body next.step.0)
+  pub after_replays : Replays newest (due_in means.stands.generation) empty_table (means.stands.bodies ++ body ∷ []) (table s')
+  after_replays = subst (λ x. Replays newest (due_in means.stands.generation) empty_table (means.stands.bodies ++ body ∷ []) x) (sym next.step.1)
+      (Replays-push newest (due_in means.stands.generation) empty_table (table s) means.stands.bodies body c before_replays is_body next.step.0)
+
+  after_form : form_in (means.stands.bodies ++ body ∷ []) ≡ newest
+  after_form = form_in-push means.stands.bodies body means.stands.form_is
 
   beside_logs : (image : ℕ → List ℕ) → ((g : ℕ) → g ≢ generation_file means.stands.generation → Now u g (image g)) → (g : ℕ) → (IsTrue (is_journal_file g) → ⊥) → Now u g (image g)
   beside_logs image others g plain = others g (λ is. plain (subst IsJournalFile (sym is) (log_is_journal means.stands.generation)))
@@ -63,22 +68,16 @@ module _ (care : Care) (u v : View) (t : Table) (journal : Journal) (s s' : Stat
   pub commit_one : (image : ℕ → List ℕ) → IsBeforeOrAfter means.stands.bodies body (image (generation_file means.stands.generation))
       → ((g : ℕ) → g ≢ generation_file means.stands.generation → Now u g (image g)) → IsSoundForOneOf care s s' image
   commit_one image (inl old) others = inl (record {
-    reading = record {
-      generation = means.stands.generation;
-      bodies = means.stands.bodies;
-      logs = inl (record { root = means.stands.keeps.root (image 0) (others 0 (root_not_log means.stands.generation)); log = old });
-      replays = before_replays;
-    };
+    reading =
+        reads_of newest image means.stands.generation means.stands.bodies (table s)
+        (inl (record { root = means.stands.keeps.root (image 0) (others 0 (root_not_log means.stands.generation)); log = old })) means.stands.form_is before_replays;
     valid = means.valid;
     holds = keeps_files s means.valid (λ i is. (means.settled i is).holds) image others;
   })
   commit_one image (inr new) others = inr (record {
-    reading = record {
-      generation = means.stands.generation;
-      bodies = means.stands.bodies ++ body ∷ [];
-      logs = inl (record { root = means.stands.keeps.root (image 0) (others 0 (root_not_log means.stands.generation)); log = new });
-      replays = after_replays;
-    };
+    reading =
+        reads_of newest image means.stands.generation (means.stands.bodies ++ body ∷ []) (table s')
+        (inl (record { root = means.stands.keeps.root (image 0) (others 0 (root_not_log means.stands.generation)); log = new })) after_form after_replays;
     valid = next.valid;
     holds = keeps_files s' next.valid next.ready image others;
   })
@@ -95,12 +94,10 @@ module _ (care : Care) (u v : View) (t : Table) (journal : Journal) (s s' : Stat
         stands = commit_stands u v t t' journal journal' c body means.stands is_body (subst (λ (x : Table). MayBeMade false x c) (sym means.table_is) next.step.0) t_is keeps stable;
         valid = next.valid;
         settled = λ image is. record {
-          reading = record {
-            generation = means.stands.generation;
-            bodies = means.stands.bodies ++ body ∷ [];
-            logs = inl (record { root = keeps.root (image 0) (is 0); log = keeps.log (image (generation_file means.stands.generation)) (is (generation_file means.stands.generation)) });
-            replays = after_replays;
-          };
+          reading =
+              reads_of newest image means.stands.generation (means.stands.bodies ++ body ∷ []) (table s')
+              (inl (record { root = keeps.root (image 0) (is 0); log = keeps.log (image (generation_file means.stands.generation)) (is (generation_file means.stands.generation)) }))
+              after_form after_replays;
           valid = next.valid;
           holds = keeps_files s' next.valid next.ready image (λ g other. run.others v.moment g (image g) run.time.later (omega arith) other (is g));
         };

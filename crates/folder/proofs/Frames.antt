@@ -62,6 +62,7 @@ stands_same u v t journal here same stands =
     record {
       generation = stands.generation;
       bodies = stands.bodies;
+      form_is = stands.form_is;
       keeps = record {
         is_generation = stands.keeps.is_generation;
         end = stands.keeps.end;

@@ -7,9 +7,9 @@ use Rattle.outside_traits.specs.Runs.{Narrows, Spans}
 use Rattle.outside_traits.proofs.RunLemmas.{spans_narrowed, spans_on}
 use Rattle.folder.specs.Strays.{ChangesStrays}
 use Rattle.journal_store.specs.Journals.{generation_of, had_root_of}
-use Rattle.journal_store.specs.Readings.{IsJournalFile, IsUnfinished}
+use Rattle.journal_store.specs.Readings.{IsJournalFile}
 use Rattle.folder.specs.Folders.{journal_of, table_in, FolderMeans}
-use Rattle.folder.specs.InUse.{most_bodies, HaveShortLog, IsInUse, IsLoadedAsItIs}
+use Rattle.folder.specs.InUse.{MayStay, IsInUse, IsLoadedAsItIs}
 use Rattle.folder.specs.Left.{IsLeft, IsLeftWith, Since}
 use Rattle.folder.specs.Replay.{ReadsAs}
 use Rattle.folder.specs.Sound.{Care}
@@ -17,19 +17,7 @@ use Rattle.folder.specs.State.{State}
 use Rattle.folder.specs.Unnamed.{HasRoot, IsLogOrUnnamed, ChangesUnnamed, ChangesLogsOrUnnamed, named_in}
 use Rattle.folder.specs.declared.folder.Folder.{Folder}
 use Rattle.folder.proofs.Crash.{left_of_since, since_then_first}
-use Rattle.folder.proofs.JournalLemmas.{none_of_unfinished}
 use Rattle.folder.proofs.UnnamedFiles.{logs_or_unnamed, strays_alone, strays_stay, then_strays}
-
--- a folder without a root has no body
-pub short_of_unfinished : (files : ℕ → List ℕ) → IsUnfinished (files 0) → HaveShortLog files
-short_of_unfinished files unfinished g bodies have =
-    let none = none_of_unfinished files g bodies have unfinished in
-    subst (λ (l : List (List ℕ)). length l ≤ most_bodies) (sym none.1) (omega arith)
-
--- it had none
-pub had_none : (b : Bool) (root : List ℕ) → IsTrue b ↔ (IsUnfinished root → ⊥) → IsUnfinished root → b ≡ false
-had_none true root had unfinished = absurd (had.0 refl unfinished)
-had_none false root had unfinished = refl
 
 -- a failure that rose later has risen since
 pub rose_before : (a b c : ℕ) → a ≤ b → Rose b c → Rose a c
@@ -39,9 +27,9 @@ pub gone_before : {P : Type 0} (a b c : ℕ) → a ≤ b → Rose b c ⊎ P → 
 gone_before a b c early (inl rose) = inl (rose_before a b c early rose)
 gone_before a b c early (inr gone) = inr gone
 
-short_in_use : (v : View) (folder : Folder) (g : ℕ) (bodies : List (List ℕ)) → length bodies ≤ most_bodies → IsInUse v folder g bodies → generation_of (journal_of folder) ≡ g
-short_in_use v folder g bodies short (inl left) = left.generation
-short_in_use v folder g bodies short (inr next) = absurd (omega (arith, short, next.long))
+stays_in_use : (v : View) (folder : Folder) (g : ℕ) (bodies : List (List ℕ)) → MayStay bodies → IsInUse v folder g bodies → generation_of (journal_of folder) ≡ g
+stays_in_use v folder g bodies stays (inl left) = left.generation
+stays_in_use v folder g bodies stays (inr next) = absurd (next.goes stays)
 
 module _ (u v w : View) (folder : Folder) (run : ChangesStrays (named_in folder) v w) where
   -- only logs, and files that it doesn't name, are changed
@@ -59,7 +47,7 @@ module _ (u v w : View) (folder : Folder) (run : ChangesStrays (named_in folder)
   pub freed_finished : (as_it_is : IsLoadedAsItIs u.files) (reading : ReadsAs u.files (table_in folder)) → IsInUse v folder reading.generation reading.bodies → Narrows u v → ChangesUnnamed u w
   freed_finished as_it_is reading in_use narrow =
       strays_alone (table_in folder) (generation_of (journal_of folder)) u v w as_it_is.0 reading
-      (short_in_use v folder reading.generation reading.bodies (as_it_is.1 reading.generation reading.bodies reading.logs) in_use) narrow run
+      (stays_in_use v folder reading.generation reading.bodies (as_it_is.1 reading.generation reading.bodies reading.logs) in_use) narrow run
 
   module _ (care : Care) (a b : State) (law : (g : ℕ) → Now v g (v.files g)) (since : Since care a b u v) (means : FolderMeans care v folder a) where
     pub freed_since : Since care a b u w

@@ -7,6 +7,7 @@ use Rattle.gated_log.specs.Logs.{front, contents}
 use Rattle.gated_log.proofs.Crash.{length-front_push, length-front_empty}
 use Rattle.gated_log.proofs.Places.{length-front_take}
 use Rattle.catalog_types.specs.declared.change.Change.{Change}
+use Rattle.record_codec.specs.declared.form.Form.{Form}
 use Rattle.catalog_core.specs.Table.{Table, empty_table, after}
 use Rattle.folder.specs.declared.replay.ReplayRefusal.{ReplayRefusal}
 use Rattle.folder.specs.declared.replay.ReplayRefusal.TheVariants as replay
@@ -36,18 +37,18 @@ unfolding gate_at
 gate_next xs i x low is = ap (λ l. length (front l)) (next_of xs i x low is) ∙ length-front_push (contents (take i xs)) x.items
 
 -- What is said of the bodies that are left, from this table on, is said of all.
-pub record Going (due : Bool) (all : List (Vec ℕ Global)) (i : ℕ) (now : Bool) (t : Table) : Type 0 where
-  pub reached : (t' : Table) → Replays now t (contents (drop i all)) t' → Replays due empty_table (contents all) t'
-  pub stopped : (at : ℕ) → StopsReplay now t (gate_at all i) (contents (drop i all)) at → StopsReplay due empty_table 8 (contents all) at
+pub record Going (f : Form) (due : Bool) (all : List (Vec ℕ Global)) (i : ℕ) (now : Bool) (t : Table) : Type 0 where
+  pub reached : (t' : Table) → Replays f now t (contents (drop i all)) t' → Replays f due empty_table (contents all) t'
+  pub stopped : (at : ℕ) → StopsReplay f now t (gate_at all i) (contents (drop i all)) at → StopsReplay f due empty_table 8 (contents all) at
   pub first : now ≡ true → i ≡ 0
   pub fresh : now ≡ true → t ≡ empty_table
 
-pub going_from : (due : Bool) (all : List (Vec ℕ Global)) (now : Bool) (t : Table) → now ≡ due → t ≡ empty_table → Going due all 0 now t
+pub going_from : (f : Form) (due : Bool) (all : List (Vec ℕ Global)) (now : Bool) (t : Table) → now ≡ due → t ≡ empty_table → Going f due all 0 now t
 unfolding gate_at
-going_from due all now t now_is t_is = record {
-  reached = λ t' run. subst (λ x. Replays due x (contents all) t') t_is (subst (λ b. Replays b t (contents all) t') now_is run);
-  stopped = λ at stops. subst (λ n. StopsReplay due empty_table n (contents all) at) length-front_empty
-      (subst (λ x. StopsReplay due x (length (front [])) (contents all) at) t_is (subst (λ b. StopsReplay b t (length (front [])) (contents all) at) now_is stops));
+going_from f due all now t now_is t_is = record {
+  reached = λ t' run. subst (λ x. Replays f due x (contents all) t') t_is (subst (λ b. Replays f b t (contents all) t') now_is run);
+  stopped = λ at stops. subst (λ n. StopsReplay f due empty_table n (contents all) at) length-front_empty
+      (subst (λ x. StopsReplay f due x (length (front [])) (contents all) at) t_is (subst (λ b. StopsReplay f b t (length (front [])) (contents all) at) now_is stops));
   first = λ is. refl;
   fresh = λ is. t_is;
 }
@@ -55,31 +56,31 @@ going_from due all now t now_is t_is = record {
 pub stops_at : (m n : ℕ) → replay.Stops m ≡ replay.Stops n → m ≡ n
 stops_at m n is = cc
 
-module _ (due : Bool) (all : List (Vec ℕ Global)) (i : ℕ) (now : Bool) (t : Table) (going : Going due all i now t)
+module _ (f : Form) (due : Bool) (all : List (Vec ℕ Global)) (i : ℕ) (now : Bool) (t : Table) (going : Going f due all i now t)
     (body : Vec ℕ Global) (low : i < length all) (is : body ≡ slice_index_or all i body) where
-  on_by : (t' : Table) (c : Change) → IsBodyOf c body.items → MayBeMade now t c → t' ≡ after c t → Going due all (suc i) false t'
+  on_by : (t' : Table) (c : Change) → IsBodyOf f c body.items → MayBeMade now t c → t' ≡ after c t → Going f due all (suc i) false t'
   on_by t' c of may t_is = record {
-    reached = λ x run. going.reached x (subst (λ l. Replays now t l x) (sym (left_of all i body low is)) (c, of, may, subst (λ y. Replays false y (contents (drop (suc i) all)) x) t_is run));
-    stopped = λ at stops. going.stopped at (subst (λ l. StopsReplay now t (gate_at all i) l at) (sym (left_of all i body low is))
+    reached = λ x run. going.reached x (subst (λ l. Replays f now t l x) (sym (left_of all i body low is)) (c, of, may, subst (λ y. Replays f false y (contents (drop (suc i) all)) x) t_is run));
+    stopped = λ at stops. going.stopped at (subst (λ l. StopsReplay f now t (gate_at all i) l at) (sym (left_of all i body low is))
         (inr (
           c,
           of,
           may,
-          subst (λ n. StopsReplay false (after c t) n (contents (drop (suc i) all)) at) (gate_next all i body low is)
-              (subst (λ y. StopsReplay false y (gate_at all (suc i)) (contents (drop (suc i) all)) at) t_is stops),
+          subst (λ n. StopsReplay f false (after c t) n (contents (drop (suc i) all)) at) (gate_next all i body low is)
+              (subst (λ y. StopsReplay f false y (gate_at all (suc i)) (contents (drop (suc i) all)) at) t_is stops),
         )));
     first = λ is. absurd (false≢true is);
     fresh = λ is. absurd (false≢true is);
   }
 
-  pub going_on : (t' : Table) (bytes : List ℕ) (c : Change) → bytes ≡ body.items → IsBodyOf c bytes → MayBeMade now t c → t' ≡ after c t → Going due all (i + 1) false t'
-  going_on t' bytes c bytes_are of may t_is = subst (λ n. Going due all n false t') (sym (add-one i)) (on_by t' c (subst (λ l. IsBodyOf c l) bytes_are of) may t_is)
+  pub going_on : (t' : Table) (bytes : List ℕ) (c : Change) → bytes ≡ body.items → IsBodyOf f c bytes → MayBeMade now t c → t' ≡ after c t → Going f due all (i + 1) false t'
+  going_on t' bytes c bytes_are of may t_is = subst (λ n. Going f due all n false t') (sym (add-one i)) (on_by t' c (subst (λ l. IsBodyOf f c l) bytes_are of) may t_is)
 
-  stops_here : (bytes : List ℕ) (within : ℕ) → bytes ≡ body.items → StopsIn now t bytes within → StopsReplay due empty_table 8 (contents all) (length (front (contents (take i all))) + 5 + within)
+  stops_here : (bytes : List ℕ) (within : ℕ) → bytes ≡ body.items → StopsIn f now t bytes within → StopsReplay f due empty_table 8 (contents all) (length (front (contents (take i all))) + 5 + within)
   unfolding gate_at
   stops_here bytes within bytes_are stops = going.stopped (length (front (contents (take i all))) + 5 + within)
-      (subst (λ l. StopsReplay now t (gate_at all i) l (length (front (contents (take i all))) + 5 + within)) (sym (left_of all i body low is))
-      (inl (within, subst (λ l. StopsIn now t l within) bytes_are stops, refl)))
+      (subst (λ l. StopsReplay f now t (gate_at all i) l (length (front (contents (take i all))) + 5 + within)) (sym (left_of all i body low is))
+      (inl (within, subst (λ l. StopsIn f now t l within) bytes_are stops, refl)))
 
   -- the place lies within the log
   place_below : (bytes : List ℕ) (within : ℕ) → bytes ≡ body.items → within ≤ length bytes → length (front (contents all)) < 2 ^ 63
@@ -91,14 +92,14 @@ module _ (due : Bool) (all : List (Vec ℕ Global)) (i : ℕ) (now : Bool) (t : 
       let size : length bytes ≡ length body.items = ap length bytes_are in
       omega (arith, most, next, size, short, fits)
 
-  pub going_stops : (bytes : List ℕ) (place : ℕ) (r : ReplayRefusal) → bytes ≡ body.items → place ≡ length (front (contents (take i all))) + 5 → IsStop now t bytes r
-      → (at : ℕ) → from_place place r ≡ replay.Stops at → StopsReplay due empty_table 8 (contents all) at
+  pub going_stops : (bytes : List ℕ) (place : ℕ) (r : ReplayRefusal) → bytes ≡ body.items → place ≡ length (front (contents (take i all))) + 5 → IsStop f now t bytes r
+      → (at : ℕ) → from_place place r ≡ replay.Stops at → StopsReplay f due empty_table 8 (contents all) at
   going_stops bytes place (replay.Stops within) bytes_are place_is stop at is =
       let there : length (front (contents (take i all))) + 5 + within ≡ at = ap (λ n. n + within) (sym place_is) ∙ stops_at (place + within) at is in
-      subst (λ n. StopsReplay due empty_table 8 (contents all) n) there (stops_here bytes within bytes_are stop.0)
+      subst (λ n. StopsReplay f due empty_table 8 (contents all) n) there (stops_here bytes within bytes_are stop.0)
   going_stops bytes place replay.Memory bytes_are place_is stop at is = absurd (cc)
 
-  pub going_fits : (bytes : List ℕ) (place : ℕ) (r : ReplayRefusal) → bytes ≡ body.items → place ≡ length (front (contents (take i all))) + 5 → IsStop now t bytes r
+  pub going_fits : (bytes : List ℕ) (place : ℕ) (r : ReplayRefusal) → bytes ≡ body.items → place ≡ length (front (contents (take i all))) + 5 → IsStop f now t bytes r
       → length (front (contents all)) < 2 ^ 63 → FitsFrom place r
   going_fits bytes place (replay.Stops within) bytes_are place_is stop fits =
       subst (λ n. n + within < 2 ^ 64) (sym place_is) (place_below bytes within bytes_are stop.1 fits)
@@ -110,15 +111,15 @@ front_below all i fits =
     omega (arith, most, fits)
 
 -- at the end no body is left
-pub going_ended : (due : Bool) (all : List (Vec ℕ Global)) (i : ℕ) (t : Table) → Going due all i false t → i ≡ length all → Replays due empty_table (contents all) t
-going_ended due all i t going end = going.reached t
-    (subst (λ n. Replays false t (contents (drop n all)) t) (sym end) (subst (λ l. Replays false t l t) (sym (none_left all)) (refl, refl)))
+pub going_ended : (f : Form) (due : Bool) (all : List (Vec ℕ Global)) (i : ℕ) (t : Table) → Going f due all i false t → i ≡ length all → Replays f due empty_table (contents all) t
+going_ended f due all i t going end = going.reached t
+    (subst (λ n. Replays f false t (contents (drop n all)) t) (sym end) (subst (λ l. Replays f false t l t) (sym (none_left all)) (refl, refl)))
 
-pub going_due : (due : Bool) (all : List (Vec ℕ Global)) (i : ℕ) (now : Bool) (t : Table) → Going due all i now t → now ≡ true → i ≡ length all → StopsReplay due empty_table 8 (contents all) 8
+pub going_due : (f : Form) (due : Bool) (all : List (Vec ℕ Global)) (i : ℕ) (now : Bool) (t : Table) → Going f due all i now t → now ≡ true → i ≡ length all → StopsReplay f due empty_table 8 (contents all) 8
 unfolding gate_at
-going_due due all i now t going is end = going.stopped 8
-    (subst (λ n. StopsReplay now t (gate_at all n) (contents (drop n all)) 8) (sym end)
-    (subst (λ l. StopsReplay now t (gate_at all (length all)) l 8) (sym (none_left all))
+going_due f due all i now t going is end = going.stopped 8
+    (subst (λ n. StopsReplay f now t (gate_at all n) (contents (drop n all)) 8) (sym end)
+    (subst (λ l. StopsReplay f now t (gate_at all (length all)) l 8) (sym (none_left all))
     (is, sym length-front_empty ∙ ap (λ n. length (front (contents (take n all)))) (sym (going.first is) ∙ end))))
 
 -- an error and what it is an error of

@@ -6,6 +6,7 @@ use Rattle.catalog_types.specs.declared.program.Program.{Program}
 use Rattle.catalog_types.specs.declared.snapshot.StreamState.{StreamState}
 use Rattle.entry_table.proofs.Growth.{all-map}
 use Rattle.entry_table.specs.AreKept.{IsEntry}
+use Rattle.record_codec.specs.Forms.{newest}
 use Rattle.record_codec.specs.Limits.{HasShortText, KeepsShortPlan, IsWithinLimits}
 use Rattle.record_codec.specs.Limits as codec
 use Rattle.record_codec.specs.Spelling.{change_spelling}
@@ -43,6 +44,6 @@ checkpoint-short t is spelled = within_limits_len (Checkpoint t) (whole-spelled 
 -- the bytes of its checkpoint are some, and not too many
 pub sized : (t : Table) → IsTable t → IsSpelledTable t → (bytes : List ℕ) → bytes ≡ change_spelling (Checkpoint t) → (0 < length bytes) × (length bytes < 536870912)
 sized t is spelled bytes same = (
-  subst (λ (b : List ℕ). 0 < length b) (sym same) (some_bytes (Checkpoint t)),
+  subst (λ (b : List ℕ). 0 < length b) (sym same) (some_bytes newest (Checkpoint t)),
   subst (λ (b : List ℕ). length b < 536870912) (sym same) (checkpoint-short t is spelled),
 )

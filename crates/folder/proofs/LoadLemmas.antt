@@ -7,6 +7,7 @@ use Rattle.std.specs.declared.alloc.Global.{Global}
 use Rattle.outside_traits.specs.View.{View, Now}
 use Rattle.outside_traits.specs.Runs.{Spans, Narrows}
 use Rattle.gated_log.specs.Logs.{Reads, contents}
+use Rattle.record_codec.specs.declared.form.Form.{Form}
 use Rattle.catalog_core.specs.Table.{Table, empty_table}
 use Rattle.journal_store.specs.Readings.{generation_file, generations, IsJournalFile, IsUnfinished, HaveBodies, LogHasAtMost}
 use Rattle.journal_store.specs.Readings as of_journal
@@ -16,10 +17,10 @@ use Rattle.journal_store.specs.declared.journal.Journal.{Journal}
 use Rattle.journal_store.specs.declared.refusal.JournalRefusal.{JournalRefusal}
 use Rattle.journal_store.specs.declared.refusal.JournalRefusal.TheVariants as journal_refusal
 use Rattle.folder.specs.State.{State}
-use Rattle.folder.specs.Replay.{ReadsAs, StopsReading, StopsReplay, due_in}
+use Rattle.folder.specs.Replay.{form_in, Replays, ReadsAs, StopsReading, StopsReplay, due_in}
 use Rattle.folder.specs.Sound.{Care}
 use Rattle.folder.specs.Left.{IsLeft, IsLeftWith}
-use Rattle.folder.specs.Folders.{Gives, table_in, journal_of, FolderStands, FolderMeans}
+use Rattle.folder.specs.Folders.{Gives, table_in, journal_of, FoundStands, FoundMeans}
 use Rattle.folder.specs.Unnamed.{HasRoot}
 use Rattle.folder.specs.declared.folder.Folder.{Folder}
 use Rattle.folder.specs.declared.found.Found.{Found}
@@ -47,21 +48,22 @@ load_reading u (Ok p) (Ok found) gives have = record { generation = generation_o
 load_reading u (Err e) (Ok found) gives have = absurd gives
 
 pub load_stands : (v : View) (read : Read) (r : Loaded) → Gives read r → IfOk read (λ p. Keeps v p.0 (generation_of p.0) (contents p.1.items)) → IfOk read (λ p. AreStable v (generation_of p.0))
-    → IfOk r (λ found. FolderStands v found.folder)
+    → IfOk r (λ found. FoundStands v found)
 load_stands v read (Err e) gives keeps stable = tt
 load_stands v (Ok p) (Ok found) gives keeps stable = record {
   generation = generation_of p.0;
   bodies = contents p.1.items;
+  form_is = sym gives.3;
   keeps = subst (λ (j : Journal). Keeps v j (generation_of p.0) (contents p.1.items)) (sym gives.0) keeps;
-  replays = gives.1;
+  replays = subst (λ f. Replays f (due_in (generation_of p.0)) empty_table (contents p.1.items) (table_in found.folder)) (sym gives.3) gives.1;
   stable = stable;
 }
 load_stands v (Err e) (Ok found) gives keeps stable = absurd gives
 
 module _ (care : Care) (u v : View) (a b : State) (left : IsLeft care u a b) (loading : Spans IsJournalFile (IsLoading u) u v) where
-  pub load_means : (r : Loaded) → IfOk r (λ found. ReadsAs u.files (table_in found.folder)) → IfOk r (λ found. FolderStands v found.folder) → IfOk r (λ found. FolderMeans care v found.folder a)
+  pub load_means : (r : Loaded) → IfOk r (λ found. ReadsAs u.files (table_in found.folder)) → IfOk r (λ found. FoundStands v found) → IfOk r (λ found. FoundMeans care v found a)
   load_means (Err e) reading stands = tt
-  load_means (Ok found) reading stands = loaded_means care u v a b left loading (table_in found.folder) (journal_of found.folder) stands reading
+  load_means (Ok found) reading stands = loaded_means care u v a b left loading found.form (table_in found.folder) (journal_of found.folder) stands reading
 
   pub load_left : (r : Loaded) → ((g : ℕ) → Now v g (v.files g)) → OnErr r (IsLeftWith care v a b)
   load_left (Ok found) law = tt
@@ -74,10 +76,10 @@ was_not_a_store g b f a is = (cc, cc)
 err_of : (f a g b : ℕ) → (f ≡ g) × (a ≡ b) → IsErrOf {T = Journal × Vec (Vec ℕ Global) Global} (Err (journal_refusal.NotAStore f a)) (journal_refusal.NotAStore g b)
 err_of f a g b same = ap (λ x. Err (journal_refusal.NotAStore x a)) same.0 ∙ ap (λ y. Err (journal_refusal.NotAStore g y)) same.1
 
-none_stops : (t : Table) (at : ℕ) (g : ℕ) (bodies : List (List ℕ)) → (g ≡ 0) × (bodies ≡ []) → StopsReplay (due_in g) t 8 bodies at → ⊥
-none_stops t at g bodies none stops =
-    let first : StopsReplay false t 8 bodies at = subst (λ n. StopsReplay (due_in n) t 8 bodies at) none.0 stops in
-    let empty : StopsReplay false t 8 [] at = subst (λ l. StopsReplay false t 8 l at) none.1 first in
+none_stops : (f : Form) (t : Table) (at : ℕ) (g : ℕ) (bodies : List (List ℕ)) → (g ≡ 0) × (bodies ≡ []) → StopsReplay f (due_in g) t 8 bodies at → ⊥
+none_stops f t at g bodies none stops =
+    let first : StopsReplay f false t 8 bodies at = subst (λ n. StopsReplay f (due_in n) t 8 bodies at) none.0 stops in
+    let empty : StopsReplay f false t 8 [] at = subst (λ l. StopsReplay f false t 8 l at) none.1 first in
     false≢true empty.0
 
 -- a refusal of a place: the journal's, or the replay's
@@ -91,7 +93,7 @@ load_stops u file at (Err journal_refusal.Memory) gives have journal = absurd (c
 pub load_unchanged : (u v : View) (file at : ℕ) (read : Read) → Gives read (Err (refusal.NotAStore file at)) → HaveRead u read
     → ((IsUnfinished (u.files 0) → ⊥) → Narrows u v) → ((file at : ℕ) → IsErrOf read (journal_refusal.NotAStore file at) → Narrows u v) → Narrows u v
 load_unchanged u v file at (Ok p) gives have finished unchanged =
-    finished (λ unfinished. none_stops empty_table at (generation_of p.0) (contents p.1.items) (none_of_unfinished u.files (generation_of p.0) (contents p.1.items) have unfinished) gives.1)
+    finished (λ unfinished. none_stops (form_in (contents p.1.items)) empty_table at (generation_of p.0) (contents p.1.items) (none_of_unfinished u.files (generation_of p.0) (contents p.1.items) have unfinished) gives.1)
 load_unchanged u v file at (Err journal_refusal.Fault) gives have finished unchanged = absurd (cc)
 load_unchanged u v file at (Err (journal_refusal.NotAStore f a)) gives have finished unchanged = unchanged file at (err_of f a file at (was_not_a_store file at f a gives))
 load_unchanged u v file at (Err journal_refusal.Memory) gives have finished unchanged = absurd (cc)
@@ -133,7 +135,7 @@ taken_of u taken more most g bodies have =
 -- what the files have in use, after each crash now
 pub load_bodies : (u v : View) (read : Read) (r : Loaded) → Gives read r → HaveRead u read → IfOk read (λ p. Keeps v p.0 (generation_of p.0) (contents p.1.items))
     → (g : ℕ) (bodies : List (List ℕ)) → HaveBodies u.files g bodies
-    → IfOk r (λ found. (generation_of (journal_of found.folder) ≡ g) × Keeps v (journal_of found.folder) g bodies × (found.bodies ≡ length bodies))
+    → IfOk r (λ found. (generation_of (journal_of found.folder) ≡ g) × Keeps v (journal_of found.folder) g bodies × (found.bodies ≡ length bodies) × (found.form ≡ form_in bodies))
 load_bodies u v read (Err e) gives have keeps g bodies is = tt
 load_bodies u v (Err e) (Ok found) gives have keeps g bodies is = absurd gives
 load_bodies u v (Ok p) (Ok found) gives have keeps g bodies is =
@@ -143,6 +145,7 @@ load_bodies u v (Ok p) (Ok found) gives have keeps g bodies is =
       of_journal ∙ same.0,
       subst (λ (l : List (List ℕ)). Keeps v (journal_of found.folder) g l) same.1 (subst (λ n. Keeps v (journal_of found.folder) n (contents p.1.items)) same.0 kept),
       gives.2 ∙ sym (length-map p.1.items (λ (x : Vec ℕ Global). x.items)) ∙ ap length same.1,
+      gives.3 ∙ ap form_in same.1,
     )
 
 pub load_named : (read : Read) (r : Loaded) → Gives read r → IfOk read (λ p. generation_of p.0 < 2 ^ 60) → IfOk r (λ found. generation_of (journal_of found.folder) < 2 ^ 60)
@@ -159,7 +162,7 @@ load_had_root u (Ok p) (Ok found) gives had = subst (λ (j : Journal). IsTrue (h
 pub load_spelled : (read : Read) (r : Loaded) → Gives read r → IfOk r (λ found. IsSpelledTable (table_in found.folder))
 load_spelled read (Err e) gives = tt
 load_spelled (Err e) (Ok found) gives = absurd gives
-load_spelled (Ok p) (Ok found) gives = log_spelled (due_in (generation_of p.0)) (contents p.1.items) (table_in found.folder) gives.1
+load_spelled (Ok p) (Ok found) gives = log_spelled (form_in (contents p.1.items)) (due_in (generation_of p.0)) (contents p.1.items) (table_in found.folder) gives.1
 
 -- ---- whether a result is one or a refusal
 

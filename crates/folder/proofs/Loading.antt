@@ -8,33 +8,38 @@ use Rattle.rows_core.specs.declared.file_ref.FileRef.{FileRef}
 use Rattle.catalog_types.specs.PlainEntry.{PlainEntry}
 use Rattle.catalog_types.specs.declared.change.Change.{Change}
 use Rattle.catalog_types.specs.declared.change.Change.TheVariants as change
+use Rattle.record_codec.specs.declared.form.Form.{Form}
 use Rattle.catalog_core.specs.Table.{Table, empty_table, after}
 use Rattle.journal_store.specs.Readings.{generation_file, IsJournalFile}
 use Rattle.journal_store.specs.Making.{IsLoading}
 use Rattle.journal_store.specs.declared.journal.Journal.{Journal}
 use Rattle.folder.specs.State.{Stream, State, Names, table, stream_of}
-use Rattle.folder.specs.Replay.{Replays, ReadsAs, StopsReplay, StopsReading, due_in, is_checkpoint}
+use Rattle.folder.specs.Replay.{form_in, Replays, ReadsAs, StopsReplay, StopsReading, due_in, is_checkpoint}
 use Rattle.folder.specs.Sound.{Care, IsSound}
 use Rattle.folder.specs.Left.{Follows, Near, IsSoundForOneOf, IsLeft, Everything, Since}
-use Rattle.folder.specs.Standing.{Stands, Means}
-use Rattle.folder.proofs.Replays.{replays_once, replays_or_stops, stops_once}
+use Rattle.folder.specs.Standing.{StandsIn, MeansIn}
+use Rattle.folder.proofs.Replays.{reads_of, replays_once, replays_or_stops, stops_once}
 use Rattle.journal_store.proofs.OneReading.{have_once, have_or_stop, stop_once as stop_once_in_journal}
 use Rattle.folder.proofs.JournalLemmas.{none_of_unfinished}
+
+-- what these files have in use leads to a table, as what they also have in use does
+same_replays : (x : Table) (g h : ℕ) (bodies others : List (List ℕ)) → (g ≡ h) × (bodies ≡ others) → Replays (form_in bodies) (due_in g) empty_table bodies x
+    → Replays (form_in others) (due_in h) empty_table others x
+same_replays x g h bodies others same run =
+    subst (λ l. Replays (form_in l) (due_in h) empty_table l x) same.1 (subst (λ n. Replays (form_in bodies) (due_in n) empty_table bodies x) same.0 run)
 
 -- files read as one table
 pub reads_once : (files : ℕ → List ℕ) (x y : Table) → ReadsAs files x → ReadsAs files y → x ≡ y
 reads_once files x y a b =
     let same = have_once files a.generation b.generation a.bodies b.bodies a.logs b.logs in
-    let due : Replays (due_in b.generation) empty_table a.bodies x = subst (λ g. Replays (due_in g) empty_table a.bodies x) same.0 a.replays in
-    replays_once (due_in b.generation) empty_table x y b.bodies (subst (λ l. Replays (due_in b.generation) empty_table l x) same.1 due) b.replays
+    replays_once (form_in b.bodies) (due_in b.generation) empty_table x y b.bodies (same_replays x a.generation b.generation a.bodies b.bodies same a.replays) b.replays
 
 -- and where they do, nothing stops
 pub reads_or_stops : (files : ℕ → List ℕ) (x : Table) (file at : ℕ) → ReadsAs files x → StopsReading files file at → ⊥
 reads_or_stops files x file at a (inl stops) = have_or_stop files a.generation a.bodies file at a.logs stops
 reads_or_stops files x file at a (inr b) =
     let same = have_once files a.generation b.generation a.bodies b.bodies a.logs b.logs in
-    let due : Replays (due_in b.generation) empty_table a.bodies x = subst (λ g. Replays (due_in g) empty_table a.bodies x) same.0 a.replays in
-    replays_or_stops (due_in b.generation) empty_table x 8 at b.bodies (subst (λ l. Replays (due_in b.generation) empty_table l x) same.1 due) b.stops
+    replays_or_stops (form_in b.bodies) (due_in b.generation) empty_table x 8 at b.bodies (same_replays x a.generation b.generation a.bodies b.bodies same a.replays) b.stops
 
 -- reading stops at one place
 pub stop_once : (files : ℕ → List ℕ) (file at g b : ℕ) → StopsReading files file at → StopsReading files g b → (file ≡ g) × (at ≡ b)
@@ -43,19 +48,17 @@ stop_once files file at g b (inl x) (inr y) = absurd (have_or_stop files y.gener
 stop_once files file at g b (inr x) (inl y) = absurd (have_or_stop files x.generation x.bodies g b x.logs y)
 stop_once files file at g b (inr x) (inr y) =
     let same = have_once files x.generation y.generation x.bodies y.bodies x.logs y.logs in
-    let due : StopsReplay (due_in y.generation) empty_table 8 x.bodies at = subst (λ n. StopsReplay (due_in n) empty_table 8 x.bodies at) same.0 x.stops in (
+    let due : StopsReplay (form_in x.bodies) (due_in y.generation) empty_table 8 x.bodies at = subst (λ n. StopsReplay (form_in x.bodies) (due_in n) empty_table 8 x.bodies at) same.0 x.stops in (
       x.file_is ∙ ap generation_file same.0 ∙ sym y.file_is,
-      stops_once (due_in y.generation) empty_table 8 at b y.bodies (subst (λ l. StopsReplay (due_in y.generation) empty_table 8 l at) same.1 due) y.stops,
+      stops_once (form_in y.bodies) (due_in y.generation) empty_table 8 at b y.bodies (subst (λ l. StopsReplay (form_in l) (due_in y.generation) empty_table 8 l at) same.1 due) y.stops,
     )
 
 -- the files now and after each crash read as the table of a journal that stands
-pub stands_reads : (v : View) (t : Table) (journal : Journal) (image : ℕ → List ℕ) → Stands v t journal → IsImageAt v v.moment image → ReadsAs image t
-stands_reads v t journal image stands is = record {
-  generation = stands.generation;
-  bodies = stands.bodies;
-  logs = inl (record { root = stands.keeps.root (image 0) (is 0); log = stands.keeps.log (image (generation_file stands.generation)) (is (generation_file stands.generation)) });
-  replays = stands.replays;
-}
+pub stands_reads : (f : Form) (v : View) (t : Table) (journal : Journal) (image : ℕ → List ℕ) → StandsIn f v t journal → IsImageAt v v.moment image → ReadsAs image t
+stands_reads f v t journal image stands is =
+    reads_of f image stands.generation stands.bodies t
+    (inl (record { root = stands.keeps.root (image 0) (is 0); log = stands.keeps.log (image (generation_file stands.generation)) (is (generation_file stands.generation)) }))
+    stands.form_is stands.replays
 
 -- ---- states with one table
 
@@ -97,8 +100,7 @@ module _ (care : Care) (u v : View) (a b : State) (left : IsLeft care u a b) (lo
   loading_one image (inl now) = left.images image now
   loading_one image (inr making) =
       let none = none_of_unfinished u.files left.read.reading.generation left.read.reading.bodies left.read.reading.logs making.0 in
-      let run : Replays false empty_table left.read.reading.bodies (table a) = subst (λ g. Replays (due_in g) empty_table left.read.reading.bodies (table a)) none.0 left.read.reading.replays in
-      let empty : Replays false empty_table [] (table a) = subst (λ l. Replays false empty_table l (table a)) none.1 run in
+      let empty : Replays (form_in []) false empty_table [] (table a) = same_replays (table a) left.read.reading.generation 0 left.read.reading.bodies [] none left.read.reading.replays in
       inl (record {
         reading = record { generation = 0; bodies = []; logs = making.1; replays = empty };
         valid = left.read.valid;
@@ -110,8 +112,8 @@ module _ (care : Care) (u v : View) (a b : State) (left : IsLeft care u a b) (lo
   loading_since = spans_wider IsJournalFile Everything (IsLoading u) (IsSoundForOneOf care a b) u v loading (λ g is. tt) (λ image is others. loading_one image is)
 
   -- and once the table is loaded, of the first alone
-  pub loaded_means : (t : Table) (journal : Journal) → Stands v t journal → ReadsAs u.files t → Means care v t journal a
-  loaded_means t journal stands reading =
+  pub loaded_means : (f : Form) (t : Table) (journal : Journal) → StandsIn f v t journal → ReadsAs u.files t → MeansIn f care v t journal a
+  loaded_means f t journal stands reading =
       let same : t ≡ table a = reads_once u.files t (table a) reading left.read.reading in
       record {
         table_is = same;
@@ -120,7 +122,7 @@ module _ (care : Care) (u v : View) (a b : State) (left : IsLeft care u a b) (lo
         settled = λ image is. elim (image_has Everything (IsSoundForOneOf care a b) u v loading_since image is) [
           | inl sound ↦ sound
           | inr sound ↦
-              let tables : table a ≡ table b = sym same ∙ reads_once image t (table b) (stands_reads v t journal image stands is) sound.reading in
+              let tables : table a ≡ table b = sym same ∙ reads_once image t (table b) (stands_reads f v t journal image stands is) sound.reading in
               subst (λ s. IsSound care image s) (sym (near_same a b left.near tables)) sound
         ];
       }

@@ -5,6 +5,7 @@ use Rattle.catalog_types.specs.PlainEntry.{PlainEntry}
 use Rattle.catalog_types.specs.declared.change.Change.TheVariants.{Checkpoint}
 use Rattle.catalog_types.specs.declared.snapshot.Snapshot.{Snapshot}
 use Rattle.entry_table.specs.Keyed.{Digests, with_keys}
+use Rattle.record_codec.specs.Forms.{newest}
 use Rattle.record_codec.specs.Spelling.{HasEntrySpelling, HasSnapshotSpelling, no_key, keyless_snapshot}
 use Rattle.catalog_core.specs.IsTable.{IsTable}
 use Rattle.catalog_core.specs.Results.{digests_of}
@@ -17,7 +18,7 @@ entries-spelled : (digests : Digests) (entries : List PlainEntry) → AllByRecur
 entries-spelled digests [] has = tt
 entries-spelled digests (e ∷ entries) has = (has.0.1, entries-spelled digests entries has.1)
 
-pub restored-spelled : (whole : Snapshot) → HasSnapshotSpelling whole → IsSpelledTable (keyed whole)
+pub restored-spelled : (whole : Snapshot) → HasSnapshotSpelling newest whole → IsSpelledTable (keyed whole)
 restored-spelled whole has = record {
   streams = has.3.1;
   programs = has.4.0.1;

@@ -11,11 +11,13 @@ use Rattle.entry_table.specs.Ids.{without}
 use Rattle.entry_table.specs.Keyed.{Digests}
 use Rattle.entry_table.specs.Work.{with_uses, new_entries}
 use Rattle.entry_table.proofs.Growth.{all-append, all-without, all-used}
+use Rattle.record_codec.specs.Forms.{newest}
 use Rattle.record_codec.specs.Spelling.{HasExtentSpelling, HasProgramSpelling, HasProgramIfSpelling, HasNewEntrySpelling, HasStreamSpelling, HasChangeSpelling}
 use Rattle.catalog_core.specs.IsTable.{IsTable}
 use Rattle.catalog_core.specs.Programs.{extents_at, below, above, is_below}
 use Rattle.catalog_core.specs.Results.{digests_of}
-use Rattle.catalog_core.specs.Table.{Table, most_extents, new_stream, with_extent, updated, with_stored, Fits, after}
+use Rattle.catalog_core.specs.Table.{Table, new_stream, with_extent, updated, with_stored, Fits, after}
+use Rattle.rows_core.specs.Limits.{most_extents}
 use Rattle.catalog_core.proofs.StoredPrograms.{all-filtered}
 use Rattle.folder.specs.Spelled.{IsSpelledEntry, IsSpelledTable}
 use Rattle.folder.proofs.Restored.{restored-spelled}
@@ -27,13 +29,13 @@ all-behind P (x ∷ xs) ys front rest = (front.0, all-behind P xs ys front.1 res
 -- ---- streams
 
 -- an extent more, where there were few enough
-extent-more : (stream : StreamState) (extent : Extent) → HasExtentSpelling extent → length stream.extents < most_extents → HasStreamSpelling stream → HasStreamSpelling (with_extent extent stream)
+extent-more : (stream : StreamState) (extent : Extent) → HasExtentSpelling extent → length stream.extents < most_extents → HasStreamSpelling newest stream → HasStreamSpelling newest (with_extent extent stream)
 extent-more stream extent has few spelled =
     let long = length-append stream.extents (extent ∷ []) in
     (spelled.0, spelled.1, (omega (arith, few, long), all-behind HasExtentSpelling stream.extents (extent ∷ []) spelled.2.1 (has, tt)))
 
-extent-at : (streams : List StreamState) (place : ℕ) (extent : Extent) → HasExtentSpelling extent → length (extents_at streams place) < most_extents → AllByRecursion HasStreamSpelling streams
-    → AllByRecursion HasStreamSpelling (updated (with_extent extent) streams place)
+extent-at : (streams : List StreamState) (place : ℕ) (extent : Extent) → HasExtentSpelling extent → length (extents_at streams place) < most_extents → AllByRecursion (HasStreamSpelling newest) streams
+    → AllByRecursion (HasStreamSpelling newest) (updated (with_extent extent) streams place)
 extent-at [] place extent has few spelled = tt
 extent-at (s ∷ streams) zero extent has few spelled = (extent-more s extent has few spelled.0, spelled.1)
 extent-at (s ∷ streams) (suc n) extent has few spelled = (spelled.0, extent-at streams n extent has few spelled.1)
@@ -64,7 +66,7 @@ work-spelled digests tick id reads dropped news entries has spelled =
 
 pub stays-spelled : (c : Change) (t : Table) → HasChangeSpelling c → Fits c t → IsTable t → IsSpelledTable t → IsSpelledTable (after c t)
 stays-spelled (Stream name columns) t has fits is spelled = record {
-  streams = all-behind HasStreamSpelling t.streams (new_stream name columns ∷ []) spelled.streams ((has.0, has.1, (omega arith, tt)), tt);
+  streams = all-behind (HasStreamSpelling newest) t.streams (new_stream name columns ∷ []) spelled.streams ((has.0, has.1, (omega arith, tt)), tt);
   programs = spelled.programs;
   entries = spelled.entries;
 }

@@ -13,6 +13,7 @@ use Rattle.folder.proofs.Searching.{decides_named}
 use Rattle.rows_core.specs.declared.file_ref.FileRef.{FileRef}
 use Rattle.plan_laws.proofs.Members.{at_front, behind, front_or_behind, none_in_nothing, mapped}
 use Rattle.catalog_core.specs.OwnFiles.{extent_files, result_files, files_in}
+use Rattle.record_codec.specs.Forms.{newest}
 use Rattle.catalog_core.specs.Table.{Table, empty_table}
 use Rattle.journal_store.specs.Journals.{generation_of, Keeps}
 use Rattle.journal_store.specs.Readings.{generation_file, is_journal_file, IsJournalFile}
@@ -28,6 +29,7 @@ use Rattle.folder.specs.State.{State, Names, extent_of, states_of, stream_of, ta
 use Rattle.folder.specs.Unnamed.{HasRoot, IsLogOrUnnamed, IsUnnamed, ChangesUnnamed, ChangesLogsOrUnnamed, named_by}
 use Rattle.folder.specs.declared.folder.Folder.{Folder}
 use Rattle.folder.proofs.Frames.{holds_beside, root_is_journal}
+use Rattle.folder.proofs.Replays.{reads_of}
 
 -- ---- what is named
 
@@ -105,6 +107,7 @@ module _ (u v : View) (t : Table) (journal : Journal) (run : ChangesStrays (name
       record {
         generation = stands.generation;
         bodies = stands.bodies;
+        form_is = stands.form_is;
         keeps = strays_keep stands.generation stands.bodies stands.keeps;
         replays = stands.replays;
         stable = record {
@@ -122,15 +125,13 @@ module _ (u v : View) (t : Table) (journal : Journal) (run : ChangesStrays (name
 
     spared : (image : ℕ → List ℕ) → ((file : ℕ) → (IsStray (named_by g t) file → ⊥) → Now u file (image file)) → IsSound care image s
     spared image others = record {
-      reading = record {
-        generation = g;
-        bodies = means.stands.bodies;
-        logs = inl (record {
-          root = means.stands.keeps.root (image 0) (others 0 (named_has (named_by g t) 0 (names_root g t)));
-          log = means.stands.keeps.log (image (generation_file g)) (others (generation_file g) (named_has (named_by g t) (generation_file g) (names_log g t)));
-        });
-        replays = subst (λ x. Replays (due_in g) empty_table means.stands.bodies x) means.table_is means.stands.replays;
-      };
+      reading =
+          reads_of newest image g means.stands.bodies (table s)
+          (inl (record {
+            root = means.stands.keeps.root (image 0) (others 0 (named_has (named_by g t) 0 (names_root g t)));
+            log = means.stands.keeps.log (image (generation_file g)) (others (generation_file g) (named_has (named_by g t) (generation_file g) (names_log g t)));
+          }))
+          means.stands.form_is (subst (λ x. Replays newest (due_in g) empty_table means.stands.bodies x) means.table_is means.stands.replays);
       valid = means.valid;
       holds = holds_beside care u (λ file. not (is_named (named_by g t) file)) law image others s (λ i now. (means.settled i now).holds)
           (λ at bytes names. named_has (named_by g t) at.file (subst (λ (x : Table). Contains (named_by g x) at.file) (sym means.table_is) (names_file g s at bytes names)));
@@ -153,12 +154,12 @@ module _ (u v : View) (t : Table) (journal : Journal) (run : ChangesStrays (name
 pub strays_use : (u v : View) (folder : Folder) → ChangesStrays (named_by (generation_of (journal_of folder)) (table_in folder)) u v
     → (g : ℕ) (bodies : List (List ℕ)) → IsInUse u folder g bodies → IsInUse v folder g bodies
 strays_use u v folder run g bodies (inl left) = inl (record {
-  short = left.short;
+  stays = left.stays;
   generation = left.generation;
   keeps = strays_keep u v (table_in folder) (journal_of folder) run g bodies left.keeps;
 })
 strays_use u v folder run g bodies (inr next) = inr (record {
-  long = next.long;
+  goes = next.goes;
   generation = next.generation;
   body = next.body;
   spells = next.spells;

@@ -8,7 +8,7 @@ use Rattle.rows_core.specs.declared.cut.Cut.{Cut}
 use Rattle.rows_core.specs.declared.kind.Kind.{Kind}
 use Rattle.rows_core.specs.declared.kind.Kind.TheVariants as the_kind
 use Rattle.rows_core.specs.declared.value.Value.{Value}
-use Rattle.rows_core.specs.declared.value.Value.TheVariants.{Int, Text}
+use Rattle.rows_core.specs.declared.value.Value.TheVariants.{Int, Text, Bool as Truth}
 use Rattle.rows_core.specs.Schema.{kinds_of}
 use Rattle.rows_core.specs.Value.{kind_of}
 use Rattle.row_blob.specs.Kept.{IsKept, IsValue, IsRow, AreInOrder}
@@ -35,9 +35,9 @@ all-mapped f P (x ∷ xs) is = (is x (Contains-first x xs), all-mapped f P xs (�
 
 value-valid : (k : Kind) (v : Value) → IsValue k v → laws.IsValid v
 value-valid the_kind.Int (Int n) is = is
-value-valid the_kind.Int (Text t) is = absurd is
-value-valid the_kind.Text (Int n) is = absurd is
 value-valid the_kind.Text (Text t) is = is
+value-valid the_kind.Bool (Truth b) is = tt
+value-valid _ _ is = absurd is
 
 row-valid : (kinds : List Kind) (row : Row) → IsRow kinds row → IsValidRow row
 row-valid [] [] is = tt
@@ -58,9 +58,9 @@ extents-valid s valid =
 
 value_kind : (kind : Kind) (v : Value) → IsValue kind v → kind_of v ≡ kind
 value_kind the_kind.Int (Int n) is = refl
-value_kind the_kind.Int (Text t) is = absurd is
-value_kind the_kind.Text (Int n) is = absurd is
 value_kind the_kind.Text (Text t) is = refl
+value_kind the_kind.Bool (Truth b) is = refl
+value_kind _ _ is = absurd is
 
 row_kinds : (kinds : List Kind) (row : List Value) → IsRow kinds row → map kind_of row ≡ kinds
 row_kinds [] [] is = refl

@@ -5,9 +5,11 @@ use Rattle.std.proofs.lemmas.Bool.{and_parts, ltb-true}
 use Rattle.catalog_types.specs.PlainEntry.{PlainEntry}
 use Rattle.entry_table.specs.AreKept.{IsEntry, IsPast}
 use Rattle.entry_table.specs.Ids.{ids_of}
+use Rattle.record_codec.specs.Forms.{newest}
 use Rattle.record_codec.specs.Spelling.{HasEntrySpelling, HasSnapshotSpelling}
 use Rattle.catalog_core.specs.IsTable.{IsTable}
-use Rattle.catalog_core.specs.Table.{Table, file_end, most_ticks}
+use Rattle.catalog_core.specs.Table.{Table}
+use Rattle.rows_core.specs.Limits.{file_end, most_ticks}
 use Rattle.folder.specs.Spelled.{IsSpelledEntry, IsSpelledTable}
 use Rattle.folder.proofs.Order.{by-name, by-id}
 
@@ -28,7 +30,7 @@ entries-spelled next tick (e ∷ entries) last counted below are past spelled =
     let parts = and_parts (nat_lt e.id next) (list_all (λ id. nat_lt id next) (ids_of entries)) below in
     (entry-spelled next tick e last counted parts.0 are.0 past.0 spelled.0, entries-spelled next tick entries last counted parts.1 are.1 past.1 spelled.1)
 
-pub whole-spelled : (t : Table) → IsTable t → IsSpelledTable t → HasSnapshotSpelling t
+pub whole-spelled : (t : Table) → IsTable t → IsSpelledTable t → HasSnapshotSpelling newest t
 whole-spelled t is spelled =
     let counted = is.counted in
     let last = is.last_file in

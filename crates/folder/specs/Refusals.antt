@@ -1,5 +1,6 @@
 -- Reasons of the crates below, as reasons why a folder isn't loaded.
 use Rattle.std.specs.Prelude.{ℕ, ◌+◌, ◌^◌, ◌<◌, ◌≤◌, Bool, List, length, ⊤}
+use Rattle.record_codec.specs.declared.form.Form.{Form}
 use Rattle.record_codec.specs.declared.refusal.ChangeRefusal.{ChangeRefusal}
 use Rattle.record_codec.specs.declared.refusal.ChangeRefusal.TheVariants as of_change
 use Rattle.catalog_core.specs.Table.{Table}
@@ -44,6 +45,6 @@ FitsFrom place (replay.Stops at) = place + at < 2 ^ 64
 FitsFrom place replay.Memory = ⊤
 
 -- reading of the body stops where the refusal says, within its bytes
-abbrev pub IsStop : Bool → Table → List ℕ → ReplayRefusal → Type 0
-IsStop due t body (replay.Stops within) = StopsIn due t body within × (within ≤ length body)
-IsStop due t body replay.Memory = ⊤
+abbrev pub IsStop : Form → Bool → Table → List ℕ → ReplayRefusal → Type 0
+IsStop f due t body (replay.Stops within) = StopsIn f due t body within × (within ≤ length body)
+IsStop f due t body replay.Memory = ⊤

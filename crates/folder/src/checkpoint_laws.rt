@@ -2,7 +2,8 @@
 ghost use Rattle.std.specs.Prelude.{◌≡◌, ◌<◌, length};
 ghost use Rattle.catalog_types.specs.declared.change.Change.{Change};
 ghost use Rattle.catalog_types.specs.declared.change.Change.TheVariants.{Checkpoint};
-ghost use Rattle.record_codec.specs.Formats.{IsSpelledChange};
+ghost use Rattle.record_codec.specs.Formats.{IsSpelledIn};
+ghost use Rattle.record_codec.specs.Forms.{newest};
 ghost use Rattle.record_codec.specs.Spelling.{change_spelling, HasChangeSpelling, keyless_snapshot};
 ghost use Rattle.catalog_core.specs.IsTable.{IsTable};
 ghost use Rattle.catalog_core.specs.Table.{Table, empty_table, Fits, after};
@@ -22,7 +23,7 @@ pub fn checkpoints_are_changes()
     ensures short { (t : Table) → IsTable t → IsSpelledTable t
         → length (change_spelling (Checkpoint t)) < 536870912 }
     ensures read { (t : Table) → IsTable t → IsSpelledTable t
-        → IsSpelledChange (Checkpoint (keyless_snapshot t))
+        → IsSpelledIn newest (Checkpoint (keyless_snapshot t))
         × (change_spelling (Checkpoint (keyless_snapshot t)) ≡ change_spelling (Checkpoint t)) }
     ensures fits { (t : Table) → IsTable t → Fits (Checkpoint (keyless_snapshot t)) empty_table }
     ensures after { (t : Table) → IsTable t → after (Checkpoint (keyless_snapshot t)) empty_table ≡ t }

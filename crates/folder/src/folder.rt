@@ -13,12 +13,15 @@ ghost use Rattle.folder.specs.Spelled.{IsSpelledTable};
 ghost use Rattle.journal_store.specs.Readings.{generation_file, IsJournalFile, HaveBodies, LogHasAtMost};
 ghost use Rattle.journal_store.specs.Journals.{end_of, generation_of, had_root_of, Keeps};
 ghost use Rattle.folder.specs.State.{State, table, file_bytes};
-ghost use Rattle.folder.specs.Replay.{Replays, ReadsAs, StopsReading, StopsReplay, due_in, is_checkpoint};
+ghost use Rattle.folder.specs.Replay.{Replays, ReadsAs, StopsReading, StopsReplay, due_in, form_in};
+ghost use Rattle.folder.specs.Replay.{is_checkpoint};
 ghost use Rattle.folder.specs.Sound.{Care};
 ghost use Rattle.folder.specs.Left.{IsLeft, IsLeftWith, Since, StaysSound};
-ghost use Rattle.folder.specs.Standing.{Means, IsNext};
+ghost use Rattle.folder.specs.Standing.{Means, MeansIn, StandsIn, IsNext};
+ghost use Rattle.record_codec.specs.declared.form.Form.{Form};
 
 use crate::found::Found;
+use crate::leaving::may_stay;
 use crate::refusal::LoadRefusal;
 use crate::replay::{of_replay, replay};
 use crate::spell_checkpoint;
@@ -28,9 +31,6 @@ use extent_files::write_file;
 use journal_store::Journal;
 use outside_traits::{Failed, Store};
 use std::alloc::Global;
-
-/// The most bodies of a log that loading leaves.
-const MOST_BODIES: usize = 1_024;
 
 /// A folder that was loaded: its table in memory, and the journal that keeps it.
 #[derive(Drop)]
@@ -42,11 +42,12 @@ pub struct Folder {
 
 impl Folder {
     ghost use Rattle.folder.specs.Folders.{catalog_of, journal_of, table_in, FolderStands, FolderMeans};
-    ghost use Rattle.folder.specs.InUse.{most_bodies, HaveShortLog, IsInUse, IsLoadedAsItIs, IsReplaced};
+    ghost use Rattle.folder.specs.InUse.{MayStay, HaveLogsThatStay, IsInUse, IsLoadedAsItIs, IsReplaced};
     ghost use Rattle.folder.specs.Unnamed.{HasRoot};
 
-    // Loads a folder but for the files that nothing names. A log of more than 1,024 bodies is replaced by that
-    // of the next generation, which begins with a checkpoint of the table.
+    // Loads a folder but for the files that nothing names. A log of more than 1,024 bodies, or of an older
+    // form than the newest, is replaced by that of the next generation, which begins with a checkpoint of the
+    // table.
     pub(crate) fn load_logs<D: Store>(alloc: Global, store: &mut D) -> Result<Folder, LoadRefusal>
         ensures reading { IsTrue D.tells
             → IfOk result (λ folder. ReadsAs (D.view store.old).files (table_in folder)) }
@@ -74,7 +75,7 @@ impl Folder {
         ensures no_fault { OnOk result
             (((D.counts store.new).reads ≡ (D.counts store.old).reads)
             × ((D.counts store.new).writes ≡ (D.counts store.old).writes)) }
-        ensures no_removal { IsTrue D.tells → HaveShortLog (D.view store.old).files
+        ensures no_removal { IsTrue D.tells → HaveLogsThatStay (D.view store.old).files
             → (D.counts store.new).removes ≡ (D.counts store.old).removes }
         ensures most_taken { IsTrue D.tells → (most : ℕ) → LogHasAtMost (D.view store.old).files most
             → (D.counts store.new).taken
@@ -82,38 +83,47 @@ impl Folder {
         ensures counts { Rises (D.counts store.old) (D.counts store.new) }
     {
         match Found::read(alloc, store) {
-            Ok(Found { folder, bodies }) => {
-                if bodies > MOST_BODIES {
-                    folder.replace_log(alloc, store)
-                } else {
+            Ok(
+                Found {
+                    folder,
+                    form,
+                    bodies,
+                },
+            ) => {
+                if may_stay(form, bodies) {
                     Ok(folder)
+                } else {
+                    folder.replace_log(alloc, store)
                 }
             }
             Err(refusal) => Err(refusal),
         }
     }
 
-    // Replaces the log by that of the next generation, whose one body is the checkpoint of the table. Each
-    // crash leaves the state as it was. `Fault` comes only where the store failed.
+    // Replaces the log, whatever its form, by that of the next generation, whose one body is the checkpoint
+    // of the table. Each crash leaves the state as it was. `Fault` comes only where the store failed.
     fn replace_log<D: Store>(self, alloc: Global, store: &mut D) -> Result<Folder, LoadRefusal>
         requires spelled { IsSpelledTable (table_in self) }
         requires room { generation_of (journal_of self) < 2 ^ 60 }
         ensures table { IfOk result (λ folder. table_in folder ≡ table_in self) }
-        ensures stays { IsTrue D.tells → (care : Care) (s : State)
-            → FolderMeans care (D.view store.old) self s
+        ensures stays { IsTrue D.tells → (f : Form) (care : Care) (s : State)
+            → MeansIn f care (D.view store.old) (table_in self) (journal_of self) s
             → StaysSound care s (D.view store.old) (D.view store.new) }
-        ensures means { IsTrue D.tells → (care : Care) (s : State)
-            → FolderMeans care (D.view store.old) self s
+        ensures means { IsTrue D.tells → (f : Form) (care : Care) (s : State)
+            → MeansIn f care (D.view store.old) (table_in self) (journal_of self) s
             → IfOk result (λ folder. FolderMeans care (D.view store.new) folder s) }
-        ensures stands { IsTrue D.tells → FolderStands (D.view store.old) self
+        ensures stands { IsTrue D.tells → (f : Form)
+            → StandsIn f (D.view store.old) (table_in self) (journal_of self)
             → IfOk result (λ folder. FolderStands (D.view store.new) folder) }
         ensures had_root { IfOk result
             (λ folder. had_root_of (journal_of folder) ≡ had_root_of (journal_of self)) }
-        ensures alone { IsTrue D.tells → FolderStands (D.view store.old) self
+        ensures alone { IsTrue D.tells → (f : Form)
+            → StandsIn f (D.view store.old) (table_in self) (journal_of self)
             → Spans IsJournalFile (λ image. Unit {0}) (D.view store.old) (D.view store.new) }
-        ensures replaced { IsTrue D.tells → FolderStands (D.view store.old) self
+        ensures replaced { IsTrue D.tells → (f : Form)
+            → StandsIn f (D.view store.old) (table_in self) (journal_of self)
             → (g : ℕ) (bodies : List (List ℕ)) → Keeps (D.view store.old) (journal_of self) g bodies
-            → most_bodies < length bodies → IfOk result (λ folder. IsReplaced (D.view store.new) folder g bodies) }
+            → (MayStay bodies → ⊥) → IfOk result (λ folder. IsReplaced (D.view store.new) folder g bodies) }
         ensures is_store { (file at : ℕ) → IsErrOf result (LoadRefusal.NotAStore file at) → ⊥ }
         ensures cause { IsErrOf result LoadRefusal.Fault
             → Rose (D.counts store.old).writes (D.counts store.new).writes }
@@ -249,11 +259,12 @@ impl Folder {
         requires end { end_of journal ≡ length (front (contents bodies.now)) + 1 }
         requires bound { end_of journal < 2 ^ 63 }
         ensures journal { IfOk result (λ folder. journal_of folder ≡ journal) }
-        ensures replays { IfOk result (λ folder. Replays (due_in (generation_of journal)) empty_table
-            (contents bodies.now) (table_in folder)) }
+        ensures replays { IfOk result (λ folder. Replays (form_in (contents bodies.now))
+            (due_in (generation_of journal)) empty_table (contents bodies.now) (table_in folder)) }
         ensures stops { (file at : ℕ) → IsErrOf result (LoadRefusal.NotAStore file at)
             → (file ≡ generation_file (generation_of journal))
-            × StopsReplay (due_in (generation_of journal)) empty_table 8 (contents bodies.now) at }
+            × StopsReplay (form_in (contents bodies.now)) (due_in (generation_of journal)) empty_table 8
+            (contents bodies.now) at }
         ensures no_fault { IsErrOf result LoadRefusal.Fault → ⊥ }
     {
         match replay(alloc, journal.generation(), bodies) {

@@ -9,23 +9,27 @@ ghost use Rattle.catalog_core.specs.Table.{Table};
 ghost use Rattle.folder.specs.Spelled.{IsSpelledTable};
 ghost use Rattle.journal_store.specs.Journals.{generation_of, had_root_of, end_of, Keeps};
 ghost use Rattle.journal_store.specs.Readings.{HaveBodies, IsJournalFile, IsUnfinished, LogHasAtMost};
-ghost use Rattle.folder.specs.Folders.{journal_of, table_in, FolderMeans, FolderStands, Gives};
+ghost use Rattle.folder.specs.Folders.{journal_of, table_in, FoundMeans, FoundStands, Gives};
 ghost use Rattle.folder.specs.Left.{IsLeft, IsLeftWith, Since};
-ghost use Rattle.folder.specs.Replay.{ReadsAs, StopsReading};
+ghost use Rattle.folder.specs.Replay.{ReadsAs, StopsReading, form_in};
 ghost use Rattle.folder.specs.Sound.{Care};
 ghost use Rattle.folder.specs.State.{State};
 ghost use Rattle.folder.specs.Unnamed.{HasRoot};
 
 use crate::folder::Folder;
 use crate::refusal::{LoadRefusal, of_journal};
+use crate::replay::form_in;
 use journal_store::{Journal, JournalRefusal};
 use outside_traits::Store;
+use record_codec::Form;
 use std::alloc::Global;
 
-/// A folder as its logs were read, before a long one is replaced.
+/// A folder as its logs were read, before one that is long or of an older form is replaced.
 #[derive(Drop)]
 pub struct Found {
     pub(crate) folder: Folder,
+    /// The form of its log.
+    pub(crate) form: Form,
     /// How many bodies its log has.
     pub(crate) bodies: usize,
 }
@@ -38,18 +42,19 @@ impl Found {
         ensures reading { IsTrue D.tells
             → IfOk result (λ found. ReadsAs (D.view store.old).files (table_in found.folder)) }
         ensures stands { IsTrue D.tells
-            → IfOk result (λ found. FolderStands (D.view store.new) found.folder) }
+            → IfOk result (λ found. FoundStands (D.view store.new) found) }
         ensures crash { IsTrue D.tells → (care : Care) (a b : State) → IsLeft care (D.view store.old) a b
             → Since care a b (D.view store.old) (D.view store.new) }
         ensures means { IsTrue D.tells → (care : Care) (a b : State) → IsLeft care (D.view store.old) a b
-            → IfOk result (λ found. FolderMeans care (D.view store.new) found.folder a) }
+            → IfOk result (λ found. FoundMeans care (D.view store.new) found a) }
         ensures left { IsTrue D.tells → (care : Care) (a b : State) → IsLeft care (D.view store.old) a b
             → OnErr result (IsLeftWith care (D.view store.new) a b) }
-        // The generation that the logs have in use, and its bodies, whose number is told.
+        // The generation that the logs have in use, and its bodies, whose number and form are told.
         ensures bodies { IsTrue D.tells → (g : ℕ) (bodies : List (List ℕ))
             → HaveBodies (D.view store.old).files g bodies
             → IfOk result (λ found. (generation_of (journal_of found.folder) ≡ g)
-            × Keeps (D.view store.new) (journal_of found.folder) g bodies × (found.bodies ≡ length bodies)) }
+            × Keeps (D.view store.new) (journal_of found.folder) g bodies × (found.bodies ≡ length bodies)
+            × (found.form ≡ form_in bodies)) }
         ensures named { IfOk result (λ found. generation_of (journal_of found.folder) < 2 ^ 60) }
         ensures had_root { IsTrue D.tells → IfOk result (λ found.
             IsTrue (had_root_of (journal_of found.folder)) ↔ HasRoot (D.view store.old).files) }
@@ -92,6 +97,7 @@ impl Found {
             Ok((journal, bodies)) => match Folder::over(alloc, journal, &bodies) {
                 Ok(folder) => Ok(Found {
                     folder,
+                    form: form_in(&bodies),
                     bodies: bodies.len(),
                 }),
                 Err(refusal) => Err(refusal),

@@ -9,7 +9,7 @@ ghost use Rattle.outside_traits.specs.Runs.{Narrows};
 ghost use Rattle.folder.specs.Strays.{ChangesStrays};
 ghost use Rattle.catalog_core.specs.Table.{Table};
 ghost use Rattle.journal_store.specs.Journals.{had_root_of};
-ghost use Rattle.journal_store.specs.Readings.{generation_file, HaveBodies, IsUnfinished, LogHasAtMost};
+ghost use Rattle.journal_store.specs.Readings.{generation_file, HaveBodies, LogHasAtMost};
 ghost use Rattle.folder.specs.Left.{IsLeft, IsLeftWith, Since, StaysSound};
 ghost use Rattle.folder.specs.Replay.{ReadsAs, StopsReading};
 ghost use Rattle.folder.specs.Sound.{Care};
@@ -30,9 +30,9 @@ impl Folder {
     /// Loads a folder, which is made where its making isn't finished. The table is what the logs read as.
     /// `NotAStore` comes exactly where they read as none, with the first byte where reading stops, and leaves
     /// each file as it was. `Fault` comes only where the store failed. No file is read but the logs, each
-    /// once. A log of more than 1,024 bodies is replaced by that of the next generation, which begins with a
-    /// checkpoint of the table. Where the root named a generation, each file that the folder doesn't name is
-    /// removed then; a removal that fails is let pass.
+    /// once. A log of more than 1,024 bodies, or of an older form than the newest, is replaced by that of the
+    /// next generation, which begins with a checkpoint of the table. Where the root named a generation, each
+    /// file that the folder doesn't name is removed then; a removal that fails is let pass.
     pub fn load<D: Store>(alloc: Global, store: &mut D) -> Result<Folder, LoadRefusal>
         ensures reading { IsTrue D.tells
             → IfOk result (λ folder. ReadsAs (D.view store.old).files (table_in folder)) }
@@ -53,13 +53,13 @@ impl Folder {
             → OnOk result ⊥ }
         ensures place { IsTrue D.tells → (file at g b : ℕ) → StopsReading (D.view store.old).files file at
             → IsErrOf result (LoadRefusal.NotAStore g b) → (g ≡ file) × (b ≡ at) }
-        // The generation in use is the one that was or is newly made, unless that has more than 1,024 bodies;
-        // then it is the next one, with the checkpoint as its one body.
+        // The generation in use is the one that was, unless that has more than 1,024 bodies, is of an older
+        // form or is newly made; then it is the next one, with the checkpoint as its one body.
         ensures generation { IsTrue D.tells → (g : ℕ) (bodies : List (List ℕ))
             → HaveBodies (D.view store.old).files g bodies
             → IfOk result (λ folder. IsInUse (D.view store.new) folder g bodies) }
-        // Only logs are changed, and files that the folder doesn't name; where the making is finished and no
-        // log is long these alone; and none before `NotAStore`.
+        // Only logs are changed, and files that the folder doesn't name; where the log stays these alone; and
+        // none before `NotAStore`.
         ensures alone { IsTrue D.tells → ChangesLogsOrUnnamed (D.view store.old) (D.view store.new) }
         ensures finished { IsTrue D.tells → IsLoadedAsItIs (D.view store.old).files
             → ChangesUnnamed (D.view store.old) (D.view store.new) }
@@ -69,9 +69,6 @@ impl Folder {
         ensures only_named { IsTrue D.tells → HasRoot (D.view store.old).files → IfOk result
             (λ folder. Rose (D.counts store.old).removes (D.counts store.new).removes
             ⊎ HasOnlyNamed (D.view store.new) folder) }
-        // Where it had none no file is removed.
-        ensures no_removal { IsTrue D.tells → IsUnfinished ((D.view store.old).files 0)
-            → (D.counts store.new).removes ≡ (D.counts store.old).removes }
         ensures cause { IsErrOf result LoadRefusal.Fault
             → Rose (D.counts store.old).reads (D.counts store.new).reads
             ⊎ Rose (D.counts store.old).writes (D.counts store.new).writes }

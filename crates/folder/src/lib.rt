@@ -8,6 +8,7 @@ pub mod folder;
 pub mod found;
 mod freeing;
 pub mod laws;
+mod leaving;
 pub mod refusal;
 mod removing;
 pub mod replay;

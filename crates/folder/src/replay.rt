@@ -5,13 +5,14 @@ ghost use Rattle.catalog_types.specs.declared.change.Change.{Change};
 ghost use Rattle.catalog_core.specs.Table.{empty_table, after, Fits};
 ghost use Rattle.catalog_core.specs.Catalogs.{table_of};
 ghost use Rattle.folder.specs.Refusals.{catalog_as, change_as, from_place, replay_as, FitsFrom, IsStop};
-ghost use Rattle.folder.specs.Replay.{IsBodyOf, MayBeMade, Replays, StopsReplay, due_in, is_checkpoint};
+ghost use Rattle.folder.specs.Replay.{IsBodyOf, MayBeMade, Replays, StopsReplay, due_in, form_in};
+ghost use Rattle.folder.specs.Replay.{is_checkpoint};
 
 use crate::refusal::LoadRefusal;
 use catalog_core::{Catalog, CatalogRefusal};
 use catalog_types::Change;
 use journal_store::Journal;
-use record_codec::{ChangeRefusal, read_change};
+use record_codec::{ChangeRefusal, Form, form_of, read_change};
 use std::alloc::Global;
 
 /// The place of the first gate of a log.
@@ -85,14 +86,20 @@ fn restore(alloc: Global, catalog: &mut Catalog, change: Change) -> Result<(), C
     }
 }
 
-// Makes the change that a body spells. `Stops` says at which byte of the body reading stops.
-fn make(alloc: Global, catalog: &mut Catalog, due: bool, body: &[u8]) -> Result<(), ReplayRefusal>
+// Makes the change that a body spells in this form. `Stops` says at which byte of the body reading stops.
+fn make(
+    alloc: Global,
+    catalog: &mut Catalog,
+    form: Form,
+    due: bool,
+    body: &[u8],
+) -> Result<(), ReplayRefusal>
     requires { due ≡ true → table_of catalog.old ≡ empty_table }
-    ensures made { OnOk result ((c : Change) × IsBodyOf c body.now × MayBeMade due (table_of catalog.old) c
-        × (table_of catalog.new ≡ after c (table_of catalog.old))) }
-    ensures stops { IfErr result (IsStop due (table_of catalog.old) body.now) }
+    ensures made { OnOk result ((c : Change) × IsBodyOf form c body.now
+        × MayBeMade due (table_of catalog.old) c × (table_of catalog.new ≡ after c (table_of catalog.old))) }
+    ensures stops { IfErr result (IsStop form due (table_of catalog.old) body.now) }
 {
-    let change = match read_change(alloc, body) {
+    let change = match read_change(alloc, body, form) {
         Ok(change) => change,
         Err(refusal) => return Err(of_change(refusal)),
     };
@@ -131,6 +138,16 @@ pub(crate) fn of_replay(file: u64, refusal: ReplayRefusal) -> LoadRefusal
     }
 }
 
+// The form of a log, which its first body tells.
+pub(crate) fn form_in(bodies: &[Vec<u8>]) -> Form
+    ensures { result ≡ form_in (contents bodies.now) }
+{
+    match bodies {
+        [first, ..] => form_of(first),
+        [] => form_of(&[]),
+    }
+}
+
 // The table to which the changes of a generation's log lead. `Stops` says at which byte of the log reading
 // stops.
 pub(crate) fn replay(
@@ -140,14 +157,17 @@ pub(crate) fn replay(
 ) -> Result<Catalog, ReplayRefusal>
     requires { length (front (contents bodies.now)) < 2 ^ 63 }
     ensures replays { IfOk result
-        (λ catalog. Replays (due_in generation) empty_table (contents bodies.now) (table_of catalog)) }
+        (λ catalog. Replays (form_in (contents bodies.now)) (due_in generation) empty_table
+        (contents bodies.now) (table_of catalog)) }
     ensures stops { (at : ℕ) → IsErrOf result (ReplayRefusal.Stops at)
-        → StopsReplay (due_in generation) empty_table 8 (contents bodies.now) at }
+        → StopsReplay (form_in (contents bodies.now)) (due_in generation) empty_table 8
+        (contents bodies.now) at }
 {
+    let form = form_in(bodies);
     let mut catalog = Catalog::new(alloc);
     let mut due = generation > 0;
     for i in 0..bodies.len() {
-        match make(alloc, &mut catalog, due, &bodies[i]) {
+        match make(alloc, &mut catalog, form, due, &bodies[i]) {
             Ok(()) => due = false,
             Err(refusal) => return Err(behind(Journal::place(bodies, i), refusal)),
         }

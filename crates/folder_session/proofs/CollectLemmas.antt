@@ -4,16 +4,16 @@ use Rattle.std.specs.List.{All, AllByRecursion, Contains}
 use Rattle.std.proofs.lemmas.Bool.{eqb-true}
 use Rattle.std.proofs.lemmas.Bool.Decides.{nat_tests}
 use Rattle.std.proofs.lemmas.List.Elements.{All-from_recursion}
-use Rattle.std.proofs.lemmas.List.Sorted.{list_any-IsPermutation}
 use Rattle.outside_traits.specs.View.{View}
 use Rattle.outside_traits.proofs.RunLemmas.{narrows_none, spans_wider}
 use Rattle.rewrite_core.proofs.Looking.{Contains-first, Contains-behind, Contains-cons_cases}
 use Rattle.catalog_types.specs.PlainEntry.{PlainEntry}
 use Rattle.catalog_types.specs.declared.change.Change.{Change}
 use Rattle.catalog_types.specs.declared.change.Change.TheVariants as change
-use Rattle.entry_table.specs.Ids.{is_among, is_there, without}
+use Rattle.entry_table.specs.Ids.{is_among, is_there}
 use Rattle.catalog_core.specs.IsTable.{IsTable}
-use Rattle.catalog_core.specs.Table.{Table, Fits, FitsCollection, most_ticks, after}
+use Rattle.catalog_core.specs.Table.{Table, Fits, FitsCollection, after}
+use Rattle.rows_core.specs.Limits.{most_ticks}
 use Rattle.catalog_core.proofs.AskedResults.{found-own}
 use Rattle.planning.specs.Collecting.{IsCollection, IsCollectionPlan, file_of, files_of}
 use Rattle.planning.specs.declared.collecting.CollectionPlan.{CollectionPlan}
@@ -107,7 +107,7 @@ module _ (care : Care) (held : List ℕ) (t : Table) (s : State) (same : t ≡ t
 
   pub collected_ok : (plan : CollectionPlan) → IsCollectionPlan t held reclaim plan → machine.Performs care held s (command.Collect reclaim) (outcome (answer.Evicted plan.ids.items plan.bytes) (with_collection s plan.ids.items))
   collected_ok plan is =
-      let fits : FitsCollection is.ascending t = subst (λ (c : Change). Fits c t) is.change is.fits in
+      let fits : FitsCollection plan.ids.items t = subst (λ (c : Change). Fits c t) is.change is.fits in
       let low = fits.counted in
       let ticks = ap (λ (x : Table). x.tick) same in
       subst (λ b. CollectsTo b held s reclaim (outcome (answer.Evicted plan.ids.items plan.bytes) (with_collection s plan.ids.items))) (sym (not_full s.tick (omega (arith, low, ticks))))
@@ -125,17 +125,12 @@ collection_recorded t held reclaim plan is = record { fits = is.fits; spelled = 
 pub collection_no_checkpoint : (t : Table) (held : List ℕ) (reclaim : ℕ) (plan : CollectionPlan) → IsCollectionPlan t held reclaim plan → is_checkpoint plan.change ≡ false
 collection_no_checkpoint t held reclaim plan is = ap is_checkpoint is.change
 
--- the state without the ids as they are recorded is the one without them in the order of going
-same_collection : (s : State) (ids others : List ℕ) → without others s.entries ≡ without ids s.entries → with_collection s others ≡ with_collection s ids
-same_collection s ids others same = ap (λ (entries : List PlainEntry). record (with_collection s ids) { entries = entries }) same
-
--- that state follows from this one by what is recorded
-pub next_collection : (care : Care) (v : View) (s : State) (t : Table) → t ≡ table s → (held : List ℕ) (reclaim : ℕ) (plan : CollectionPlan) → (is : IsCollectionPlan t held reclaim plan) → without is.ascending s.entries ≡ without plan.ids.items s.entries
-    → (Fits (change.Collect is.ascending) (table s) → IsNext care v s (change.Collect is.ascending) (with_collection s is.ascending)) → IsNext care v s plan.change (with_collection s plan.ids.items)
-next_collection care v s t same held reclaim plan is left next =
-    let fits = subst (λ (x : Table). Fits (change.Collect is.ascending) x) same (subst (λ (c : Change). Fits c t) is.change is.fits) in
-    subst (λ (c : Change). IsNext care v s c (with_collection s plan.ids.items)) (sym is.change)
-    (subst (λ (new : State). IsNext care v s (change.Collect is.ascending) new) (same_collection s plan.ids.items is.ascending left) (next fits))
+-- the state without the ids follows from this one by what is recorded
+pub next_collection : (care : Care) (v : View) (s : State) (t : Table) → t ≡ table s → (held : List ℕ) (reclaim : ℕ) (plan : CollectionPlan) → IsCollectionPlan t held reclaim plan
+    → (Fits (change.Collect plan.ids.items) (table s) → IsNext care v s (change.Collect plan.ids.items) (with_collection s plan.ids.items)) → IsNext care v s plan.change (with_collection s plan.ids.items)
+next_collection care v s t same held reclaim plan is next =
+    let fits = subst (λ (x : Table). Fits (change.Collect plan.ids.items) x) same (subst (λ (c : Change). Fits c t) is.change is.fits) in
+    subst (λ (c : Change). IsNext care v s c (with_collection s plan.ids.items)) (sym is.change) (next fits)
 
 -- ---- the files of the results that went
 
@@ -144,15 +139,14 @@ NamesFree = (t : Table) (ids : List ℕ) (e : PlainEntry) → IsTable t → Cont
 
 module _ (names_free : NamesFree) (t : Table) (is_table : IsTable t) (held : List ℕ) (reclaim : ℕ) (plan : CollectionPlan) (is : IsCollectionPlan t held reclaim plan) where
   abbrev Next : Table
-  Next = after (change.Collect is.ascending) t
+  Next = after (change.Collect plan.ids.items) t
 
   goes : (e : PlainEntry) → Contains is.collection.victims.taken e → IsFree Next (file_of t e.id).file
   goes e has =
       let there = (is.collection.victims.can_go e has).0 in
       let same : (file_of t e.id).file ≡ e.file.file = ap (λ file. file.file) (found-own t e is_table there).0 in
       let named : is_among plan.ids.items e.id ≡ true = subst (λ (ids : List ℕ). is_among ids e.id ≡ true) (sym is.collection.victims.named) (among-has _ e.id (contains_map is.collection.victims.taken has)) in
-      let among : is_among is.ascending e.id ≡ true = sym (list_any-IsPermutation (λ (other : ℕ). other == e.id) plan.ids.items is.ascending is.same) ∙ named in
-      subst (IsFree Next) (sym same) (names_free t is.ascending e is_table there among)
+      subst (IsFree Next) (sym same) (names_free t plan.ids.items e is_table there named)
     where
       contains_map : (es : List PlainEntry) → Contains es e → Contains (map (λ (x : PlainEntry). x.id) es) e.id
       contains_map [] has = absurd (omega (arith, has.1))
@@ -175,8 +169,7 @@ module _ (names_free : NamesFree) (t : Table) (is_table : IsTable t) (held : Lis
 module _ (t : Table) (is_table : IsTable t) (held : List ℕ) (reclaim : ℕ) (plan : CollectionPlan) (is : IsCollectionPlan t held reclaim plan) where
   pub have_files : HaveFiles t (after plan.change t) plan.files.items
   have_files e has out =
-      let gone = was_taken is.ascending t.entries e has (ap (λ (c : Change). is_there (after c t).entries e.id) (sym is.change) ∙ out) in
-      let named : is_among plan.ids.items e.id ≡ true = list_any-IsPermutation (λ (other : ℕ). other == e.id) plan.ids.items is.ascending is.same ∙ gone in
+      let named : is_among plan.ids.items e.id ≡ true = was_taken plan.ids.items t.entries e has (ap (λ (c : Change). is_there (after c t).entries e.id) (sym is.change) ∙ out) in
       subst (λ (files : List ℕ). Contains files e.file.file) (sym is.files)
       (subst (λ (n : ℕ). Contains (files_of t plan.ids.items) n) (ap (λ file. file.file) (found-own t e is_table has).0) (contains_files plan.ids.items e.id named))
     where

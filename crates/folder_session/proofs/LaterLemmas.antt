@@ -1,7 +1,6 @@
 -- What stands in a table goes on standing in the one after a command.
 use Rattle.std.proofs.Common.{◌≡◌, inl, inr, sym, subst, ℕ, List, [], ◌∷◌, map, Result, Ok, Err, IfOk, arith}
 use Rattle.std.specs.List.{Contains}
-use Rattle.std.proofs.lemmas.List.Sorted.{Contains-permutation, IsPermutation-sym}
 use Rattle.outside_traits.specs.declared.failed.Failed.{Failed}
 use Rattle.rewrite_core.proofs.Looking.{Contains-first, Contains-behind, Contains-cons_cases}
 use Rattle.catalog_types.specs.PlainEntry.{PlainEntry}
@@ -40,4 +39,4 @@ collection_free t held wanted bytes ids is = λ id has holds.
 pub collection_spares_held : (t : Table) (held : List ℕ) (reclaim : ℕ) (plan : CollectionPlan) → IsCollectionPlan t held reclaim plan → SparesHeld held plan.change
 collection_spares_held t held reclaim plan is =
     subst (SparesHeld held) (sym is.change)
-    (λ id has holds. collection_free t held reclaim plan.bytes plan.ids.items is.collection id (Contains-permutation is.ascending plan.ids.items id (IsPermutation-sym plan.ids.items is.ascending is.same) has) holds)
+    (collection_free t held reclaim plan.bytes plan.ids.items is.collection)

@@ -9,7 +9,8 @@ use Rattle.plan_text.specs.Spelled.{SpellsText}
 use Rattle.catalog_types.specs.declared.snapshot.StreamState.{StreamState}
 use Rattle.catalog_core.specs.IsTable.{IsTable}
 use Rattle.catalog_core.specs.Programs.{program_named, IsPlanOf}
-use Rattle.catalog_core.specs.Table.{Table, place_of, most_ticks}
+use Rattle.catalog_core.specs.Table.{Table, place_of}
+use Rattle.rows_core.specs.Limits.{most_ticks}
 use Rattle.catalog_core.proofs.Texts.{one-bound}
 use Rattle.planning.specs.Collecting.{IsCollection}
 use Rattle.plan_core.specs.Columns.{Rows}
@@ -36,7 +37,8 @@ use Rattle.growth_laws.proofs.AddedRows.{ok_is}
 use Rattle.folder.specs.Sound.{Care}
 use Rattle.folder.specs.Next.{with_collection}
 use Rattle.folder.specs.State.{State, table, kinds_in, lists_in}
-use Rattle.work_run.specs.Working.{Overflows, IsDear, given, most_machine_time}
+use Rattle.work_run.specs.Working.{Overflows, IsDear, given}
+use Rattle.rows_core.specs.Limits.{most_machine_time}
 use Rattle.work_turns.specs.Ends.{WorksInTurns}
 use Rattle.folder_session.specs.Machine.{Outcome, outcome, refused, made, appended, RunsTo, FetchesTo, CollectsTo, IsWorkOn, Performs, Step}
 use Rattle.folder_session.specs.Outcomes.{AgreeOn, Agree}

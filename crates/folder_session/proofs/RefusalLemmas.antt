@@ -14,7 +14,8 @@ use Rattle.catalog_types.specs.declared.program.Program.{Program}
 use Rattle.estimator.specs.Cuts.{Cuts}
 use Rattle.catalog_core.specs.Named.{file_at}
 use Rattle.catalog_core.specs.Programs.{extents_at, most_text_bytes, program_named, with_program}
-use Rattle.catalog_core.specs.Table.{Table, place_of, most_ticks, most_streams, most_programs, file_end, most_extents, most_extents_in_all, most_extent_bytes, extent_count}
+use Rattle.catalog_core.specs.Table.{Table, place_of, extent_count}
+use Rattle.rows_core.specs.Limits.{most_ticks, most_streams, most_programs, file_end, most_extents, most_extents_in_all, most_extent_bytes}
 use Rattle.plan_binder.specs.declared.refusal.BindRefusal.{BindRefusal}
 use Rattle.plan_binder.specs.declared.refusal.BindRefusal.TheVariants as binding
 use Rattle.plan_core.specs.declared.refusal.PlanRefusal.{PlanRefusal}

@@ -9,7 +9,8 @@ use Rattle.catalog_types.specs.declared.change.Change.{Change}
 use Rattle.catalog_types.specs.declared.change.Change.TheVariants as change
 use Rattle.catalog_types.specs.declared.program.Program.{Program}
 use Rattle.catalog_core.specs.Table.{Table, Fits}
-use Rattle.entry_table.specs.Results.{HaveNextFiles, file_end}
+use Rattle.entry_table.specs.Results.{HaveNextFiles}
+use Rattle.rows_core.specs.Limits.{file_end}
 use Rattle.admission.specs.Admitting.{MadeResult, entries_of}
 use Rattle.admission.specs.declared.new_result.NewResult.{NewResult}
 use Rattle.folder.specs.Next.{IsReadyResult}

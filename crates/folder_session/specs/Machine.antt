@@ -10,7 +10,8 @@ use Rattle.catalog_types.specs.declared.program.Program.{Program}
 use Rattle.script_text.specs.declared.answer.Answer.{Answer}
 use Rattle.script_text.specs.declared.answer.Answer.TheVariants as answer
 use Rattle.catalog_core.specs.Named.{HasFile, file_at}
-use Rattle.catalog_core.specs.Table.{Table, most_ticks}
+use Rattle.catalog_core.specs.Table.{Table}
+use Rattle.rows_core.specs.Limits.{most_ticks}
 use Rattle.catalog_line.specs.CatalogText.{catalog_text}
 use Rattle.planning.specs.Collecting.{IsCollection}
 use Rattle.script_text.specs.declared.answer.EntrySummary.{EntrySummary}

@@ -3,7 +3,7 @@ use Rattle.std.specs.Prelude.{◌≡◌, ◌≤◌, Result, Ok, Err, ⊤}
 use Rattle.plan_core.specs.PlainPlan.{PlainPlan}
 use Rattle.estimator.specs.Cuts.{Cuts}
 use Rattle.catalog_core.specs.IsTable.{IsTable}
-use Rattle.catalog_core.specs.Table.{most_ticks}
+use Rattle.rows_core.specs.Limits.{most_ticks}
 use Rattle.script_text.specs.declared.answer.LimitKind.TheVariants as limit
 use Rattle.script_text.specs.declared.answer.Refusal.{Refusal}
 use Rattle.script_text.specs.declared.answer.Refusal.TheVariants as refusal

@@ -19,7 +19,7 @@ use crate::refusals::collection_refusal;
 use crate::session::FolderSession;
 use folder::{files_that_went, next_states};
 use outside_traits::{Failed, Store};
-use planning::{CollectionPlan, Recording, plan_collection, same_collection_in_any_order};
+use planning::{CollectionPlan, Recording, plan_collection};
 use rows_core::Seq;
 use script_text::{Answer, Refusal};
 
@@ -102,7 +102,6 @@ impl FolderSession {
     {
         next_states::<D>();
         files_that_went();
-        same_collection_in_any_order();
         let CollectionPlan {
             change,
             body,

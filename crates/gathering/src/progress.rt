@@ -14,6 +14,7 @@ use crate::chain::rows_through;
 use crate::held::Held;
 use plan_core::{EvRefusal, Plan};
 use result_ops::{Input, Stop};
+use rows_core::limits::MAX_MACHINE_TIME;
 use rows_core::{Memory, Row};
 use std::alloc::Global;
 
@@ -25,8 +26,6 @@ pub struct Going {
 }
 
 // The greatest machine time. The 1 beside the rows that are taken in is the plan's own.
-const LIMIT: u64 = 4_294_967_295;
-
 /// Takes the rows of one more extent. After too many rows they are dropped, and only evaluated, so that a
 /// later overflow is told; after an overflow nothing more is evaluated. `Memory` leaves all as it was.
 pub fn advance(
@@ -79,7 +78,7 @@ fn take_in(plan: &Plan, going: &mut Result<Going, Stop>, input: Input) -> Result
         return Ok(());
     };
     let taken_in = state.taken_in.saturating_add(input.taken_in);
-    if taken_in >= LIMIT {
+    if taken_in >= MAX_MACHINE_TIME {
         *going = Err(Stop::Machine);
         return Ok(());
     }

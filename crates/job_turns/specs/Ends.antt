@@ -17,7 +17,8 @@ use Rattle.folder.specs.Next.{with_work}
 use Rattle.folder.specs.State.{State, table, lists_in}
 use Rattle.work_run.specs.Ends.{AreNewFiles, given_of}
 use Rattle.work_run.specs.Opened.{files_left, opened_rewriting}
-use Rattle.work_run.specs.Working.{Given, Keeps, most_machine_time}
+use Rattle.work_run.specs.Working.{Given, Keeps}
+use Rattle.rows_core.specs.Limits.{most_machine_time}
 use Rattle.work_run.specs.declared.open.OpenWork.{OpenWork}
 use Rattle.work_run.specs.declared.work.Work.{Work}
 use Rattle.work_turns.specs.Ends.{leaving_out, those_among}

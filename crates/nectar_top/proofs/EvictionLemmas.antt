@@ -10,7 +10,8 @@ use Rattle.catalog_types.specs.PlainEntry.{PlainNewEntry}
 use Rattle.catalog_types.specs.declared.change.Change.{Change}
 use Rattle.catalog_types.specs.declared.program.Program.{Program}
 use Rattle.catalog_core.specs.IsTable.{IsTable}
-use Rattle.catalog_core.specs.Table.{Table, most_ticks}
+use Rattle.catalog_core.specs.Table.{Table}
+use Rattle.rows_core.specs.Limits.{most_ticks}
 use Rattle.rows_core.specs.declared.schema.Column.{Column}
 use Rattle.planning.specs.Appending.{Append}
 use Rattle.planning.specs.Making.{making}

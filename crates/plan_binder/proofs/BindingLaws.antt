@@ -7,7 +7,7 @@ use Rattle.std.proofs.lemmas.Simd.{map-map}
 use Rattle.std.specs.List.{position, position_or_len}
 use Rattle.std.specs.Option.{option_and_then, is_some}
 use Rattle.rows_core.specs.declared.kind.Kind as kind
-use Rattle.rows_core.specs.declared.kind.Kind.TheVariants.{Int, Text}
+use Rattle.rows_core.specs.declared.kind.Kind.TheVariants.{Int, Text, Bool as Truth}
 use Rattle.plan_core.specs.PlanTyping.{all_there, number_kind}
 use Rattle.plan_text.specs.declared.plan.NamedColumn.{NamedColumn}
 use Rattle.plan_text.specs.PlainNamed.{PlainColumn, expr_of, column_of}
@@ -17,6 +17,7 @@ pub number_or_int : (k : Option kind.Kind) → kind_or_int (number_kind k) ≡ I
 number_or_int None = refl
 number_or_int (Some Int) = refl
 number_or_int (Some Text) = refl
+number_or_int (Some Truth) = refl
 
 pub same_names : (names : Names) → map (λ name. name) names ≡ names
 same_names [] = refl

@@ -174,7 +174,7 @@ module _ (names : Names) (kinds : Kinds) where
       let bounds = all_cons (bound_expr names kinds column.expr) (map (λ c. bound_expr names kinds c.expr) columns) exprs is in
       let typeds = all_cons (column_kind_of kinds bounds.first) (map (column_kind_of kinds) bounds.others) ks
       (ap (λ (es : List bound.PlainExpr). all_there (map (column_kind_of kinds) es)) (sym bounds.both) ∙ typed) in
-      let its = then_some column_kind (expression_kind kinds bounds.first) typeds.first typeds.first_there in
+      let its = map_some column_kind (expression_kind kinds bounds.first) typeds.first typeds.first_there in
       or_from _ _ (typed_rows column.expr bounds.first its.0 bounds.first_there its.1.0)
       (columns_rows columns bounds.others typeds.others bounds.others_there typeds.others_there)
 

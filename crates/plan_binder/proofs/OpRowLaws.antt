@@ -28,9 +28,9 @@ is_row : (o : Op) (kinds : List CellKind) (row : OpRow) → is_row_for o kinds r
 is_row o kinds row e = (is_row_for-Decides o kinds row).0 e
 
 -- a place that is found is a number of 32 bits
-below_all : (o : Option ℕ) → ((i : ℕ) → o ≡ Some i → i < 24) → IfSome o (λ i. i < 2 ^ 32)
+below_all : (o : Option ℕ) → ((i : ℕ) → o ≡ Some i → i < 32) → IfSome o (λ i. i < 2 ^ 32)
 below_all None all = tt
-below_all (Some i) all = let below : i < 24 = all i refl in omega arith
+below_all (Some i) all = let below : i < 32 = all i refl in omega arith
 
 pub place_below : (p : OpRow → Bool) (o : Option ℕ) → o ≡ position p OPS.rows → IfSome o (λ i. i < 2 ^ 32)
 place_below p o e = below_all o (λ i is. (position-Some p OPS.rows i some_row (sym e ∙ is)).0)

@@ -4,7 +4,7 @@ ghost use Rattle.std.specs.List.{position};
 ghost use Rattle.scalar_ops.specs.Table.{same_op};
 ghost use Rattle.plan_binder.specs.OpRows.{row_with, first_row, row_for};
 
-use scalar_ops::{CellKind, OPS, Op, OpTable};
+use scalar_ops::{CellKind, OPS, Op, Operations};
 
 /// The row for this operation at an argument of this kind.
 pub fn row_for_one(op: Op, kind: Option<CellKind>) -> u32
@@ -55,7 +55,7 @@ fn number_of(place: Option<usize>) -> Option<u32>
     }
 }
 
-fn first_in(table: &OpTable<24>, op: Op) -> Option<usize>
+fn first_in(table: &Operations, op: Op) -> Option<usize>
     ensures { result ≡ position (λ row. same_op row.op op) table.now.rows }
 {
     table.rows.iter().position(|row| row.op.is_same(op))

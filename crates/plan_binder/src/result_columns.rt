@@ -132,7 +132,8 @@ fn expr_kind(kinds: &[Kind], expr: &Expr) -> Kind
 {
     match expression_kind(kinds, expr) {
         Some(CellKind::Text) => Kind::Text,
-        _ => Kind::Int,
+        Some(CellKind::Bool) => Kind::Bool,
+        Some(CellKind::Int) | None => Kind::Int,
     }
 }
 

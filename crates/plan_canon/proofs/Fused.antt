@@ -93,10 +93,11 @@ row_there (e ∷ es) row h =
 
 -- ---- kinds
 
-pub kind_of_one : (o : Option CellKind) (k : column.Kind) → option_and_then kind_of_column o ≡ Some k → o ≡ Some (cell_kind_of k)
+pub kind_of_one : (o : Option CellKind) (k : column.Kind) → option_map kind_of_column o ≡ Some k → o ≡ Some (cell_kind_of k)
 kind_of_one None k e = absurd cc
 kind_of_one (Some kind.Int) column_kind.Int e = refl
 kind_of_one (Some kind.Text) column_kind.Text e = refl
+kind_of_one (Some kind.Bool) column_kind.Bool e = refl
 kind_of_one (Some _) _ e = absurd cc
 
 pub all_front : {A : Type 0} (o : Option A) (os : List (Option A)) (ks : List A) → all_there (o ∷ os) ≡ Some ks → (k : A) × (rest : List A) × (o ≡ Some k) × (all_there os ≡ Some rest) × (ks ≡ k ∷ rest)
@@ -166,11 +167,10 @@ module _ (row : Row) where
   abbrev value_at : PlainExpr → Result Cell Overflow
   value_at e = expression_value e row
 
-  no_truth : (c : Cell) (k : column.Kind) → kind_of_cell c ≡ cell_kind_of k → cell_of_value (value_of_cell c) ≡ c
-  no_truth (cell.Int n) k e = refl
-  no_truth (cell.Text t) k e = refl
-  no_truth (cell.Bool b) column_kind.Int e = absurd cc
-  no_truth (cell.Bool b) column_kind.Text e = absurd cc
+  cell_there : (c : Cell) → cell_of_value (value_of_cell c) ≡ c
+  cell_there (cell.Int n) = refl
+  cell_there (cell.Text t) = refl
+  cell_there (cell.Bool b) = refl
 
   ok_front : (e : PlainExpr) (es : List PlainExpr) (out : Row) → project_row (e ∷ es) row ≡ Ok out
       → (c : Cell) × (rest : Row) × (value_at e ≡ Ok c) × (project_row es row ≡ Ok rest) × (out ≡ value_of_cell c ∷ rest)
@@ -190,8 +190,7 @@ module _ (row : Row) where
       let front = all_front (column_kind_of (map kind_of row) e) (map (column_kind_of (map kind_of row)) es) ks all in
       let got = ok_front e es out is in
       let same : e ≡ f = cc in
-      let its = typed_value e row (cell_kind_of front.0) got.0 (kind_of_one (expression_kind (map kind_of row) e) front.0 front.2) got.2 in
-      ap value_at (sym same) ∙ got.2 ∙ ap Ok (sym (no_truth got.0 front.0 its) ∙ ap (λ o. cell_of_value (column_of o 0)) (sym got.4))
+      ap value_at (sym same) ∙ got.2 ∙ ap Ok (sym (cell_there got.0) ∙ ap (λ o. cell_of_value (column_of o 0)) (sym got.4))
   stands (e ∷ es) ks out all is (suc i) f h =
       let front = all_front (column_kind_of (map kind_of row) e) (map (column_kind_of (map kind_of row)) es) ks all in
       let got = ok_front e es out is in

@@ -82,6 +82,7 @@ same_projection fs gs (row ∷ rows) h = (λ i. h.0 i >>= λ x. same_projection 
 value_there : (v : Value) → value_of_cell (cell_of_value v) ≡ v
 value_there (value.Int n) = refl
 value_there (value.Text t) = refl
+value_there (value.Bool b) = refl
 
 column_behind : (before after : Row) (v : Value) → column_of (before ++ v ∷ after) (length before) ≡ v
 column_behind [] after v = refl

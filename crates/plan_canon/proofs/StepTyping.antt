@@ -45,14 +45,16 @@ truth_is _ e = absurd cc
 same_kind-Decides : (a b : column.Kind) → Decides (same_kind a b) (a ≡ b)
 same_kind-Decides column_kind.Int column_kind.Int = (λ e. refl, λ e. refl)
 same_kind-Decides column_kind.Text column_kind.Text = (λ e. refl, λ e. refl)
+same_kind-Decides column_kind.Bool column_kind.Bool = (λ e. refl, λ e. refl)
 same_kind-Decides _ _ = (λ e. absurd (false≢true e), λ e. cc)
 
 pub none_overflow : (es fs : List PlainExpr) → may_fuse es fs ≡ true → NoneOverflow es
 none_overflow es fs e = (and_parts (list_all (λ e. not (may_overflow e)) es) (none_repeats 0 es fs) e).0
 
-its_kind : (k : column.Kind) → kind_of_column (cell_kind_of k) ≡ Some k
+its_kind : (k : column.Kind) → kind_of_column (cell_kind_of k) ≡ k
 its_kind column_kind.Int = refl
 its_kind column_kind.Text = refl
+its_kind column_kind.Bool = refl
 
 pub columns_step : (kinds : Kinds) (fs : List PlainExpr) (ks : Kinds) → all_there (map (column_kind_of kinds) fs) ≡ Some ks
     → IfSome (exprs_step fs) (λ gs. all_there (map (column_kind_of kinds) gs) ≡ Some ks)
@@ -61,7 +63,7 @@ columns_step kinds (f ∷ fs) ks e =
     let front = all_front (column_kind_of kinds f) (map (column_kind_of kinds) fs) ks e in
     let its = kind_of_one (expression_kind kinds f) front.0 front.2 in
     inside (λ x. expression_kind kinds x ≡ Some (cell_kind_of front.0)) (λ gs. all_there (map (column_kind_of kinds) gs) ≡ Some ks) (λ x. x ∷ fs) (expr_step f) _
-    (λ x is. ap (λ o. all_there (o ∷ map (column_kind_of kinds) fs)) (ap (option_and_then kind_of_column) is ∙ its_kind front.0 ∙ sym front.2) ∙ e)
+    (λ x is. ap (λ o. all_there (o ∷ map (column_kind_of kinds) fs)) (ap (option_map kind_of_column) is ∙ ap Some (its_kind front.0) ∙ sym front.2) ∙ e)
     (step_kind kinds f (cell_kind_of front.0) its)
     (inside (λ gs. all_there (map (column_kind_of kinds) gs) ≡ Some front.1) (λ gs. all_there (map (column_kind_of kinds) gs) ≡ Some ks) (λ xs. f ∷ xs) (exprs_step fs) None
     (λ gs is. ap (λ o. all_there (o ∷ map (column_kind_of kinds) gs)) front.2 ∙ ap (option_and_then (λ others. Some (front.0 ∷ others))) is ∙ ap Some (sym front.4))
@@ -79,7 +81,7 @@ put_columns kinds es ks all [] js e = e
 put_columns kinds es ks all (f ∷ fs) js e =
     let front = all_front (column_kind_of ks f) (map (column_kind_of ks) fs) js e in
     let first : column_kind_of kinds (put_in es f) ≡ Some front.0 =
-    ap (option_and_then kind_of_column) (put_kind kinds es ks all f (cell_kind_of front.0) (kind_of_one (expression_kind ks f) front.0 front.2)) ∙ its_kind front.0 in
+    ap (option_map kind_of_column) (put_kind kinds es ks all f (cell_kind_of front.0) (kind_of_one (expression_kind ks f) front.0 front.2)) ∙ ap Some (its_kind front.0) in
     (λ i. all_there (first i ∷ map (column_kind_of kinds) (map (put_in es) fs)))
     ∙ ap (option_and_then (λ others. Some (front.0 ∷ others))) (put_columns kinds es ks all fs front.1 front.3) ∙ ap Some (sym front.4)
 
@@ -182,7 +184,7 @@ module _ (schemas : List Kinds) where
       let rest = columns_kinds (before ++ k ∷ []) after fs (ap (λ n. are_columns_from n fs) longer ∙ parts.1) (omega (arith, same)) in
       let rest_here : all_there (map (column_kind_of (before ++ k ∷ after)) fs) ≡ Some after = ap (λ l. all_there (map (column_kind_of l) fs)) (sym (append_assoc before (k ∷ []) after)) ∙ rest in
       let first : column_kind_of (before ++ k ∷ after) f ≡ Some k =
-      ap (column_kind_of (before ++ k ∷ after)) here ∙ ap (λ o. option_and_then kind_of_column (option_map cell_kind_of o)) (one_of_them before after k) ∙ its_kind k in
+      ap (column_kind_of (before ++ k ∷ after)) here ∙ ap (λ o. option_map kind_of_column (option_map cell_kind_of o)) (one_of_them before after k) ∙ ap Some (its_kind k) in
       (λ i. all_there (first i ∷ map (column_kind_of (before ++ k ∷ after)) fs)) ∙ ap (option_and_then (λ others. Some (k ∷ others))) rest_here
 
   -- ---- how many columns

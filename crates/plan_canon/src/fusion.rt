@@ -10,7 +10,7 @@ ghost use Rattle.plan_canon.specs.PlanRules.{put_in, is_column, are_columns_from
 
 use plan_core::Expr;
 use rows_core::Memory;
-use scalar_ops::{OPS, OpTable};
+use scalar_ops::{OPS, Operations};
 use std::alloc::Global;
 
 /// Whether columns over these columns may be made columns: none of these may overflow, and each of them that
@@ -53,7 +53,7 @@ fn overflows(row: u32) -> bool
     overflows_in(&table, row)
 }
 
-fn overflows_in(table: &OpTable<24>, row: u32) -> bool
+fn overflows_in(table: &Operations, row: u32) -> bool
     ensures { result ≡ unwrap_or (option_map (λ r. r.overflows) (slice_get table.now.rows row)) false }
 {
     match table.rows.get(row as usize) {

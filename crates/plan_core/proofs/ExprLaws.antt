@@ -1,6 +1,9 @@
 -- What a typed expression says of its parts.
-use Rattle.std.proofs.Common.{◌≡◌, ◌≢◌, refl, ap, subst, ◌∙◌, ℕ, zero, suc, ℤ, pos, negsuc, Bool, true, false, ◌&&◌, not, cond, List, [], ◌∷◌, map, slice_get, Option, None, Some, Ok, IsSome}
+use Rattle.std.proofs.Common.{◌≡◌, ◌≢◌, refl, ap, subst, ◌∙◌, ℕ, zero, suc, ℤ, pos, negsuc, Bool, true, false, ◌&&◌, not, cond, ◌<◌, length, List, [], ◌∷◌, map, slice_get, Option, None, Some, Ok, IsSome}
 use Rattle.std.proofs.lemmas.Bool.{false≢true, not-false}
+use Rattle.std.proofs.lemmas.Option.{slice_get_within}
+use Rattle.std.specs.Option.{option_and_then}
+use Rattle.std.specs.Cmp.Lexicographic.{pointwise}
 use Rattle.rows_core.specs.declared.kind.Kind as column
 use Rattle.rows_core.specs.declared.value.Value.{Value}
 use Rattle.rows_core.specs.Value.{kind_of}
@@ -9,8 +12,11 @@ use Rattle.scalar_ops.specs.declared.cell.Cell.TheVariants as cell
 use Rattle.scalar_ops.specs.declared.cell.CellKind.{CellKind}
 use Rattle.scalar_ops.specs.declared.table.Op.{Op}
 use Rattle.scalar_ops.specs.declared.table.Op.TheVariants as op
-use Rattle.scalar_ops.specs.Cells.{kind_of_cell}
-use Rattle.scalar_ops.specs.Meaning.{op_at, Divides}
+use Rattle.scalar_ops.specs.declared.table.OpRow.{OpRow}
+use Rattle.scalar_ops.specs.declared.table.TheConstants.{OPS}
+use Rattle.scalar_ops.specs.Cells.{kind_of_cell, same_cell_kind}
+use Rattle.scalar_ops.specs.Table.{kinds_of_args}
+use Rattle.scalar_ops.specs.Meaning.{row_at, op_at, Divides}
 use Rattle.plan_core.specs.PlainExpr.{PlainExpr, Column, Literal, Call1, Call2, And, Or, If}
 use Rattle.plan_core.specs.Columns.{Row}
 use Rattle.plan_core.specs.ExpressionValue.{expression_value, cell_of_value}
@@ -21,6 +27,18 @@ use Rattle.plan_core.specs.ExpressionKind.{IsTyped, expression_kind, of_both, ca
 
 pub column_kind : (row : Row) (i : ℕ) (v : Value) → slice_get row i ≡ Some v → expression_kind (map kind_of row) (Column i) ≡ Some (kind_of_cell (cell_of_value v))
 column_kind row i v there = rw (slice_get-map kind_of row i, there, kind_of_cell-cell_of_value v) refl
+
+-- ---- operations
+
+-- the row of a call that has a kind is one of the table
+pub row_there : (row : ℕ) (kinds : List CellKind) → IsSome (call_kind row kinds) → row < length OPS.rows
+row_there row kinds typed = go (row_at row) refl typed
+  where
+    go : (found : Option OpRow) → row_at row ≡ found
+        → IsSome (option_and_then (λ r. cond (pointwise same_cell_kind kinds (kinds_of_args r.args)) (Some r.result) None) found)
+        → row < length OPS.rows
+    go None e h = absurd (false≢true h)
+    go (Some r) e h = slice_get_within OPS.rows row r e
 
 -- ---- operations of two arguments
 

@@ -31,6 +31,7 @@ use Rattle.plan_core.specs.KindLaw.{ValuesHaveTheirKinds}
 pub kind_of_cell-cell_of_value : (v : Value) → kind_of_cell (cell_of_value v) ≡ cell_kind_of (kind_of v)
 kind_of_cell-cell_of_value (value.Int n) = refl
 kind_of_cell-cell_of_value (value.Text t) = refl
+kind_of_cell-cell_of_value (value.Bool b) = refl
 
 pub slice_get-map : {A B : Type 0} (f : A → B) (xs : List A) (i : ℕ) → slice_get (map f xs) i ≡ option_map f (slice_get xs i)
 slice_get-map f [] i = refl

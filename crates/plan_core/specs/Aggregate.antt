@@ -4,7 +4,7 @@ use Rattle.std.specs.Prelude.{ℕ, ◌-◌, ℤ, pos, ◌+ℤ◌, List, [], ◌�
 use Rattle.std.specs.Ordering.{is_le, is_ge}
 use Rattle.rows_core.specs.declared.overflow.Overflow.{Overflow}
 use Rattle.rows_core.specs.declared.value.Value.{Value}
-use Rattle.rows_core.specs.declared.value.Value.TheVariants.{Int, Text}
+use Rattle.rows_core.specs.declared.value.Value.TheVariants.{Int, Text, Bool}
 use Rattle.rows_core.specs.Value.{value_cmp}
 use Rattle.scalar_ops.specs.Division.{floor_div}
 use Rattle.scalar_ops.specs.Meaning.{fits_i64, overflow}
@@ -20,6 +20,7 @@ values_of column rows = map (λ row. column_of row column) rows
 abbrev pub number_of : Value → ℤ
 number_of (Int n) = n
 number_of (Text t) = pos 0
+number_of (Bool b) = pos 0
 
 abbrev pub exact_sum : List Value → ℤ
 exact_sum [] = pos 0

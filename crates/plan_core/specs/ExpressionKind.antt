@@ -18,6 +18,7 @@ use Rattle.plan_core.specs.PlainExpr.{PlainExpr, Column, Literal, Call1, Call2, 
 abbrev pub cell_kind_of : column.Kind → CellKind
 cell_kind_of column_kind.Int = kind.Int
 cell_kind_of column_kind.Text = kind.Text
+cell_kind_of column_kind.Bool = kind.Bool
 
 -- what f gives of two that are both there
 abbrev pub of_both : {A B C : Type 0} → (A → B → Option C) → Option A → Option B → Option C

@@ -8,7 +8,7 @@ use Rattle.scalar_ops.specs.declared.cell.Cell.{Cell}
 use Rattle.scalar_ops.specs.declared.cell.Cell.TheVariants as cell
 use Rattle.scalar_ops.specs.Meaning.{meaning}
 use Rattle.plan_core.specs.PlainExpr.{PlainExpr, Column, Literal, Call1, Call2, And, Or, If}
-use Rattle.plan_core.specs.Columns.{Row, column_of, no_value}
+use Rattle.plan_core.specs.Columns.{Row, column_of}
 
 -- an overflow of the first is an overflow of both
 infixl 10 ◌>>=◌
@@ -27,12 +27,12 @@ all_of (x ∷ xs) = do
 abbrev pub cell_of_value : Value → Cell
 cell_of_value (value.Int n) = cell.Int n
 cell_of_value (value.Text t) = cell.Text t
+cell_of_value (value.Bool b) = cell.Bool b
 
--- the value of a cell; a column of a typed plan is no truth value
 abbrev pub value_of_cell : Cell → Value
 value_of_cell (cell.Int n) = value.Int n
 value_of_cell (cell.Text t) = value.Text t
-value_of_cell (cell.Bool b) = no_value
+value_of_cell (cell.Bool b) = value.Bool b
 
 abbrev pub is_true : Cell → Bool
 is_true (cell.Bool b) = b

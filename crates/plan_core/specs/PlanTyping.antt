@@ -1,11 +1,11 @@
 -- The kinds of the columns of a plan's rows, if the plan has a typing, and why it has none. The rules and the limit are
 -- this project's own.
 use Rattle.std.specs.Prelude.{ℕ, ◌+◌, Bool, true, false, ◌||◌, ◌==◌, nat_lt, nat_le, List, [], ◌∷◌, ◌++◌, length, map, slice_get, Option, None, Some, unwrap_or, Result, Ok, Err, if◌then◌else◌}
-use Rattle.std.specs.Option.{option_and_then}
+use Rattle.std.specs.Option.{option_map, option_and_then}
 use Rattle.std.specs.List.{list_all, find}
 use Rattle.std.specs.Cmp.Lexicographic.{pointwise}
 use Rattle.rows_core.specs.declared.kind.Kind as column
-use Rattle.rows_core.specs.declared.kind.Kind.TheVariants.{Int, Text}
+use Rattle.rows_core.specs.declared.kind.Kind.TheVariants.{Int, Text, Bool as Truth}
 use Rattle.rows_core.specs.declared.order.Key.{Key}
 use Rattle.scalar_ops.specs.declared.cell.CellKind.{CellKind}
 use Rattle.scalar_ops.specs.declared.cell.CellKind.TheVariants as cell_kind
@@ -23,6 +23,7 @@ Kinds = List column.Kind
 abbrev pub same_kind : column.Kind → column.Kind → Bool
 same_kind Int Int = true
 same_kind Text Text = true
+same_kind Truth Truth = true
 same_kind _ _ = false
 
 abbrev pub is_empty : {A : Type 0} → List A → Bool
@@ -34,15 +35,15 @@ all_there [] = Some []
 all_there (None ∷ xs) = None
 all_there (Some x ∷ xs) = option_and_then (λ others. Some (x ∷ others)) (all_there xs)
 
--- the kind of a column with values of this kind; a column has no truth values
-abbrev pub column_kind : CellKind → Option column.Kind
-column_kind cell_kind.Int = Some Int
-column_kind cell_kind.Text = Some Text
-column_kind cell_kind.Bool = None
+-- the kind of a column with values of this kind
+abbrev pub column_kind : CellKind → column.Kind
+column_kind cell_kind.Int = Int
+column_kind cell_kind.Text = Text
+column_kind cell_kind.Bool = Truth
 
 -- the kind of a column of a projection
 abbrev pub column_kind_of : Kinds → PlainExpr → Option column.Kind
-column_kind_of kinds e = option_and_then column_kind (expression_kind kinds e)
+column_kind_of kinds e = option_map column_kind (expression_kind kinds e)
 
 abbrev pub is_truth : Option CellKind → Bool
 is_truth (Some cell_kind.Bool) = true
@@ -52,7 +53,7 @@ is_truth _ = false
 abbrev pub filter_kinds : PlainExpr → Kinds → Option Kinds
 filter_kinds test kinds = if is_truth (expression_kind kinds test) then Some kinds else None
 
--- one column or more, each a number or a text
+-- one column or more, each of a kind
 abbrev pub project_kinds : List PlainExpr → Kinds → Option Kinds
 project_kinds columns kinds =
     if is_empty columns then None else all_there (map (column_kind_of kinds) columns)

@@ -69,11 +69,13 @@ fn column_cell(alloc: Global, row: &Row, column: u32) -> Result<Cell, Memory>
     match row.values().get(column as usize) {
         Some(Value::Int(number)) => Ok(Cell::Int(*number)),
         Some(Value::Text(text)) => Ok(Cell::Text(text.try_copy(alloc)?)),
+        Some(Value::Bool(truth)) => Ok(Cell::Bool(*truth)),
         None => unreachable!(),
     }
 }
 
 /// The value of an operation of one argument, which has the row's kind.
+#[tactic(auto, using(crate::proofs::ExprLaws::row_there))]
 fn call_of_one(row: u32, arg: Cell) -> Result<Cell, Overflow>
     requires { IsSome (call_kind row (kind_of_cell arg ∷ [])) }
     ensures meaning { result ≡ meaning row (arg ∷ []) }
@@ -83,6 +85,7 @@ fn call_of_one(row: u32, arg: Cell) -> Result<Cell, Overflow>
 }
 
 /// The value of an operation of two arguments, which have the row's kinds.
+#[tactic(auto, using(crate::proofs::ExprLaws::row_there))]
 fn call_of_two(row: u32, left: Cell, right: Cell) -> Result<Cell, Overflow>
     requires kinds { IsSome (call_kind row (kind_of_cell left ∷ kind_of_cell right ∷ [])) }
     requires divisor { Divides (op_at row) (left ∷ right ∷ []) }

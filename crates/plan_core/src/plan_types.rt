@@ -242,14 +242,14 @@ fn agg_kinds(alloc: Global, kinds: &[Kind], aggs: &[Agg]) -> Result<Option<Vec<K
     Ok(Some(found))
 }
 
-/// The kind of a column of a projection: a number or a text.
+/// The kind of a column of a projection.
 fn column_kind_of(kinds: &[Kind], column: &Expr) -> Option<Kind>
     ensures { result ≡ column_kind_of kinds.now (expr_of column.now) }
 {
     match expression_kind(kinds, column)? {
         CellKind::Int => Some(Kind::Int),
         CellKind::Text => Some(Kind::Text),
-        CellKind::Bool => None,
+        CellKind::Bool => Some(Kind::Bool),
     }
 }
 

@@ -7,7 +7,7 @@ ghost use Rattle.plan_core.specs.ExpressionKind.{is_division, is_divisor, both_t
 
 use crate::expr::Expr;
 use rows_core::Kind;
-use scalar_ops::{Args, Cell, CellKind, OPS, Op, OpRow, OpTable};
+use scalar_ops::{Args, Cell, CellKind, OPS, Op, OpRow, Operations};
 
 /// The kind of an expression over columns of these kinds; `None` exactly where it has no typing. It takes no
 /// memory.
@@ -43,6 +43,7 @@ fn cell_kind_of(kind: Kind) -> CellKind
     match kind {
         Kind::Int => CellKind::Int,
         Kind::Text => CellKind::Text,
+        Kind::Bool => CellKind::Bool,
     }
 }
 
@@ -75,7 +76,7 @@ fn op_row(row: u32) -> Option<OpRow>
     row_in(&table, row)
 }
 
-fn row_in(table: &OpTable<24>, row: u32) -> Option<OpRow>
+fn row_in(table: &Operations, row: u32) -> Option<OpRow>
     ensures { result ≡ slice_get table.now.rows row }
 {
     table.rows.get(row as usize).copied()

@@ -91,7 +91,7 @@ fn column_value(alloc: Global, row: &Row, column: &Expr) -> Result<Value, EvRefu
     match ev(alloc, column, row) {
         Ok(Cell::Int(number)) => Ok(Value::Int(number)),
         Ok(Cell::Text(text)) => Ok(Value::Text(text)),
-        Ok(Cell::Bool(_)) => Ok(Value::Int(0)),
+        Ok(Cell::Bool(truth)) => Ok(Value::Bool(truth)),
         Err(refusal) => Err(refusal),
     }
 }

@@ -126,6 +126,7 @@ module _ (keys : List ℕ) (aggs : List Agg) (rows : Rows) (numbers : AllByRecur
 valid_number : (v : Value) → IsValid v → FitsSigned w64 (number_of v)
 valid_number (value.Int n) valid = valid
 valid_number (value.Text t) valid = record { sfits = omega arith }
+valid_number (value.Bool b) valid = record { sfits = omega arith }
 
 valid_for : (row : Row) → IsValidRow row → (a : Agg) → HasNumber a row
 valid_for row valid agg.Count = tt

@@ -37,6 +37,7 @@ use Rattle.plan_laws.proofs.ValidValues.{IsWithin, aggregate_valid, length-value
 value_is : (v : Value) → IsValid v → IsValue (kind_of v) v
 value_is (value.Int n) valid = valid
 value_is (value.Text t) valid = valid
+value_is (value.Bool b) valid = valid
 
 pub row_is : (row : Row) → IsValidRow row → IsRow (map kind_of row) row
 row_is [] valid = tt

@@ -3,7 +3,7 @@ use Rattle.std.proofs.Common.{zero, suc, ◌≡◌, ◌||◌, refl, sym, ap, ◌
 use Rattle.std.specs.Bool.{Decides}
 use Rattle.std.specs.Cmp.Lexicographic.{pointwise, pointwise_decides}
 use Rattle.std.specs.List.{AllByRecursion, Contains, filter, list_all, list_any, slice_get}
-use Rattle.std.specs.Option.{option_and_then}
+use Rattle.std.specs.Option.{option_map}
 use Rattle.std.specs.Ordering.{is_le, is_ge}
 use Rattle.std.proofs.lemmas.Bool.{false≢true}
 use Rattle.std.proofs.lemmas.List.Elements.{All-from_recursion, recursion_from_All, All-filter, All-append, All-map, All-contains, All-contains_itself}
@@ -18,7 +18,6 @@ use Rattle.rows_core.specs.Value.{kind_of, value_cmp}
 use Rattle.scalar_ops.specs.declared.cell.Cell.{Cell}
 use Rattle.scalar_ops.specs.declared.cell.Cell.TheVariants as cell
 use Rattle.scalar_ops.specs.declared.cell.CellKind.{CellKind}
-use Rattle.scalar_ops.specs.declared.cell.CellKind.TheVariants as cell_kind
 use Rattle.scalar_ops.specs.Cells.{kind_of_cell}
 use Rattle.scalar_ops.specs.Division.{floor_div}
 use Rattle.scalar_ops.specs.Meaning.{fits_i64, overflow}
@@ -65,18 +64,21 @@ filter_same_kinds test kinds out is = (cond_some (is_truth (expression_kind kind
 
 -- ---- columns
 
-value_typed : (c : Cell) (k : CellKind) (j : Kind) → kind_of_cell c ≡ k → column_kind k ≡ Some j → kind_of (value_of_cell c) ≡ j
-value_typed (cell.Int n) k j same is = let one : k ≡ cell_kind.Int = sym same in let two : column_kind cell_kind.Int ≡ Some j = ap column_kind (sym one) ∙ is in cc
-value_typed (cell.Text t) k j same is = let one : k ≡ cell_kind.Text = sym same in let two : column_kind cell_kind.Text ≡ Some j = ap column_kind (sym one) ∙ is in cc
-value_typed (cell.Bool b) k j same is = let one : k ≡ cell_kind.Bool = sym same in let two : column_kind cell_kind.Bool ≡ Some j = ap column_kind (sym one) ∙ is in absurd (cc)
+kind_of_its_value : (c : Cell) → kind_of (value_of_cell c) ≡ column_kind (kind_of_cell c)
+kind_of_its_value (cell.Int n) = refl
+kind_of_its_value (cell.Text t) = refl
+kind_of_its_value (cell.Bool b) = refl
 
-column_typed : (kinds : Kinds) (row : Row) → HasKinds kinds row → (e : PlainExpr) (v : Value) (j : Kind) → column_value e row ≡ Ok v → option_and_then column_kind (expression_kind kinds e) ≡ Some j → kind_of v ≡ j
+value_typed : (c : Cell) (k : CellKind) (j : Kind) → kind_of_cell c ≡ k → ◌≡◌ {A = Option Kind} (Some (column_kind k)) (Some j) → kind_of (value_of_cell c) ≡ j
+value_typed c k j same is = let its : column_kind k ≡ j = cc in kind_of_its_value c ∙ ap column_kind same ∙ its
+
+column_typed : (kinds : Kinds) (row : Row) → HasKinds kinds row → (e : PlainExpr) (v : Value) (j : Kind) → column_value e row ≡ Ok v → option_map column_kind (expression_kind kinds e) ≡ Some j → kind_of v ≡ j
 column_typed kinds row typed e v j is there =
     let c = both_ok (expression_value e row) (λ c. Ok (value_of_cell c)) v is in
     let value : value_of_cell c.0 ≡ v = let h = c.2 in cc in
     ap kind_of (sym value) ∙ by c.0 c.1 (expression_kind kinds e) refl there
   where
-    by : (c : Cell) → expression_value e row ≡ Ok c → (o : Option CellKind) → expression_kind kinds e ≡ o → option_and_then column_kind o ≡ Some j → kind_of (value_of_cell c) ≡ j
+    by : (c : Cell) → expression_value e row ≡ Ok c → (o : Option CellKind) → expression_kind kinds e ≡ o → option_map column_kind o ≡ Some j → kind_of (value_of_cell c) ≡ j
     by c v None h k = absurd (cc)
     by c v (Some i) h k = value_typed c i j (typed_value e row i c (ap (λ l. expression_kind l e) typed ∙ h) v) k
 
@@ -85,7 +87,7 @@ pub project_typed : (columns : List PlainExpr) (kinds out_kinds : Kinds) (rows o
 project_typed columns kinds out_kinds rows out typed there is =
     All-from_recursion (HasKinds out_kinds) out
     (each_of (project_row columns) (HasKinds kinds) (HasKinds out_kinds)
-    (λ row r has gives. zipped (λ e. column_value e row) (λ e. option_and_then column_kind (expression_kind kinds e)) (column_typed kinds row has) columns out_kinds r (unless_some (is_empty columns) _ out_kinds there) gives)
+    (λ row r has gives. zipped (λ e. column_value e row) (λ e. option_map column_kind (expression_kind kinds e)) (column_typed kinds row has) columns out_kinds r (unless_some (is_empty columns) _ out_kinds there) gives)
     rows out (recursion_from_All (HasKinds kinds) rows typed) is)
 
 -- ---- the first of equal rows
@@ -139,6 +141,7 @@ number_typed z r v whole is = let same : Int z ≡ v = cc in ap kind_of (sym sam
 pub number_only : (o : Option Kind) (k : Kind) → number_kind o ≡ Some k → kind.Int ≡ k
 number_only (Some kind.Int) k is = cc
 number_only (Some kind.Text) k is = absurd (cc)
+number_only (Some kind.Bool) k is = absurd (cc)
 number_only None k is = absurd (cc)
 
 pub agg_typed : (kinds : Kinds) (row : Row) (rows : Rows) → AllByRecursion (HasKinds kinds) (row ∷ rows) → (a : Agg) (v : Value) (k : Kind) → aggregate_value a (row ∷ rows) ≡ Ok v → agg_kind kinds a ≡ Some k → kind_of v ≡ k
@@ -197,9 +200,9 @@ join_kinds_are on left right out is = (cond_some (list_all (pair_agrees left rig
 
 same_kind-Decides : (a b : Kind) → Decides (same_kind a b) (a ≡ b)
 same_kind-Decides kind.Int kind.Int = (λ e. refl, λ e. refl)
-same_kind-Decides kind.Int kind.Text = (λ e. absurd (false≢true e), λ e. cc)
-same_kind-Decides kind.Text kind.Int = (λ e. absurd (false≢true e), λ e. cc)
 same_kind-Decides kind.Text kind.Text = (λ e. refl, λ e. refl)
+same_kind-Decides kind.Bool kind.Bool = (λ e. refl, λ e. refl)
+same_kind-Decides _ _ = (λ e. absurd (false≢true e), λ e. cc)
 
 -- both lists have the kinds of the whole
 pub concat_kinds_are : (left right out : Kinds) → concat_kinds left right ≡ Some out → (left ≡ out) × (right ≡ out)

@@ -1,7 +1,7 @@
 -- What the typing of a plan says of its parts.
 use Rattle.std.proofs.Common.{◌≡◌, refl, sym, ap, ◌∙◌, subst, ℕ, ◌≤◌, true, List, [], ◌∷◌, ◌++◌, map, length, take, drop, All, Ok, Option, None, Some, IfOk, IsSome, arith}
 use Rattle.std.specs.List.{AllByRecursion}
-use Rattle.std.specs.Option.{option_and_then}
+use Rattle.std.specs.Option.{option_map}
 use Rattle.std.proofs.lemmas.List.Elements.{All-from_recursion}
 use Rattle.std.proofs.lemmas.Option.{cond_some}
 use Rattle.rows_core.specs.declared.kind.Kind.{Kind}
@@ -54,15 +54,15 @@ test_typed law child test lists rows (schemas, typed, of) is =
 
 -- ---- columns
 
-kind_there : (o : Option CellKind) (k : Kind) → option_and_then column_kind o ≡ Some k → IsSome o
+kind_there : (o : Option CellKind) (k : Kind) → option_map column_kind o ≡ Some k → IsSome o
 kind_there (Some c) k is = refl
 kind_there None k is = absurd (cc)
 
-columns_have_kinds : (kinds : Kinds) (columns : List code.Expr) (out : Kinds) → all_there (map (λ e. option_and_then column_kind (expression_kind kinds e)) (map expr_of columns)) ≡ Some out
+columns_have_kinds : (kinds : Kinds) (columns : List code.Expr) (out : Kinds) → all_there (map (λ e. option_map column_kind (expression_kind kinds e)) (map expr_of columns)) ≡ Some out
     → AllByRecursion (λ column. IsTyped kinds (expr_of column)) columns
 columns_have_kinds kinds [] out is = tt
 columns_have_kinds kinds (column ∷ columns) out is =
-    let front = there_front _ (map (λ e. option_and_then column_kind (expression_kind kinds e)) (map expr_of columns)) out is in
+    let front = there_front _ (map (λ e. option_map column_kind (expression_kind kinds e)) (map expr_of columns)) out is in
     (kind_there (expression_kind kinds (expr_of column)) front.0 front.2, columns_have_kinds kinds columns front.1 front.3)
 
 pub columns_typed : GivesTypedRows → (child : PlainPlan) (columns : List code.Expr) (lists : List Rows) (rows : Rows) → IsTypedOn (Project child (map expr_of columns)) lists → plan_meaning child lists ≡ Ok rows

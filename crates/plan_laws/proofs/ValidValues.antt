@@ -1,7 +1,7 @@
 -- Typed expressions with valid literals have valid values at valid rows, and so do the columns and aggregates of rows.
 use Rattle.std.proofs.Common.{zero, suc, ◌≡◌, refl, sym, subst, ℕ, ◌-◌, ◌*◌, ◌/◌, ◌^◌, ◌<◌, ◌≤◌, ℤ, pos, negsuc, neg_ℤ, ◌+ℤ◌, ◌≤ℤ◌, Bool, true, false, ◌&&◌, not, cond, List, [], ◌∷◌, map, length, Result, Ok, Err, Option, None, Some, FitsSigned, w64, arith}
 use Rattle.std.specs.List.{AllByRecursion}
-use Rattle.std.specs.Option.{option_and_then}
+use Rattle.std.specs.Option.{option_map}
 use Rattle.std.specs.Ordering.{is_le, is_ge}
 use Rattle.std.proofs.lemmas.Int.{ints}
 use Rattle.std.proofs.lemmas.List.{length-map}
@@ -55,11 +55,12 @@ columns_valid row (i ∷ columns) valid = (column_valid row i valid, columns_val
 cell_of-valid : (v : Value) → IsValid v → IsCell (cell_of_value v)
 cell_of-valid (value.Int n) valid = valid
 cell_of-valid (value.Text t) valid = valid
+cell_of-valid (value.Bool b) valid = valid
 
 value_of-valid : (c : Cell) → IsCell c → IsValid (value_of_cell c)
 value_of-valid (cell.Int n) valid = valid
 value_of-valid (cell.Text t) valid = valid
-value_of-valid (cell.Bool b) valid = nothing_valid
+value_of-valid (cell.Bool b) valid = valid
 
 -- ---- expressions
 
@@ -141,15 +142,15 @@ module _ (cells_are : GivesCells) (kinds : Kinds) (row : Row) (valid : IsValidRo
 abbrev pub HasKindAndCells : Kinds → PlainExpr → Type 0
 HasKindAndCells kinds e = HasCells e × ((k : CellKind) × (expression_kind kinds e ≡ Some k))
 
-kind_there : (o : Option CellKind) (k : Kind) → option_and_then column_kind o ≡ Some k → (c : CellKind) × (o ≡ Some c)
+kind_there : (o : Option CellKind) (k : Kind) → option_map column_kind o ≡ Some k → (c : CellKind) × (o ≡ Some c)
 kind_there (Some c) k is = (c, refl)
 kind_there None k is = absurd cc
 
 pub columns_there : (kinds : Kinds) (columns : List PlainExpr) (out : Kinds) → HaveCells columns
-    → all_there (map (λ e. option_and_then column_kind (expression_kind kinds e)) columns) ≡ Some out → AllByRecursion (HasKindAndCells kinds) columns
+    → all_there (map (λ e. option_map column_kind (expression_kind kinds e)) columns) ≡ Some out → AllByRecursion (HasKindAndCells kinds) columns
 columns_there kinds [] out have is = tt
 columns_there kinds (e ∷ columns) out have is =
-    let front = there_front _ (map (λ e. option_and_then column_kind (expression_kind kinds e)) columns) out is in
+    let front = there_front _ (map (λ e. option_map column_kind (expression_kind kinds e)) columns) out is in
     ((have.0, kind_there (expression_kind kinds e) front.0 front.2), columns_there kinds columns front.1 have.1 front.3)
 
 -- ---- aggregates
@@ -197,6 +198,7 @@ pub number_within : (v : Value) → IsValid v → IsWithin 1 (number_of v)
 number_within (value.Int (pos n)) valid = record { low = omega (arith, ints, valid.sfits); high = omega (arith, ints, valid.sfits) }
 number_within (value.Int (negsuc n)) valid = record { low = omega (arith, ints, valid.sfits); high = omega (arith, ints, valid.sfits) }
 number_within (value.Text t) valid = record { low = omega (arith, ints); high = omega (arith, ints) }
+number_within (value.Bool b) valid = record { low = omega (arith, ints); high = omega (arith, ints) }
 
 pub added_within : (n : ℕ) (z s : ℤ) → IsWithin 1 z → IsWithin n s → IsWithin (suc n) (z +ℤ s)
 added_within n z s one others =

@@ -3,13 +3,14 @@ use Rattle.std.specs.Prelude.{List, length, ◌<◌, ◌^◌, FitsSigned}
 use Rattle.std.specs.Int.{w64}
 use Rattle.std.specs.List.{AllByRecursion}
 use Rattle.rows_core.specs.declared.value.Value.{Value}
-use Rattle.rows_core.specs.declared.value.Value.TheVariants.{Int, Text}
+use Rattle.rows_core.specs.declared.value.Value.TheVariants.{Int, Text, Bool}
 use Rattle.rows_core.specs.Txt.{IsTxt}
 use Rattle.plan_core.specs.Columns.{Row, Rows}
 
 abbrev pub IsValid : Value → Type 0
 IsValid (Int n) = FitsSigned w64 n
 IsValid (Text t) = IsTxt t
+IsValid (Bool b) = Unit {0}
 
 abbrev pub IsValidRow : Row → Type 0
 IsValidRow = AllByRecursion IsValid

@@ -138,7 +138,7 @@ exprs_spelled : (kinds : Kinds) → IsFew kinds → (es : List PlainExpr) (out :
 exprs_spelled kinds few [] out is cells = tt
 exprs_spelled kinds few (e ∷ es) out is cells =
     let front = there_front (column_kind_of kinds e) (map (column_kind_of kinds) es) out is in
-    let own = and_then column_kind (expression_kind kinds e) front.0 front.2 in
+    let own = mapped column_kind (expression_kind kinds e) front.0 front.2 in
     (expr_spelled kinds few e own.0 own.1 cells.0, exprs_spelled kinds few es front.1 front.3 cells.1)
 
 agg_spelled : (kinds : Kinds) → IsFew kinds → (a : Agg) (k : Kind) → agg_kind kinds a ≡ Some k → HasAggSpelling a

@@ -12,7 +12,7 @@ ghost use Rattle.plan_spelling.specs.Reading.{expr_behind, call_behind};
 use crate::tag::ExprTag;
 use byte_formats::{Unread, flag_at, i64_at, text_at, u32_at};
 use plan_core::Expr;
-use scalar_ops::{Args, Cell, OPS, OpTable};
+use scalar_ops::{Args, Cell, OPS, Operations};
 use std::alloc::Global;
 
 /// An expression of at most this nesting.
@@ -63,7 +63,7 @@ fn args_of(row: u8) -> Option<Args>
     args_in(&table, row)
 }
 
-fn args_in(table: &OpTable<24>, row: u8) -> Option<Args>
+fn args_in(table: &Operations, row: u8) -> Option<Args>
     ensures { result ≡ option_map (λ r. r.args) (slice_get table.now.rows row) }
 {
     table.rows.get(row as usize).map(|row| row.args)

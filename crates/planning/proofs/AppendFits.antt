@@ -10,7 +10,7 @@ use Rattle.std.proofs.lemmas.Option.{slice_get_cases}
 use Rattle.std.proofs.lemmas.Bool.{or_parts}
 use Rattle.rows_core.specs.declared.kind.Kind.{Kind}
 use Rattle.rows_core.specs.declared.value.Value.{Value}
-use Rattle.rows_core.specs.declared.value.Value.TheVariants.{Int, Text}
+use Rattle.rows_core.specs.declared.value.Value.TheVariants.{Int, Text, Bool as Truth}
 use Rattle.rows_core.specs.Schema.{kinds_of}
 use Rattle.rows_core.specs.Value.{kind_of}
 use Rattle.row_blob.specs.declared.kept.Kept.{Kept}
@@ -24,7 +24,8 @@ use Rattle.catalog_types.specs.declared.change.Change.TheVariants as change
 use Rattle.catalog_types.specs.declared.snapshot.StreamState.{StreamState}
 use Rattle.catalog_core.specs.IsTable.{IsStream, IsTable}
 use Rattle.catalog_core.specs.Programs.{extents_at}
-use Rattle.catalog_core.specs.Table.{Table, FitsAppend, row_count, most_ticks, file_end, most_extents, most_extents_in_all, most_extent_bytes, place_of, extent_count}
+use Rattle.catalog_core.specs.Table.{Table, FitsAppend, row_count, place_of, extent_count}
+use Rattle.rows_core.specs.Limits.{most_ticks, file_end, most_extents, most_extents_in_all, most_extent_bytes}
 use Rattle.record_codec.specs.Spelling.{extent_with}
 use Rattle.script_text.specs.declared.answer.LimitKind.TheVariants as limit
 use Rattle.script_text.specs.declared.answer.Refusal.{Refusal}
@@ -38,6 +39,8 @@ use Rattle.planning.specs.Recorded.{IsRecordOf}
 -- ---- a row has a byte
 
 some_byte : (value : Value) → 0 < length (value_spelling value)
+some_byte (Truth true) = omega arith
+some_byte (Truth false) = omega arith
 some_byte (Int number) = let eight : length (value_spelling (Int number)) ≡ 8 = refl in omega (arith, eight)
 some_byte (Text text) = let four : length (to_be_bytes w32 (length text)) ≡ 4 = refl in omega (arith, four, length-append (to_be_bytes w32 (length text)) text)
 
@@ -58,6 +61,7 @@ rows_bytes kinds (row ∷ rows) some loose =
 
 is_value : (value : Value) → line.IsLoose value → is_long value ≡ false → IsValue (kind_of value) value
 is_value (Int number) loose short = loose
+is_value (Truth truth) loose short = tt
 is_value (Text text) loose short = (loose, (let bound : nat_lt 1000 (length text) ≡ false = short in grind (arith, nat_tests)))
 
 is_row : (row : List Value) → AllByRecursion line.IsLoose row → list_any is_long row ≡ false → IsRow (map kind_of row) row

@@ -11,7 +11,7 @@ use Rattle.collector.specs.Ratio.{CanBeRanked}
 use Rattle.collector.specs.Victims.{HaveOwnIds}
 use Rattle.entry_table.specs.AreKept.{IsEntry, IsPast}
 use Rattle.entry_table.specs.Ids.{ids_of, ascend_above, is_there}
-use Rattle.entry_table.specs.Results.{most_result_bytes, file_end}
+use Rattle.rows_core.specs.Limits.{most_result_bytes, file_end}
 use Rattle.catalog_core.specs.IsTable.{IsTable}
 use Rattle.catalog_core.specs.Table.{Table}
 use Rattle.catalog_core.proofs.AskedResults.{found-own}

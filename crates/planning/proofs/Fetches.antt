@@ -11,7 +11,8 @@ use Rattle.plan_binder.specs.Binding.{Names, binding}
 use Rattle.catalog_types.specs.declared.program.Program.{Program}
 use Rattle.catalog_core.specs.Programs.{names_of, columns_of, AreCuts}
 use Rattle.catalog_core.specs.Stored.{IsStoredPlan}
-use Rattle.catalog_core.specs.Table.{Table, most_ticks}
+use Rattle.catalog_core.specs.Table.{Table}
+use Rattle.rows_core.specs.Limits.{most_ticks}
 use Rattle.catalog_core.specs.declared.stored.StoredPlan.{StoredPlan}
 use Rattle.script_text.specs.declared.answer.LimitKind.TheVariants as limit
 use Rattle.script_text.specs.declared.answer.Refusal.{Refusal}

@@ -13,7 +13,7 @@ use Rattle.collector.proofs.Choices.{AreKnown, first_goes}
 use Rattle.collector.proofs.Lists.{first_in, behind_in, in_cases}
 use Rattle.collector.proofs.Ranks.{not_before_itself}
 use Rattle.collector.proofs.Taking.{CanGo, known_entries}
-use Rattle.entry_table.specs.Results.{most_entries, most_result_bytes}
+use Rattle.rows_core.specs.Limits.{most_entries, most_result_bytes}
 use Rattle.catalog_core.specs.IsTable.{IsTable}
 use Rattle.catalog_core.specs.Table.{Table}
 use Rattle.catalog_core.proofs.AskedResults.{found-own}

@@ -1,6 +1,5 @@
 pub mod AppendFits
 pub mod AppendLemmas
-pub mod Ascending
 pub mod Collections
 pub mod Entries
 pub mod Fetches

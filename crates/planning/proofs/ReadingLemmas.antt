@@ -7,13 +7,14 @@ use Rattle.std.proofs.lemmas.List.Folds.{list_any-append}
 use Rattle.std.proofs.Math.Bool.{or-false}
 use Rattle.rows_core.specs.declared.kind.Kind.{Kind}
 use Rattle.rows_core.specs.declared.value.Value.{Value}
-use Rattle.rows_core.specs.declared.value.Value.TheVariants.{Int, Text}
+use Rattle.rows_core.specs.declared.value.Value.TheVariants.{Int, Text, Bool as Truth}
 use Rattle.row_text.specs.RowSpelling.{row_spelling, IsLooseRow, IsShort, HasLong}
 use Rattle.planning.specs.Rows.{Spell, SpellsRow, SpellsNone, SpellLong, IsFirstBad, is_long, have_long}
 
 short_row : (row : List Value) → AllByRecursion IsShort row → list_any is_long row ≡ false
 short_row [] short = refl
 short_row (Int number ∷ row) short = short_row row short.1
+short_row (Truth truth ∷ row) short = short_row row short.1
 short_row (Text text ∷ row) short =
     let rest = short_row row short.1 in
     let here : nat_lt 1000 (length text) ≡ false = let bound : length text ≤ 1000 = short.0 in grind (arith, nat_tests) in
@@ -22,6 +23,7 @@ short_row (Text text ∷ row) short =
 long_row : (row : List Value) → HasLong row → list_any is_long row ≡ true
 long_row [] long = absurd long
 long_row (Int number ∷ row) long = elim long [ inl none ↦ absurd none | inr rest ↦ long_row row rest ]
+long_row (Truth truth ∷ row) long = elim long [ inl none ↦ absurd none | inr rest ↦ long_row row rest ]
 long_row (Text text ∷ row) long = elim long [ inl here ↦ ap (λ b. b || list_any is_long row) (over here) | inr rest ↦ by (nat_lt 1000 (length text)) (long_row row rest) ]
   where
     over : 1000 < length text → nat_lt 1000 (length text) ≡ true

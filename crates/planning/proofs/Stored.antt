@@ -10,7 +10,8 @@ use Rattle.plan_text.specs.Canonical.{canonical_text}
 use Rattle.catalog_types.specs.declared.program.Program.{Program}
 use Rattle.catalog_types.specs.declared.snapshot.StreamState.{StreamState}
 use Rattle.catalog_core.specs.Programs.{AreCuts, IsProgram, kinds_of_streams, with_program, is_below, below, above}
-use Rattle.catalog_core.specs.Table.{Table, most_ticks, most_programs}
+use Rattle.catalog_core.specs.Table.{Table}
+use Rattle.rows_core.specs.Limits.{most_ticks, most_programs}
 use Rattle.planning.specs.Opening.{IsOpenPlan}
 use Rattle.planning.specs.Running.{Run, bound_plan, whole_cut, cuts_of, run_of, target_of, IsTypedAt, IsRunPlan}
 

@@ -13,7 +13,8 @@ use Rattle.catalog_types.specs.declared.change.Change.TheVariants as change
 use Rattle.catalog_types.specs.declared.extent.Extent.{Extent}
 use Rattle.catalog_types.specs.declared.snapshot.StreamState.{StreamState}
 use Rattle.catalog_core.specs.Programs.{extents_at}
-use Rattle.catalog_core.specs.Table.{Table, most_ticks, file_end, most_extents, most_extents_in_all, most_extent_bytes, place_of, extent_count, row_count}
+use Rattle.catalog_core.specs.Table.{Table, place_of, extent_count, row_count}
+use Rattle.rows_core.specs.Limits.{most_ticks, file_end, most_extents, most_extents_in_all, most_extent_bytes}
 use Rattle.script_text.specs.declared.answer.LimitKind.TheVariants as limit
 use Rattle.script_text.specs.declared.answer.Refusal.{Refusal}
 use Rattle.script_text.specs.declared.answer.Refusal.TheVariants.{Limit, Unknown, Row}

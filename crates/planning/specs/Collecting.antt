@@ -1,11 +1,10 @@
 -- What a collection takes, and what is recorded of it.
 use Rattle.std.specs.Prelude.{◌≡◌, ℕ, ◌+◌, ◌^◌, ◌<◌, ◌≤◌, List, length, map, sum_by}
-use Rattle.std.specs.List.Sorted.{IsPermutation}
 use Rattle.rows_core.specs.declared.file_ref.FileRef.{FileRef}
 use Rattle.rewrite_core.specs.Files.{Result}
 use Rattle.catalog_types.specs.declared.change.Change.TheVariants as change
 use Rattle.collector.specs.Victims.{Collection, AreVictims}
-use Rattle.entry_table.specs.Results.{most_entries}
+use Rattle.rows_core.specs.Limits.{most_entries}
 use Rattle.catalog_core.specs.Named.{file_at}
 use Rattle.catalog_core.specs.Table.{Table, Fits}
 use Rattle.record_codec.specs.Spelling.{change_spelling, HasChangeSpelling}
@@ -32,13 +31,11 @@ pub record IsCollection (t : Table) (held : List ℕ) (wanted : ℕ) (ids : List
   pub victims : AreVictims t.entries (collection_of t held) wanted ids
   pub is_bytes : bytes ≡ bytes_of t ids
 
--- The ids of the collection are recorded in ascending order. The change of them fits the table; its bytes are its
+-- The ids of the collection are recorded as they go, in the same order. The change of them fits the table; its bytes are its
 -- spelling, and are few. The files are those of the results that go.
 pub record IsCollectionPlan (t : Table) (held : List ℕ) (wanted : ℕ) (plan : CollectionPlan) : Type 0 where
   pub collection : IsCollection t held wanted plan.ids.items plan.bytes
-  pub ascending : List ℕ
-  pub same : IsPermutation plan.ids.items ascending
-  pub change : plan.change ≡ change.Collect ascending
+  pub change : plan.change ≡ change.Collect plan.ids.items
   pub fits : Fits plan.change t
   pub spelled : HasChangeSpelling plan.change
   pub is_body : plan.body.items ≡ change_spelling plan.change

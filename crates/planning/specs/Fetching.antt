@@ -5,7 +5,8 @@ use Rattle.plan_core.specs.PlainPlan.{PlainPlan}
 use Rattle.catalog_types.specs.declared.program.Program.{Program}
 use Rattle.catalog_types.specs.declared.snapshot.StreamState.{StreamState}
 use Rattle.catalog_core.specs.Programs.{program_named, IsPlanOf}
-use Rattle.catalog_core.specs.Table.{Table, most_ticks}
+use Rattle.catalog_core.specs.Table.{Table}
+use Rattle.rows_core.specs.Limits.{most_ticks}
 use Rattle.script_text.specs.declared.answer.LimitKind.TheVariants as limit
 use Rattle.script_text.specs.declared.answer.Refusal.{Refusal}
 use Rattle.script_text.specs.declared.answer.Refusal.TheVariants.{Limit, Unknown}

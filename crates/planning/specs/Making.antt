@@ -4,7 +4,8 @@ use Rattle.rows_core.specs.declared.schema.Column.{Column}
 use Rattle.rows_core.specs.Schema.{has_repeat}
 use Rattle.catalog_types.specs.declared.change.Change.{Change}
 use Rattle.catalog_types.specs.declared.change.Change.TheVariants as change
-use Rattle.catalog_core.specs.Table.{Table, most_ticks, most_streams, place_of}
+use Rattle.catalog_core.specs.Table.{Table, place_of}
+use Rattle.rows_core.specs.Limits.{most_ticks, most_streams}
 use Rattle.script_text.specs.declared.answer.LimitKind.TheVariants as limit
 use Rattle.script_text.specs.declared.answer.Refusal.{Refusal}
 use Rattle.script_text.specs.declared.answer.Refusal.TheVariants.{Limit, Exists, IllTyped}

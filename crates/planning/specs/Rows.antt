@@ -3,7 +3,7 @@ use Rattle.std.specs.Prelude.{◌≡◌, ◌≢◌, ℕ, ◌+◌, Bool, false, n
 use Rattle.std.specs.List.{list_any, AllByRecursion}
 use Rattle.rows_core.specs.declared.kind.Kind.{Kind}
 use Rattle.rows_core.specs.declared.value.Value.{Value}
-use Rattle.rows_core.specs.declared.value.Value.TheVariants.{Int, Text}
+use Rattle.rows_core.specs.declared.value.Value.TheVariants.{Int, Text, Bool as Truth}
 use Rattle.script_text.specs.declared.answer.LimitKind.TheVariants as limit
 use Rattle.script_text.specs.declared.answer.Refusal.{Refusal}
 use Rattle.script_text.specs.declared.answer.Refusal.TheVariants.{Limit, Row, Memory}
@@ -45,6 +45,7 @@ Reads kinds lines (BadLine number) = IsFirstBad kinds lines number
 -- a text above 1,000 bytes
 abbrev pub is_long : Value → Bool
 is_long (Int number) = false
+is_long (Truth truth) = false
 is_long (Text text) = nat_lt 1000 (length text)
 
 -- some text of these rows is above 1,000 bytes

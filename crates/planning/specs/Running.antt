@@ -15,7 +15,8 @@ use Rattle.plan_binder.specs.Binding as binder
 use Rattle.catalog_types.specs.declared.program.Program.{Program}
 use Rattle.catalog_types.specs.declared.snapshot.StreamState.{StreamState}
 use Rattle.catalog_core.specs.Programs.{names_of, columns_of, kinds_of_streams, extents_at, most_text_bytes, with_program, AreCuts}
-use Rattle.catalog_core.specs.Table.{Table, most_ticks, most_programs, FitsProgram}
+use Rattle.catalog_core.specs.Table.{Table, FitsProgram}
+use Rattle.rows_core.specs.Limits.{most_ticks, most_programs}
 use Rattle.script_text.specs.declared.answer.LimitKind.TheVariants as limit
 use Rattle.script_text.specs.declared.answer.Refusal.{Refusal}
 use Rattle.script_text.specs.declared.answer.Refusal.TheVariants.{Limit, Unknown, IllTyped, Memory}

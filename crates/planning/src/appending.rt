@@ -10,22 +10,8 @@ ghost use Rattle.script_text.specs.declared.answer.Refusal.TheVariants.{Limit};
 
 use catalog_core::Catalog;
 use row_blob::{Kept, encoded_len};
+use rows_core::limits::{FILE_END, MAX_ALL_EXTENTS, MAX_EXTENT_BYTES, MAX_EXTENTS, MAX_TICKS};
 use script_text::LimitKind;
-
-/// The most bytes of an extent's file.
-const MAX_EXTENT_BYTES: u64 = 16_777_216;
-
-/// The most extents of one stream.
-const MAX_EXTENTS: usize = 65_535;
-
-/// The most extents of all streams together.
-const MAX_ALL_EXTENTS: usize = 262_144;
-
-/// The number behind the last file's.
-const FILE_END: u64 = 4_294_967_296;
-
-/// The most recorded commands.
-const MAX_TICKS: u32 = 4_294_967_295;
 
 // The first limit that an append of these rows, whose texts are short, to the stream at this place passes.
 pub(crate) fn limit_of_append(catalog: &Catalog, place: usize, kept: &Kept) -> Option<LimitKind>

@@ -2,7 +2,7 @@
 ghost use Rattle.std.specs.Prelude.{◌≡◌, ◌<◌, ◌≤◌, Ok, Err, IfSome, IfNone, length};
 ghost use Rattle.catalog_core.specs.Catalogs.{table_of};
 ghost use Rattle.catalog_core.specs.Programs.{with_program};
-ghost use Rattle.catalog_core.specs.Table.{most_ticks, most_programs};
+ghost use Rattle.rows_core.specs.Limits.{most_ticks, most_programs};
 ghost use Rattle.script_text.specs.declared.answer.Refusal.TheVariants.{Limit};
 ghost use Rattle.planning.specs.Running.{Run, storing};
 

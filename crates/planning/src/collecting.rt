@@ -1,8 +1,7 @@
 //! What a collection records.
 ghost use Rattle.std.specs.Prelude.{◌≡◌, ◌<◌, ◌↔◌, IfOk, IsErrOf};
-ghost use Rattle.std.specs.List.Sorted.{IsPermutation, IsNonDecreasing};
 ghost use Rattle.catalog_core.specs.Catalogs.{table_of};
-ghost use Rattle.catalog_core.specs.Table.{most_ticks};
+ghost use Rattle.rows_core.specs.Limits.{most_ticks};
 ghost use Rattle.planning.specs.Collecting.{IsCollectionPlan};
 
 use crate::collected_files::{bytes_of, files_of};
@@ -11,11 +10,9 @@ use catalog_core::Catalog;
 use catalog_types::Change;
 use collector::victims;
 use record_codec::{small_changes, spell_change};
+use rows_core::limits::MAX_TICKS;
 use rows_core::{Memory, Seq};
 use std::alloc::Global;
-
-/// The most recorded commands.
-const MAX_TICKS: u32 = 4_294_967_295;
 
 /// For so many ticks a new result may not go.
 const NO_LEASE: u32 = 0;
@@ -23,7 +20,7 @@ const NO_LEASE: u32 = 0;
 /// A collection that is to be recorded.
 #[derive(Drop)]
 pub struct CollectionPlan {
-    /// The change, and the bytes that are recorded of it.
+    /// The change of these ids, and the bytes that are recorded of it.
     pub change: Change,
     pub body: Vec<u8>,
     /// The ids of the kept results that go, in the order of going.
@@ -35,8 +32,8 @@ pub struct CollectionPlan {
 }
 
 /// What a collection of at least `reclaim` bytes records over a catalogue: the kept results that go are those
-/// that `victims` gives at the next tick, but for those with a held id. Nothing is leased. The files that it
-/// leaves to be removed are those of the results that go. `Commands` exactly where no more commands may be
+/// that `victims` gives at the next tick, but for those with a held id, in the order of going. Nothing is
+/// leased. The files that it leaves to be removed are those of the results that go. `Commands` exactly where no more commands may be
 /// recorded, else `Memory` where memory was asked for and refused.
 pub fn plan_collection(
     alloc: Global,
@@ -76,9 +73,9 @@ fn collect_next(
     )?;
     let files = files_of(alloc, catalog, &ids)?;
     let bytes = bytes_of(catalog, &ids);
-    let ascending = in_ascending_order(alloc, &ids)?;
+    let recorded = Vec::from_slice(alloc, &ids)?;
     let change = Change::Collect {
-        ids: Seq::new(ascending),
+        ids: Seq::new(recorded),
     };
     let body = spell_change(alloc, &change)?;
     Ok(CollectionPlan {
@@ -88,14 +85,4 @@ fn collect_next(
         files,
         bytes,
     })
-}
-
-// The same ids in ascending order.
-fn in_ascending_order(alloc: Global, ids: &[u32]) -> Result<Vec<u32>, Memory>
-    ensures same { IfOk result (λ ascending. IsPermutation ids.now ascending.items) }
-    ensures ascends { IfOk result (λ ascending. IsNonDecreasing ascending.items) }
-{
-    let mut ascending = Vec::from_slice(alloc, ids)?;
-    ascending.sort_unstable();
-    Ok(ascending)
 }

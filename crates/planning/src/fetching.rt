@@ -10,12 +10,10 @@ use crate::program::whole_cuts;
 use catalog_core::{Catalog, StoredPlan};
 use plan_binder::bind_laws;
 use plan_core::Typed;
+use rows_core::limits::MAX_TICKS;
 use rows_core::{Cut, Memory, Name, Seq};
 use script_text::{LimitKind, Refusal};
 use std::alloc::Global;
-
-/// The most recorded commands.
-const MAX_TICKS: u32 = 4_294_967_295;
 
 /// A fetch of a plan.
 #[derive(Drop)]

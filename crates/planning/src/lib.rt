@@ -24,7 +24,7 @@ pub use accepting::{Accepted, accept_append};
 pub use append_plan::{AppendPlan, plan_append};
 pub use closing::plan_close;
 pub use collecting::{CollectionPlan, plan_collection};
-pub use collection_laws::{one_collection, same_collection_in_any_order};
+pub use collection_laws::one_collection;
 pub use collection_refusal::CollectionRefusal;
 pub use fetching::{FetchPlan, plan_fetch};
 pub use making::plan_stream;

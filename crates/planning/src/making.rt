@@ -5,6 +5,7 @@ ghost use Rattle.rows_core.specs.Schema.{IsSchema};
 ghost use Rattle.catalog_types.specs.declared.change.Change.TheVariants as change;
 ghost use Rattle.catalog_core.specs.Catalogs.{table_of};
 ghost use Rattle.catalog_core.specs.Table.{place_of, Fits};
+ghost use Rattle.record_codec.specs.Forms.{newest};
 ghost use Rattle.record_codec.specs.Spelling.{change_spelling, HasChangeSpelling, IsColumn};
 ghost use Rattle.planning.specs.Making.{making, adding};
 ghost use Rattle.planning.specs.Recorded.{IsRecordOf};
@@ -13,18 +14,13 @@ use crate::recording::{Recording, recording_of};
 use catalog_core::Catalog;
 use catalog_types::Change;
 use record_codec::small_changes;
+use rows_core::limits::{MAX_STREAMS, MAX_TICKS};
 use rows_core::{Column, Name, Seq, has_repeat};
 use script_text::{LimitKind, Refusal};
 use std::alloc::Global;
 
 /// The most columns of a stream.
 const MAX_COLUMNS: usize = 32;
-
-/// The most streams.
-const MAX_STREAMS: usize = 1_024;
-
-/// The most recorded commands.
-const MAX_TICKS: u32 = 4_294_967_295;
 
 /// What the making of a stream records, or why it is refused: `Exists` where the name is a stream's, else
 /// `IllTyped` where two columns have one name, else the first of the limits of columns, streams and commands
@@ -92,9 +88,10 @@ fn add_stream(catalog: &Catalog, name: Name, columns: Seq<Column>) -> Result<Cha
     Ok(Change::Stream { name, columns })
 }
 
-// The columns' names are names, which their type says. It reads them, and does nothing else.
+// The columns' names are names, which their type says, and the newest form has each kind. It reads them, and
+// does nothing else.
 fn read_names(columns: &[Column])
-    ensures { AllByRecursion IsColumn columns.now }
+    ensures { AllByRecursion (IsColumn newest) columns.now }
 {
     if let [column, others @ ..] = columns {
         let _ = column.name.bytes();

@@ -5,7 +5,7 @@ ghost use Rattle.plan_text.specs.Canonical.{canonical_text};
 ghost use Rattle.catalog_core.specs.Catalogs.{table_of};
 ghost use Rattle.catalog_core.specs.Programs.{most_text_bytes, with_program, below, above};
 ghost use Rattle.catalog_core.specs.Streams.{states_of};
-ghost use Rattle.catalog_core.specs.Table.{most_ticks, most_programs};
+ghost use Rattle.rows_core.specs.Limits.{most_ticks, most_programs};
 ghost use Rattle.script_text.specs.declared.answer.Refusal.TheVariants.{Limit};
 ghost use Rattle.planning.specs.Running.{Run, storing, whole_cut};
 
@@ -13,6 +13,7 @@ use crate::extents::extents_at;
 use catalog_core::{Catalog, CatalogStream, is_below};
 use catalog_types::Program;
 use plan_text::{NamedPlan, print_plan};
+use rows_core::limits::MAX_TICKS;
 use rows_core::{Cut, Memory, Name, Seq};
 use script_text::LimitKind;
 use std::alloc::Global;
@@ -22,9 +23,6 @@ const MAX_TEXT_BYTES: usize = 65_536;
 
 /// The most programs.
 const MAX_PROGRAMS: usize = 1_024;
-
-/// The most recorded commands.
-const MAX_TICKS: u32 = 4_294_967_295;
 
 // The program of this plan, whose leaves are these streams, over all of their extents.
 pub(crate) fn program_of(

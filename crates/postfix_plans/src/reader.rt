@@ -9,7 +9,7 @@
 use anyhow::{Context, Result};
 use plan_core::{Agg, Expr, Plan};
 use rows_core::{Key, Seq, Txt};
-use scalar_ops::{Args, Cell, OPS, OpTable};
+use scalar_ops::{Args, Cell, OPS, Operations};
 use std::alloc::Global;
 
 /// The parts that were read and not yet taken.
@@ -240,7 +240,7 @@ fn has_one_argument(row: u32) -> bool {
     is_of_one(&table, row)
 }
 
-fn is_of_one(table: &OpTable<24>, row: u32) -> bool {
+fn is_of_one(table: &Operations, row: u32) -> bool {
     match table.rows.get(row as usize) {
         Some(row) => matches!(row.args, Args::One(_)),
         None => false,

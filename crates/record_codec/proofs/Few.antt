@@ -14,8 +14,9 @@ use Rattle.catalog_types.specs.declared.change.Change.TheVariants.{Stream, Appen
 use Rattle.catalog_types.specs.declared.extent.Extent.{Extent}
 use Rattle.catalog_types.specs.declared.program.Program.{Program}
 use Rattle.catalog_types.specs.declared.snapshot.StreamState.{StreamState}
+use Rattle.record_codec.specs.declared.form.Form.{Form}
 use Rattle.record_codec.specs.Parts.{column_parts, program_parts, program_if_parts, new_entry_parts, entry_parts, stream_parts, change_parts}
-use Rattle.record_codec.specs.Spelling.{listed, sized_spelling, byte_of_kind, column_spelling, cut_spelling, extent_spelling, program_spelling, program_if_spelling, new_entry_spelling, entry_spelling, uses_spelling, stream_spelling, change_spelling, kept_of}
+use Rattle.record_codec.specs.Spelling.{listed, sized_spelling, byte_of_kind, column_spelling, cut_spelling, extent_spelling, program_spelling, program_if_spelling, new_entry_spelling, entry_spelling, uses_spelling, stream_spelling, spelling_in, kept_of}
 
 -- ---- lists
 
@@ -73,10 +74,10 @@ stream_few s =
 
 -- ---- changes
 
-pub change_few : (c : Change) → change_parts c ≤ length (change_spelling c)
-change_few (Stream name columns) = omega (arith, length-append (name_spelling name) (counted column_spelling columns), columns_few columns)
-change_few (Append stream extent) = omega arith
-change_few (Work program reads dropped kept) =
+pub change_few : (f : Form) (c : Change) → change_parts c ≤ length (spelling_in f c)
+change_few f (Stream name columns) = omega (arith, length-append (name_spelling name) (counted column_spelling columns), columns_few columns)
+change_few f (Append stream extent) = omega arith
+change_few f (Work program reads dropped kept) =
     omega (
       arith,
       length-append (program_if_spelling program) (listed (to_be_bytes w32) reads ++ (listed (to_be_bytes w32) dropped ++ listed new_entry_spelling kept)),
@@ -87,8 +88,8 @@ change_few (Work program reads dropped kept) =
       numbers_few dropped,
       sum_few new_entry_parts new_entry_spelling new_entry_few kept,
     )
-change_few (Collect ids) = omega (arith, numbers_few ids)
-change_few (Checkpoint whole) =
+change_few f (Collect ids) = omega (arith, numbers_few ids)
+change_few f (Checkpoint whole) =
     omega (
       arith,
       length-append (flat_map stream_spelling whole.streams) (listed program_spelling whole.programs ++ listed entry_spelling whole.entries),
@@ -98,5 +99,5 @@ change_few (Checkpoint whole) =
       sum_few entry_parts entry_spelling entry_few whole.entries,
     )
 
-pub few_of : (bytes : List ℕ) (c : Change) → bytes ≡ change_spelling c → change_parts c ≤ length bytes
-few_of bytes c is = omega (arith, change_few c, ap length is)
+pub few_of : (f : Form) (bytes : List ℕ) (c : Change) → bytes ≡ spelling_in f c → change_parts c ≤ length bytes
+few_of f bytes c is = omega (arith, change_few f c, ap length is)

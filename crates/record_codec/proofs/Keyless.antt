@@ -6,8 +6,10 @@ use Rattle.catalog_types.specs.PlainEntry.{PlainEntry}
 use Rattle.catalog_types.specs.declared.change.Change.{Change}
 use Rattle.catalog_types.specs.declared.change.Change.TheVariants as change
 use Rattle.catalog_types.specs.declared.snapshot.Snapshot.{Snapshot}
-use Rattle.record_codec.specs.Spelling.{listed, entry_spelling, program_spelling, stream_spelling, snapshot_spelling, change_spelling, HasEntrySpelling, HasSnapshotSpelling, HasChangeSpelling, AreById, keyless_entry, keyless_snapshot, keyless}
-use Rattle.record_codec.specs.Formats.{IsSpelledChange}
+use Rattle.record_codec.specs.Spelling.{listed, entry_spelling, program_spelling, stream_spelling, snapshot_spelling, spelling_in, HasEntrySpelling, HasSnapshotSpelling, HasSpellingIn, AreById, keyless_entry, keyless_snapshot, keyless}
+use Rattle.record_codec.specs.declared.form.Form.{Form}
+use Rattle.record_codec.specs.Forms.{checkpoint_byte}
+use Rattle.record_codec.specs.Formats.{IsSpelledIn}
 
 length_keyless : (entries : List PlainEntry) → length (map keyless_entry entries) ≡ length entries
 length_keyless [] = refl
@@ -39,21 +41,21 @@ snapshot_spelled s =
     (λ (l : List ℕ). to_be_bytes w32 s.tick ++ (to_be_bytes w64 s.next_file ++ (to_be_bytes w64 s.next_id ++ (listed stream_spelling s.streams ++ (listed program_spelling s.programs ++ l)))))
     (listed_entries s.entries)
 
-snapshot_has : (s : Snapshot) → HasSnapshotSpelling s → HasSnapshotSpelling (keyless_snapshot s)
-snapshot_has s has =
+snapshot_has : (f : Form) (s : Snapshot) → HasSnapshotSpelling f s → HasSnapshotSpelling f (keyless_snapshot s)
+snapshot_has f s has =
     (has.0, has.1, has.2, has.3, has.4, ((subst (λ (n : ℕ). n < 2 ^ 32) (sym (length_keyless s.entries)) has.5.0.0, entries_have s.entries has.5.0.1), entries_by_id 0 s.entries has.5.1))
 
-pub keyless_spelled : (c : Change) → change_spelling (keyless c) ≡ change_spelling c
-keyless_spelled (change.Stream name columns) = refl
-keyless_spelled (change.Append stream extent) = refl
-keyless_spelled (change.Work program reads dropped kept) = refl
-keyless_spelled (change.Collect ids) = refl
-keyless_spelled (change.Checkpoint whole) = ap (λ (l : List ℕ). 0x06 ∷ l) (snapshot_spelled whole)
+pub keyless_spelled : (f : Form) (c : Change) → spelling_in f (keyless c) ≡ spelling_in f c
+keyless_spelled f (change.Stream name columns) = refl
+keyless_spelled f (change.Append stream extent) = refl
+keyless_spelled f (change.Work program reads dropped kept) = refl
+keyless_spelled f (change.Collect ids) = refl
+keyless_spelled f (change.Checkpoint whole) = ap (λ (l : List ℕ). checkpoint_byte f ∷ l) (snapshot_spelled whole)
 
-pub keyless_is : (c : Change) → HasChangeSpelling c → IsSpelledChange (keyless c)
-keyless_is (change.Stream name columns) has = (has, refl)
-keyless_is (change.Append stream extent) has = (has, refl)
-keyless_is (change.Work program reads dropped kept) has = (has, refl)
-keyless_is (change.Collect ids) has = (has, refl)
-keyless_is (change.Checkpoint whole) has =
-    (snapshot_has whole has, ap (λ (entries : List PlainEntry). change.Checkpoint (record { tick = whole.tick; next_file = whole.next_file; next_id = whole.next_id; streams = whole.streams; programs = whole.programs; entries = entries })) (entries_twice whole.entries))
+pub keyless_is : (f : Form) (c : Change) → HasSpellingIn f c → IsSpelledIn f (keyless c)
+keyless_is f (change.Stream name columns) has = (has, refl)
+keyless_is f (change.Append stream extent) has = (has, refl)
+keyless_is f (change.Work program reads dropped kept) has = (has, refl)
+keyless_is f (change.Collect ids) has = (has, refl)
+keyless_is f (change.Checkpoint whole) has =
+    (snapshot_has f whole has, ap (λ (entries : List PlainEntry). change.Checkpoint (record { tick = whole.tick; next_file = whole.next_file; next_id = whole.next_id; streams = whole.streams; programs = whole.programs; entries = entries })) (entries_twice whole.entries))

@@ -1,4 +1,4 @@
--- How many bytes the spelling of a change has.
+-- How many bytes the spelling of a change has, as changes are written.
 use Rattle.std.proofs.Common.{◌≡◌, ℕ, zero, suc, ◌+◌, ◌*◌, ◌^◌, ◌<◌, ◌≤◌, List, [], ◌∷◌, ◌++◌, length, Option, Some, None, refl, sym, ap, ◌∙◌, arith}
 use Rattle.std.specs.Int.{w32, w64, to_be_bytes}
 use Rattle.std.specs.List.{flat_map, AllByRecursion}
@@ -17,7 +17,9 @@ use Rattle.catalog_types.specs.declared.extent.Extent.{Extent}
 use Rattle.catalog_types.specs.declared.program.Program.{Program}
 use Rattle.catalog_types.specs.declared.snapshot.Snapshot.{Snapshot}
 use Rattle.catalog_types.specs.declared.snapshot.StreamState.{StreamState}
-use Rattle.record_codec.specs.Spelling.{listed, sized_spelling, byte_of_kind, column_spelling, cut_spelling, extent_spelling, program_spelling, program_if_spelling, new_entry_spelling, entry_spelling, uses_spelling, stream_spelling, snapshot_spelling, change_spelling, kept_of, IsNumber, AreListed, IsColumn, IsCut, IsFile, HasExtentSpelling, HasProgramSpelling, HasProgramIfSpelling, HasNewEntrySpelling, HasEntrySpelling, HasStreamSpelling, HasSnapshotSpelling, HasChangeSpelling}
+use Rattle.record_codec.specs.Spelling.{listed, sized_spelling, byte_of_kind, column_spelling, cut_spelling, extent_spelling, program_spelling, program_if_spelling, new_entry_spelling, entry_spelling, uses_spelling, stream_spelling, snapshot_spelling, spelling_in, change_spelling, kept_of, IsNumber, AreListed, IsColumn, IsCut, IsFile, HasExtentSpelling, HasProgramSpelling, HasProgramIfSpelling, HasNewEntrySpelling, HasEntrySpelling, HasStreamSpelling, HasSnapshotSpelling, HasChangeSpelling}
+use Rattle.record_codec.specs.declared.form.Form.{Form}
+use Rattle.record_codec.specs.Forms.{newest}
 use Rattle.record_codec.specs.Limits.{IsShort, AreAtMost, HasShortText, HasShortTextIf, HasShortPlan, KeepsShortPlan, extent_count, IsWithinLimits}
 
 -- ---- items one behind the other
@@ -36,11 +38,11 @@ items_most spell n P each (a ∷ items) all = omega (arith, length-append (spell
 name_len : (name : List ℕ) → IsName name → length (name_spelling name) ≤ 65
 name_len name is = let few = (name_parts name is).few in omega arith
 
-column_len : (column : Column) → IsColumn column → length (column_spelling column) ≤ 66
-column_len column is = omega (arith, length-append (name_spelling column.name) (byte_of_kind column.kind ∷ []), name_len column.name is)
+column_len : (column : Column) → IsColumn newest column → length (column_spelling column) ≤ 66
+column_len column is = omega (arith, length-append (name_spelling column.name) (byte_of_kind column.kind ∷ []), name_len column.name is.0)
 
-columns_len : (columns : List Column) → AreCounted IsColumn columns → length (counted column_spelling columns) ≤ 1 + 66 * length columns
-columns_len columns are = omega (arith, items_most column_spelling 66 IsColumn column_len columns are.1)
+columns_len : (columns : List Column) → AreCounted (IsColumn newest) columns → length (counted column_spelling columns) ≤ 1 + 66 * length columns
+columns_len columns are = omega (arith, items_most column_spelling 66 (IsColumn newest) column_len columns are.1)
 
 cuts_len : (cuts : List Cut) → length (counted cut_spelling cuts) ≡ 1 + 8 * length cuts
 cuts_len cuts = omega (arith, items_len cut_spelling 8 (λ cut. refl) cuts)
@@ -76,7 +78,7 @@ new_entry_len e has =
 entry_len : (e : PlainEntry) → HasEntrySpelling e → length (entry_spelling e) ≡ 65 + length (plan_spelling e.plan) + 8 * length e.cuts
 entry_len e has = omega (arith, length-append (new_entry_spelling (kept_of e)) (uses_spelling e), new_entry_len (kept_of e) has.1)
 
-stream_len : (s : StreamState) → HasStreamSpelling s → length (stream_spelling s) ≤ 16900 + 44 * length s.extents
+stream_len : (s : StreamState) → HasStreamSpelling newest s → length (stream_spelling s) ≤ 16900 + 44 * length s.extents
 stream_len s has =
     let few = has.1.0 in
     omega (
@@ -90,7 +92,7 @@ stream_len s has =
 
 -- ---- lists
 
-streams_len : (streams : List StreamState) → AllByRecursion HasStreamSpelling streams → length (flat_map stream_spelling streams) ≤ 16900 * length streams + 44 * extent_count streams
+streams_len : (streams : List StreamState) → AllByRecursion (HasStreamSpelling newest) streams → length (flat_map stream_spelling streams) ≤ 16900 * length streams + 44 * extent_count streams
 streams_len [] all = omega arith
 streams_len (s ∷ streams) all = omega (arith, length-append (stream_spelling s) (flat_map stream_spelling streams), stream_len s all.0, streams_len streams all.1)
 
@@ -125,12 +127,12 @@ entries_len entries are short =
 
 -- ---- changes
 
-pub some_bytes : (c : Change) → 0 < length (change_spelling c)
-some_bytes (Stream name columns) = omega arith
-some_bytes (Append stream extent) = omega arith
-some_bytes (Work program reads dropped kept) = omega arith
-some_bytes (Collect ids) = omega arith
-some_bytes (Checkpoint whole) = omega arith
+pub some_bytes : (f : Form) (c : Change) → 0 < length (spelling_in f c)
+some_bytes f (Stream name columns) = omega arith
+some_bytes f (Append stream extent) = omega arith
+some_bytes f (Work program reads dropped kept) = omega arith
+some_bytes f (Collect ids) = omega arith
+some_bytes f (Checkpoint whole) = omega arith
 
 pub append_len : (stream : ℕ) (extent : Extent) → HasExtentSpelling extent → length (change_spelling (Append stream extent)) ≡ 49
 append_len stream extent has = omega (arith, extent_len extent has)
@@ -162,7 +164,7 @@ work_len program reads dropped kept has short =
       new_entries_len kept has.3 short.3,
     )
 
-checkpoint_len : (s : Snapshot) → HasSnapshotSpelling s → IsWithinLimits (Checkpoint s) → length (snapshot_spelling s) ≤ 375167008
+checkpoint_len : (s : Snapshot) → HasSnapshotSpelling newest s → IsWithinLimits (Checkpoint s) → length (snapshot_spelling s) ≤ 375167008
 checkpoint_len s has short =
     let programs = short.2.0 in
     let entries = short.3.0 in

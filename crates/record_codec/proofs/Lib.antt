@@ -10,3 +10,4 @@ pub mod Joined
 pub mod Optional
 pub mod Lengths
 pub mod Few
+pub mod Newer

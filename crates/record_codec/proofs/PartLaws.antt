@@ -24,6 +24,9 @@ use Rattle.catalog_types.specs.PlainEntry.{PlainEntry, PlainNewEntry}
 use Rattle.catalog_types.specs.declared.extent.Extent.{Extent}
 use Rattle.catalog_types.specs.declared.program.Program.{Program}
 use Rattle.catalog_types.specs.declared.snapshot.StreamState.{StreamState}
+use Rattle.record_codec.specs.declared.form.Form.{Form}
+use Rattle.record_codec.specs.declared.form.Form.TheVariants as form
+use Rattle.record_codec.specs.Forms.{HasKind}
 use Rattle.record_codec.specs.Order.{not_below}
 use Rattle.record_codec.specs.Tags.{kinds}
 use Rattle.record_codec.specs.Spelling.{byte_of_kind, column_spelling, cut_spelling, extent_spelling, program_spelling, new_entry_spelling, entry_spelling, stream_spelling, IsColumn, IsCut, HasExtentSpelling, HasProgramSpelling, HasNewEntrySpelling, HasEntrySpelling, HasStreamSpelling, kept_of}
@@ -47,23 +50,34 @@ short_are P items fits = (byte_below (length items) fits.0, fits.1)
 
 -- ---- columns, cuts, extents
 
-kind_exact : Exact kind
-kind_exact = table_exact byte_of_kind kinds (refl, (refl, tt))
+kind_exact : (f : Form) → Exact (kind f)
+kind_exact form.First = table_exact byte_of_kind (kinds form.First) (refl, (refl, tt))
+kind_exact form.Second = table_exact byte_of_kind (kinds form.Second) (refl, (refl, (refl, tt)))
 
-kind_fits : (k : Kind) → kind.Fits k
-kind_fits kinds_of.Int = refl
-kind_fits kinds_of.Text = refl
+kind_to : (f : Form) (k : Kind) → (kind f).Fits k → HasKind f k
+kind_to form.First kinds_of.Int fits = tt
+kind_to form.First kinds_of.Text fits = tt
+kind_to form.First kinds_of.Bool fits = absurd (cc)
+kind_to form.Second k fits = tt
 
-column_from : (c : Column) → IsColumn c → (p : List ℕ × Kind) × (name ⊗ kind).Fits p × (column_of p ≡ c)
-column_from c fits = ((c.name, c.kind), (fits, kind_fits c.kind), refl)
+kind_from : (f : Form) (k : Kind) → HasKind f k → (kind f).Fits k
+kind_from form.First kinds_of.Int has = refl
+kind_from form.First kinds_of.Text has = refl
+kind_from form.First kinds_of.Bool has = absurd has
+kind_from form.Second kinds_of.Int has = refl
+kind_from form.Second kinds_of.Text has = refl
+kind_from form.Second kinds_of.Bool has = refl
 
-column_exact : Exact column
-column_exact =
-    made_exact column_of IsColumn column_spelling (name ⊗ kind) (name_exact & kind_exact)
-    (record { to = λ p fits. (fits.0, refl); from = column_from })
+column_from : (f : Form) (c : Column) → IsColumn f c → (p : List ℕ × Kind) × (name ⊗ kind f).Fits p × (column_of p ≡ c)
+column_from f c fits = ((c.name, c.kind), (fits.0, kind_from f c.kind fits.1), refl)
 
-pub columns_exact : Exact columns
-columns_exact = counted_exact byte column byte_exact column_exact
+column_exact : (f : Form) → Exact (column f)
+column_exact f =
+    made_exact column_of (IsColumn f) column_spelling (name ⊗ kind f) (name_exact & kind_exact f)
+    (record { to = λ p fits. ((fits.0, kind_to f p.1 fits.1), refl); from = column_from f })
+
+pub columns_exact : (f : Form) → Exact (columns f)
+columns_exact f = counted_exact byte (column f) byte_exact (column_exact f)
 
 cut_from : (c : Cut) → IsCut c → (p : ℕ × ℕ) × (u32 ⊗ u32).Fits p × (cut_of p ≡ c)
 cut_from c fits = ((c.from, c.to), (fits.0, fits.1), refl)
@@ -146,10 +160,10 @@ entry_from_exact previous =
 
 -- ---- streams
 
-stream_from : (s : StreamState) → HasStreamSpelling s → (p : List ℕ × (List Column × List Extent)) × (name ⊗ columns ⊗ list extent).Fits p × (stream_of p ≡ s)
-stream_from s fits = ((s.name, (s.columns, s.extents)), (fits.0, (short_fits IsColumn s.columns fits.1, fits.2)), refl)
+stream_from : (f : Form) (s : StreamState) → HasStreamSpelling f s → (p : List ℕ × (List Column × List Extent)) × (name ⊗ columns f ⊗ list extent).Fits p × (stream_of p ≡ s)
+stream_from f s fits = ((s.name, (s.columns, s.extents)), (fits.0, (short_fits (IsColumn f) s.columns fits.1, fits.2)), refl)
 
-pub stream_exact : Exact stream
-stream_exact =
-    made_exact stream_of HasStreamSpelling stream_spelling (name ⊗ columns ⊗ list extent) (name_exact & columns_exact & list_exact extent extent_exact)
-    (record { to = λ p fits. ((fits.0, short_are IsColumn p.1.0 fits.1.0, fits.1.1), refl); from = stream_from })
+pub stream_exact : (f : Form) → Exact (stream f)
+stream_exact f =
+    made_exact stream_of (HasStreamSpelling f) stream_spelling (name ⊗ columns f ⊗ list extent) (name_exact & columns_exact f & list_exact extent extent_exact)
+    (record { to = λ p fits. ((fits.0, short_are (IsColumn f) p.1.0 fits.1.0, fits.1.1), refl); from = stream_from f })

@@ -1,4 +1,4 @@
--- The formats of changes: behind the first byte of each stands what its row says.
+-- The formats of changes, one over the form: behind the first byte of each stands what its row says.
 use Rattle.std.specs.Prelude.{◌≡◌, ℕ, ◌≤◌, ◌^◌, min, max, suc, length, IsTrue, Bool, true, if◌then◌else◌, List, [], Option, Result, Ok, Err}
 use Rattle.std.specs.Int.{w32}
 use Rattle.rows_core.specs.declared.cut.Cut.{Cut}
@@ -18,11 +18,12 @@ use Rattle.catalog_types.specs.declared.extent.Extent.{Extent}
 use Rattle.catalog_types.specs.declared.program.Program.{Program}
 use Rattle.catalog_types.specs.declared.snapshot.Snapshot.{Snapshot}
 use Rattle.catalog_types.specs.declared.snapshot.StreamState.{StreamState}
+use Rattle.record_codec.specs.declared.form.Form.{Form}
 use Rattle.record_codec.specs.declared.tag.ChangeTag.{ChangeTag}
 use Rattle.record_codec.specs.declared.tag.ChangeTag.TheVariants as tag
 use Rattle.record_codec.specs.Order.{not_below, may_reach_sized, left_unreached_sized}
 use Rattle.record_codec.specs.Tags.{change_tags, byte_of_change, kinds}
-use Rattle.record_codec.specs.Spelling.{byte_of_kind, column_spelling, cut_spelling, extent_spelling, program_spelling, new_entry_spelling, entry_spelling, stream_spelling, snapshot_spelling, change_spelling, IsColumn, IsCut, HasExtentSpelling, HasProgramSpelling, HasNewEntrySpelling, HasEntrySpelling, HasStreamSpelling, HasSnapshotSpelling, HasChangeSpelling, no_key, keyless_entry, keyless_snapshot, keyless}
+use Rattle.record_codec.specs.Spelling.{byte_of_kind, column_spelling, cut_spelling, extent_spelling, program_spelling, new_entry_spelling, entry_spelling, stream_spelling, snapshot_spelling, spelling_in, IsColumn, IsCut, HasExtentSpelling, HasProgramSpelling, HasNewEntrySpelling, HasEntrySpelling, HasStreamSpelling, HasSnapshotSpelling, HasSpellingIn, no_key, keyless_entry, keyless_snapshot, keyless}
 
 -- ---- a value whose spelling a test of its first bytes lets pass
 
@@ -51,17 +52,17 @@ name_from previous = reaching (may_reach_sized previous) (left_unreached_sized p
 abbrev pub list : {A : Type 0} → Format A → Format (List A)
 list item = counted u32 item
 
-abbrev pub kind : Format Kind
-kind = symbol byte_of_kind (beside kinds)
+abbrev pub kind : Form → Format Kind
+kind f = symbol byte_of_kind (beside (kinds f))
 
 abbrev pub column_of : List ℕ × Kind → Column
 column_of p = record { name = p.0; kind = p.1 }
 
-abbrev pub column : Format Column
-column = made column_of IsColumn column_spelling (name ⊗ kind)
+abbrev pub column : Form → Format Column
+column f = made column_of (IsColumn f) column_spelling (name ⊗ kind f)
 
-abbrev pub columns : Format (List Column)
-columns = counted byte column
+abbrev pub columns : Form → Format (List Column)
+columns f = counted byte (column f)
 
 abbrev pub cut_of : ℕ × ℕ → Cut
 cut_of p = record { from = p.0; to = p.1 }
@@ -152,8 +153,8 @@ entry_from previous = made entry_of (IsEntryFrom previous) entry_spelling (entry
 abbrev pub stream_of : List ℕ × (List Column × List Extent) → StreamState
 stream_of p = record { name = p.0; columns = p.1.0; extents = p.1.1 }
 
-abbrev pub stream : Format StreamState
-stream = made stream_of HasStreamSpelling stream_spelling (name ⊗ columns ⊗ list extent)
+abbrev pub stream : Form → Format StreamState
+stream f = made stream_of (HasStreamSpelling f) stream_spelling (name ⊗ columns f ⊗ list extent)
 
 -- programs in the byte order of their names
 abbrev pub programs : Format (List Program)
@@ -176,14 +177,14 @@ snapshot_of p = record {
   entries = p.1.1.1.1.1;
 }
 
-abbrev pub snapshot_parts : Format SnapshotParts
-snapshot_parts = u32 ⊗ u64 ⊗ u64 ⊗ list stream ⊗ programs ⊗ entries
+abbrev pub snapshot_parts : Form → Format SnapshotParts
+snapshot_parts f = u32 ⊗ u64 ⊗ u64 ⊗ list (stream f) ⊗ programs ⊗ entries
 
-abbrev pub IsSnapshot : Snapshot → Type 0
-IsSnapshot s = HasSnapshotSpelling s × (keyless_snapshot s ≡ s)
+abbrev pub IsSnapshot : Form → Snapshot → Type 0
+IsSnapshot f s = HasSnapshotSpelling f s × (keyless_snapshot s ≡ s)
 
-abbrev pub snapshot : Format Snapshot
-snapshot = made snapshot_of IsSnapshot snapshot_spelling snapshot_parts
+abbrev pub snapshot : Form → Format Snapshot
+snapshot f = made snapshot_of (IsSnapshot f) snapshot_spelling (snapshot_parts f)
 
 -- ---- changes
 
@@ -194,12 +195,12 @@ ChangeParts tag.Work = Option Program × (List ℕ × (List ℕ × List PlainNew
 ChangeParts tag.Collect = List ℕ
 ChangeParts tag.Checkpoint = Snapshot
 
-abbrev pub change_fields : (t : ChangeTag) → Format (ChangeParts t)
-change_fields tag.Stream = name ⊗ columns
-change_fields tag.Append = u32 ⊗ extent
-change_fields tag.Work = optional program ⊗ list u32 ⊗ list u32 ⊗ list new_entry
-change_fields tag.Collect = list u32
-change_fields tag.Checkpoint = snapshot
+abbrev pub change_fields : Form → (t : ChangeTag) → Format (ChangeParts t)
+change_fields f tag.Stream = name ⊗ columns f
+change_fields f tag.Append = u32 ⊗ extent
+change_fields f tag.Work = optional program ⊗ list u32 ⊗ list u32 ⊗ list new_entry
+change_fields f tag.Collect = list u32
+change_fields f tag.Checkpoint = snapshot f
 
 abbrev pub change_made : (t : ChangeTag) → ChangeParts t → Change
 change_made tag.Stream p = change.Stream p.0 p.1
@@ -208,15 +209,15 @@ change_made tag.Work p = change.Work p.0 p.1.0 p.1.1.0 p.1.1.1
 change_made tag.Collect ids = change.Collect ids
 change_made tag.Checkpoint whole = change.Checkpoint whole
 
-abbrev pub change_tag : Format ChangeTag
-change_tag = symbol byte_of_change (beside change_tags)
+abbrev pub change_tag : Form → Format ChangeTag
+change_tag f = symbol (byte_of_change f) (beside (change_tags f))
 
-abbrev pub change_node : Format ((t : ChangeTag) × ChangeParts t)
-change_node = change_tag ▷ change_fields
+abbrev pub change_node : Form → Format ((t : ChangeTag) × ChangeParts t)
+change_node f = change_tag f ▷ change_fields f
 
--- a change with a spelling, whose entries have no keys
-abbrev pub IsSpelledChange : Change → Type 0
-IsSpelledChange c = HasChangeSpelling c × (keyless c ≡ c)
+-- a change with a spelling in the form, whose entries have no keys
+abbrev pub IsSpelledIn : Form → Change → Type 0
+IsSpelledIn f c = HasSpellingIn f c × (keyless c ≡ c)
 
-abbrev pub change_format : Format Change
-change_format = made (λ p. change_made p.0 p.1) IsSpelledChange change_spelling change_node
+abbrev pub format_in : Form → Format Change
+format_in f = made (λ p. change_made p.0 p.1) (IsSpelledIn f) (spelling_in f) (change_node f)

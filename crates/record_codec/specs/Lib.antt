@@ -1,5 +1,6 @@
 pub mod Spelling
 pub mod Order
+pub mod Forms
 pub mod Tags
 pub mod Formats
 pub mod Reading

@@ -4,11 +4,12 @@ use Rattle.byte_formats.specs.Reading.{Read}
 use Rattle.byte_formats.specs.Format.{read_as}
 use Rattle.catalog_types.specs.declared.change.Change.{Change}
 use Rattle.catalog_types.specs.declared.program.Program.{Program}
+use Rattle.record_codec.specs.declared.form.Form.{Form}
 use Rattle.record_codec.specs.declared.tag.ChangeTag.{ChangeTag}
 use Rattle.record_codec.specs.Formats.{change_fields, change_made}
 
-abbrev pub change_behind : ChangeTag → List ℕ → Read Change
-change_behind tag bytes = read_as (change_made tag) ((change_fields tag).read bytes)
+abbrev pub change_behind : Form → ChangeTag → List ℕ → Read Change
+change_behind f tag bytes = read_as (change_made tag) ((change_fields f tag).read bytes)
 
 -- of the programs before, which are the bytes that the next name isn't below
 abbrev pub last_name : List Program → List ℕ

@@ -1,4 +1,4 @@
--- The one spelling of a change. Numbers are big-endian.
+-- The one spelling of a change in each form. Numbers are big-endian.
 use Rattle.std.specs.Prelude.{◌≡◌, ℕ, ◌^◌, ◌<◌, ◌≤◌, IsTrue, List, [], ◌∷◌, ◌++◌, length, map, replicate, Option, Some, None}
 use Rattle.std.specs.Int.{w32, w64, to_be_bytes}
 use Rattle.std.specs.List.{flat_map, AllByRecursion}
@@ -20,6 +20,8 @@ use Rattle.catalog_types.specs.declared.extent.Extent.{Extent}
 use Rattle.catalog_types.specs.declared.program.Program.{Program}
 use Rattle.catalog_types.specs.declared.snapshot.Snapshot.{Snapshot}
 use Rattle.catalog_types.specs.declared.snapshot.StreamState.{StreamState}
+use Rattle.record_codec.specs.declared.form.Form.{Form}
+use Rattle.record_codec.specs.Forms.{newest, checkpoint_byte, HasKind}
 use Rattle.record_codec.specs.Order.{not_below}
 
 -- a count in four bytes, and the items
@@ -33,6 +35,7 @@ sized_spelling bytes = to_be_bytes w32 (length bytes) ++ bytes
 abbrev pub byte_of_kind : Kind → ℕ
 byte_of_kind kind.Int = 1
 byte_of_kind kind.Text = 2
+byte_of_kind kind.Bool = 3
 
 abbrev pub column_spelling : Column → List ℕ
 column_spelling column = name_spelling column.name ++ byte_of_kind column.kind ∷ []
@@ -92,18 +95,22 @@ abbrev pub program_if_spelling : Option Program → List ℕ
 program_if_spelling None = 0 ∷ []
 program_if_spelling (Some program) = 1 ∷ program_spelling program
 
-abbrev pub change_spelling : Change → List ℕ
-change_spelling (Stream name columns) = 0x01 ∷ (name_spelling name ++ counted column_spelling columns)
-change_spelling (Append stream extent) = 0x02 ∷ (to_be_bytes w32 stream ++ extent_spelling extent)
-change_spelling (Work program reads dropped kept) =
+abbrev pub spelling_in : Form → Change → List ℕ
+spelling_in f (Stream name columns) = 0x01 ∷ (name_spelling name ++ counted column_spelling columns)
+spelling_in f (Append stream extent) = 0x02 ∷ (to_be_bytes w32 stream ++ extent_spelling extent)
+spelling_in f (Work program reads dropped kept) =
     0x03
     ∷ (program_if_spelling program
     ++ (listed (to_be_bytes w32) reads ++ (listed (to_be_bytes w32) dropped ++ listed new_entry_spelling kept)))
-change_spelling (Collect ids) = 0x04 ∷ listed (to_be_bytes w32) ids
-change_spelling (Checkpoint whole) = 0x06 ∷ snapshot_spelling whole
+spelling_in f (Collect ids) = 0x04 ∷ listed (to_be_bytes w32) ids
+spelling_in f (Checkpoint whole) = checkpoint_byte f ∷ snapshot_spelling whole
 
--- ---- which changes have a spelling: each count and number fits its field, each plan has a spelling and a nesting of at
--- most 1,024, and a checkpoint's programs and entries stand in order
+-- as changes are written
+abbrev pub change_spelling : Change → List ℕ
+change_spelling = spelling_in newest
+
+-- ---- which changes have a spelling in a form: each column is of a kind of the form, each count and number fits its field,
+-- each plan has a spelling and a nesting of at most 1,024, and a checkpoint's programs and entries stand in order
 
 -- a number of four bytes
 abbrev pub IsNumber : ℕ → Type 0
@@ -112,8 +119,8 @@ IsNumber n = n < 2 ^ 32
 abbrev pub AreListed : {A : Type 0} → (A → Type 0) → List A → Type 0
 AreListed P items = (length items < 2 ^ 32) × AllByRecursion P items
 
-abbrev pub IsColumn : Column → Type 0
-IsColumn column = IsName column.name
+abbrev pub IsColumn : Form → Column → Type 0
+IsColumn f column = IsName column.name × HasKind f column.kind
 
 abbrev pub IsCut : Cut → Type 0
 IsCut cut = IsNumber cut.from × IsNumber cut.to
@@ -138,8 +145,8 @@ abbrev pub HasEntrySpelling : PlainEntry → Type 0
 HasEntrySpelling e =
     IsNumber e.id × HasNewEntrySpelling (kept_of e) × IsNumber e.uses × IsNumber e.last × IsNumber e.made
 
-abbrev pub HasStreamSpelling : StreamState → Type 0
-HasStreamSpelling s = IsName s.name × AreCounted IsColumn s.columns × AreListed HasExtentSpelling s.extents
+abbrev pub HasStreamSpelling : Form → StreamState → Type 0
+HasStreamSpelling f s = IsName s.name × AreCounted (IsColumn f) s.columns × AreListed HasExtentSpelling s.extents
 
 -- names that don't fall
 abbrev pub AreByName : List ℕ → List Program → Type 0
@@ -151,10 +158,10 @@ abbrev pub AreById : ℕ → List PlainEntry → Type 0
 AreById id [] = Unit {0}
 AreById id (e ∷ entries) = (id ≤ e.id) × AreById e.id entries
 
-abbrev pub HasSnapshotSpelling : Snapshot → Type 0
-HasSnapshotSpelling s =
+abbrev pub HasSnapshotSpelling : Form → Snapshot → Type 0
+HasSnapshotSpelling f s =
     IsNumber s.tick × (s.next_file < 2 ^ 64) × (s.next_id < 2 ^ 64)
-    × AreListed HasStreamSpelling s.streams
+    × AreListed (HasStreamSpelling f) s.streams
     × (AreListed HasProgramSpelling s.programs × AreByName [] s.programs)
     × (AreListed HasEntrySpelling s.entries × AreById 0 s.entries)
 
@@ -162,13 +169,16 @@ abbrev pub HasProgramIfSpelling : Option Program → Type 0
 HasProgramIfSpelling None = Unit {0}
 HasProgramIfSpelling (Some program) = HasProgramSpelling program
 
-abbrev pub HasChangeSpelling : Change → Type 0
-HasChangeSpelling (Stream name columns) = IsName name × AreCounted IsColumn columns
-HasChangeSpelling (Append stream extent) = IsNumber stream × HasExtentSpelling extent
-HasChangeSpelling (Work program reads dropped kept) =
+abbrev pub HasSpellingIn : Form → Change → Type 0
+HasSpellingIn f (Stream name columns) = IsName name × AreCounted (IsColumn f) columns
+HasSpellingIn f (Append stream extent) = IsNumber stream × HasExtentSpelling extent
+HasSpellingIn f (Work program reads dropped kept) =
     HasProgramIfSpelling program × AreListed IsNumber reads × AreListed IsNumber dropped × AreListed HasNewEntrySpelling kept
-HasChangeSpelling (Collect ids) = AreListed IsNumber ids
-HasChangeSpelling (Checkpoint whole) = HasSnapshotSpelling whole
+HasSpellingIn f (Collect ids) = AreListed IsNumber ids
+HasSpellingIn f (Checkpoint whole) = HasSnapshotSpelling f whole
+
+abbrev pub HasChangeSpelling : Change → Type 0
+HasChangeSpelling = HasSpellingIn newest
 
 -- ---- the keys of a checkpoint's entries aren't spelled: 32 zero bytes stand in their place where a change is read
 

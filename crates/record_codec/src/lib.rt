@@ -1,8 +1,9 @@
-//! The bytes of changes: each change has one spelling, `spell_change` writes it and `read_change` reads it.
-//! The keys of a checkpoint's entries aren't spelled.
+//! The bytes of changes: in each form a change has one spelling, `read_change` reads it, and `spell_change`
+//! writes that of the newest form. The keys of a checkpoint's entries aren't spelled.
 #![tactic(auto)]
 
 mod entries;
+pub mod form;
 pub mod laws;
 mod order;
 mod parts;
@@ -13,8 +14,10 @@ mod snapshot;
 pub mod spelling;
 mod tag;
 
+pub use form::{Form, form_of};
 pub use laws::{
-    changes_are_short, no_spelling_is_empty, one_change, one_place, one_spelling, small_changes,
+    changes_are_short, newer_spellings, no_spelling_is_empty, one_change, one_place, one_spelling,
+    small_changes,
 };
 pub use reading::read_change;
 pub use refusal::ChangeRefusal;

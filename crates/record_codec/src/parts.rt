@@ -2,11 +2,12 @@
 ghost use Rattle.std.specs.Prelude.{◌≡◌};
 ghost use Rattle.plan_core.specs.PlainPlan.{plan_of};
 ghost use Rattle.byte_formats.specs.Reading.{Gives};
-ghost use Rattle.byte_formats.specs.Format.{u32, sized, exactly, symbol_at, beside};
+ghost use Rattle.byte_formats.specs.Format.{u32, sized, exactly, beside};
 ghost use Rattle.plan_spelling.specs.Formats.{plan_format};
 ghost use Rattle.record_codec.specs.Tags.{kinds};
 ghost use Rattle.record_codec.specs.Formats.{list, kind, column, columns, cut, cuts, extent, inner_plan};
 
+use crate::form::Form;
 use byte_formats::{Unread, byte_at, digest_at, items_at, name_at, u32_at};
 use catalog_types::Extent;
 use plan_core::Plan;
@@ -22,30 +23,47 @@ pub fn ids_at(alloc: Global, bytes: &[u8]) -> Result<(Seq<u32>, &[u8]), Unread>
     Ok((Seq::new(ids), rest))
 }
 
-pub fn columns_at(alloc: Global, bytes: &[u8]) -> Result<(Seq<Column>, &[u8]), Unread>
-    ensures { Gives (λ x. (x.0, x.1.now)) result (columns.read bytes.now) }
+pub fn columns_at(alloc: Global, bytes: &[u8], form: Form) -> Result<(Seq<Column>, &[u8]), Unread>
+    ensures { Gives (λ x. (x.0, x.1.now)) result ((columns form).read bytes.now) }
 {
     let (count, rest) = byte_at(bytes)?;
-    let (columns, rest) = items_at(alloc, count as usize, rest, |bytes| column_at(alloc, bytes))?;
+    let (columns, rest) = items_at(
+        alloc,
+        count as usize,
+        rest,
+        |bytes| column_at(alloc, bytes, form),
+    )?;
     Ok((Seq::new(columns), rest))
 }
 
-fn column_at(alloc: Global, bytes: &[u8]) -> Result<(Column, &[u8]), Unread>
-    ensures { Gives (λ x. (x.0, x.1.now)) result (column.read bytes.now) }
+fn column_at(alloc: Global, bytes: &[u8], form: Form) -> Result<(Column, &[u8]), Unread>
+    ensures { Gives (λ x. (x.0, x.1.now)) result ((column form).read bytes.now) }
 {
     let (name, rest) = name_at(alloc, bytes)?;
-    let (kind, rest) = kind_at(rest)?;
+    let (kind, rest) = kind_at(rest, form)?;
     Ok((Column { name, kind }, rest))
 }
 
-fn kind_at(bytes: &[u8]) -> Result<(Kind, &[u8]), Unread>
-    ensures { Gives (λ x. (x.0, x.1.now)) result (kind.read bytes.now) }
+fn kind_at(bytes: &[u8], form: Form) -> Result<(Kind, &[u8]), Unread>
+    ensures { Gives (λ x. (x.0, x.1.now)) result ((kind form).read bytes.now) }
 {
-    match bytes {
-        [1, rest @ ..] => Ok((Kind::Int, rest)),
-        [2, rest @ ..] => Ok((Kind::Text, rest)),
-        [_, ..] => Err(Unread::Left(bytes.len())),
-        [] => Err(Unread::Left(0)),
+    let [byte, rest @ ..] = bytes else {
+        return Err(Unread::Left(0));
+    };
+    match kind_of(form, *byte) {
+        Some(kind) => Ok((kind, rest)),
+        None => Err(Unread::Left(bytes.len())),
+    }
+}
+
+fn kind_of(form: Form, byte: u8) -> Option<Kind>
+    ensures { result ≡ beside (kinds form) byte }
+{
+    match (byte, form) {
+        (1, _) => Some(Kind::Int),
+        (2, _) => Some(Kind::Text),
+        (3, Form::Second) => Some(Kind::Bool),
+        (_, Form::First | Form::Second) => None,
     }
 }
 

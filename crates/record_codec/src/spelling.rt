@@ -1,4 +1,4 @@
-//! The one spelling of a change.
+//! The one spelling of a change in the newest form.
 ghost use Rattle.std.specs.Prelude.{◌≡◌, ◌++◌, ◌∷◌, [], ◌<◌, ◌^◌, IfOk, OnOk, length};
 ghost use Rattle.std.specs.Int.{w32, to_be_bytes};
 ghost use Rattle.plan_core.specs.PlainPlan.{plan_of};
@@ -13,7 +13,9 @@ ghost use Rattle.record_codec.specs.Spelling.{IsNumber, IsFile, AreListed, HasEx
 ghost use Rattle.record_codec.specs.Spelling.{HasProgramSpelling, HasProgramIfSpelling, HasInnerPlan};
 ghost use Rattle.record_codec.specs.Spelling.{HasNewEntrySpelling, HasEntrySpelling, HasStreamSpelling};
 ghost use Rattle.record_codec.specs.Spelling.{HasSnapshotSpelling, HasChangeSpelling};
+ghost use Rattle.record_codec.specs.Forms.{newest};
 
+use crate::form::Form;
 use byte_formats::{put_byte, put_digest, put_name, put_u32, put_u64};
 use catalog_types::{Change, Entry, Extent, NewEntry, Program, Snapshot, StreamState};
 use plan_core::Plan;
@@ -21,7 +23,7 @@ use plan_spelling::spell;
 use rows_core::{Column, Cut, FileRef, Kind, Memory};
 use std::alloc::Global;
 
-/// The bytes of a change. The keys of a checkpoint's entries aren't spelled.
+/// The bytes of a change in the newest form. The keys of a checkpoint's entries aren't spelled.
 pub fn spell_change(alloc: Global, change: &Change) -> Result<Vec<u8>, Memory>
     requires { HasChangeSpelling change.now }
     ensures { IfOk result (λ bytes. bytes.items ≡ change_spelling change.now) }
@@ -63,7 +65,7 @@ fn put_change(alloc: Global, out: &mut Vec<u8>, change: &Change) -> Result<(), M
             put_ids(out, ids.items())
         }
         Change::Checkpoint { whole } => {
-            put_byte(out, 0x06)?;
+            put_byte(out, Form::NEWEST.checkpoint_byte())?;
             put_snapshot(alloc, out, whole)
         }
     }
@@ -104,6 +106,7 @@ fn byte_of_kind(kind: Kind) -> u8
     match kind {
         Kind::Int => 1,
         Kind::Text => 2,
+        Kind::Bool => 3,
     }
 }
 
@@ -289,7 +292,7 @@ fn put_extents(out: &mut Vec<u8>, extents: &[Extent]) -> Result<(), Memory>
 }
 
 fn put_stream(out: &mut Vec<u8>, stream: &StreamState) -> Result<(), Memory>
-    requires { HasStreamSpelling stream.now }
+    requires { HasStreamSpelling newest stream.now }
     ensures { OnOk result (out.new.items ≡ out.old.items ++ stream_spelling stream.now) }
 {
     put_name(out, &stream.name)?;
@@ -298,7 +301,7 @@ fn put_stream(out: &mut Vec<u8>, stream: &StreamState) -> Result<(), Memory>
 }
 
 fn put_streams(out: &mut Vec<u8>, streams: &[StreamState]) -> Result<(), Memory>
-    requires { AreListed HasStreamSpelling streams.now }
+    requires { AreListed (HasStreamSpelling newest) streams.now }
     ensures { OnOk result (out.new.items ≡ out.old.items ++ listed stream_spelling streams.now) }
 {
     put_u32(out, streams.len() as u32)?;
@@ -309,7 +312,7 @@ fn put_streams(out: &mut Vec<u8>, streams: &[StreamState]) -> Result<(), Memory>
 }
 
 fn put_snapshot(alloc: Global, out: &mut Vec<u8>, whole: &Snapshot) -> Result<(), Memory>
-    requires { HasSnapshotSpelling whole.now }
+    requires { HasSnapshotSpelling newest whole.now }
     ensures { OnOk result (out.new.items ≡ out.old.items ++ snapshot_spelling whole.now) }
 {
     put_numbers(out, whole)?;
@@ -327,7 +330,7 @@ fn put_numbers(out: &mut Vec<u8>, whole: &Snapshot) -> Result<(), Memory>
 }
 
 fn put_lists(alloc: Global, out: &mut Vec<u8>, whole: &Snapshot) -> Result<(), Memory>
-    requires { HasSnapshotSpelling whole.now }
+    requires { HasSnapshotSpelling newest whole.now }
     ensures { OnOk result (out.new.items ≡ out.old.items ++ lists_spelling whole.now) }
 {
     put_streams(out, whole.streams.items())?;

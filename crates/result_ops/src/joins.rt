@@ -14,10 +14,11 @@ ghost use Rattle.result_ops.specs.Steps.{made_of, added_of, Makes, MakesGrown, P
 use crate::grown::grown_input;
 use crate::made::{Added, Input, Made};
 use crate::refusal::MakeRefusal;
-use crate::rows::{LIMIT, rows_of};
+use crate::rows::rows_of;
 use join_ops::{join_tagged, merge_tagged};
 use plan_core::Plan;
 use row_blob::{Kept, TaggedRow};
+use rows_core::limits::MAX_ROWS;
 use rows_core::{Memory, Row, Seq};
 use std::alloc::Global;
 
@@ -121,7 +122,7 @@ fn with_new_lefts(
         (first + length news.now) result }
 {
     let lefts = first.saturating_add(news.len() as u64);
-    if lefts > LIMIT {
+    if lefts > MAX_ROWS {
         return Err(MakeRefusal::Machine);
     }
     let joined = join_tagged(alloc, news, rights, on, first)?;

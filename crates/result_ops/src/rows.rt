@@ -12,11 +12,9 @@ use crate::made::{Input, Made};
 use crate::refusal::MakeRefusal;
 use plan_core::{EvRefusal, Plan};
 use row_blob::{Kept, TaggedRow};
+use rows_core::limits::MAX_MACHINE_TIME;
 use rows_core::{Memory, Row, Seq};
 use std::alloc::Global;
-
-/// The greatest machine time. The 1 beside the rows that are taken in is the plan's own.
-pub const LIMIT: u64 = 4_294_967_295;
 
 /// The rows of what is kept of a plan's result: of a group its key and what its accumulators come to.
 /// `Overflow` exactly where a sum is outside of i64.
@@ -64,7 +62,7 @@ pub fn counted(rows: Vec<Row>, taken_in: u64) -> Result<Input, MakeRefusal>
     ensures { Counts rows.items taken_in result }
 {
     let taken_in = taken_in.saturating_add(rows.len() as u64);
-    if taken_in >= LIMIT {
+    if taken_in >= MAX_MACHINE_TIME {
         return Err(MakeRefusal::Machine);
     }
     Ok(Input { rows, taken_in })

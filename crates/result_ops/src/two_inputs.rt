@@ -13,10 +13,11 @@ ghost use Rattle.result_ops.specs.Steps.{made_of, taken_of_two, Makes, KeepsBoth
 use crate::made::{Input, Made};
 use crate::one_input::made_of_rows;
 use crate::refusal::MakeRefusal;
-use crate::rows::{LIMIT, input_of, rows_of_tagged};
+use crate::rows::{input_of, rows_of_tagged};
 use join_ops::join_tagged;
 use plan_core::Plan;
 use row_blob::Kept;
+use rows_core::limits::MAX_MACHINE_TIME;
 use rows_core::{Memory, Row, Seq};
 use std::alloc::Global;
 
@@ -102,7 +103,7 @@ fn both_taken(lefts: &Input, rights: &Input) -> Result<u64, MakeRefusal>
         (e ≡ MakeRefusal.Machine) × (limit ≤ lefts.now.taken_in + rights.now.taken_in)) }
 {
     let taken_in = lefts.taken_in.saturating_add(rights.taken_in);
-    if taken_in >= LIMIT {
+    if taken_in >= MAX_MACHINE_TIME {
         return Err(MakeRefusal::Machine);
     }
     Ok(taken_in)

@@ -10,28 +10,25 @@ use Rattle.rewrite_core.specs.PlainRewriting.{PlainRewriting, PlainWay}
 use Rattle.rewriter.specs.declared.priced.Choice.{Choice}
 use Rattle.rewriter.specs.declared.priced.Form.{Form}
 use Rattle.rewriter.specs.declared.priced.Form.TheVariants as form
-use Rattle.rewriter.specs.declared.priced.Priced.{Priced}
-use Rattle.rewriter.specs.declared.priced.Want.{Want}
-use Rattle.rewriter.specs.declared.priced.Want.TheVariants as want
-use Rattle.rewriter.specs.declared.priced.Weighed.{Weighed}
-use Rattle.rewriter.specs.Choosing.{IsCheaper}
+use Rattle.rewriter.specs.declared.priced.Price.{Price}
+use Rattle.rewriter.specs.Choosing.{IsCheaper, CostMore}
 use Rattle.rewriter.specs.Forms.{way_in, IsComputed, IsRead, IsGrown, IsLeastOf, HasNone}
-use Rattle.rewriter.specs.Search.{Least, LeastOf, LeastWeighed, ComputedWeighed, LeastIfAny, ways_of, IsChoice}
+use Rattle.rewriter.specs.Search.{IsEstimate, IsEstimateIfAny, IsComputedPrice, ways_of, IsChoice}
 use Rattle.rewriter.proofs.LeastParts.{forms}
 
 -- of equal estimates the choice that was there stays
-taken : (choice r : Choice) (f : Form) (o : Option Priced) → IsCheaper choice f o r → (r ≡ choice) ⊎ ((r.form ≡ f) × (r.estimate < choice.estimate))
+taken : (choice r : Choice) (f : Form) (o : Option ℕ) → IsCheaper choice f o r → (r ≡ choice) ⊎ ((r.form ≡ f) × (r.estimate < choice.estimate))
 taken choice r f None e = inl e
 taken choice r f (Some p) (inl e) = inl e.0
 taken choice r f (Some p) (inr e) = let t = ap (λ x. x.estimate) e.0 in let k = e.1 in inr (ap (λ x. x.form) e.0, omega arith)
 
 -- and where that is weighed, the result's estimate is no greater
-none_over : (choice r : Choice) (f : Form) (o : Option Priced) → IsCheaper choice f o r → IfSome o (λ p. r.estimate ≤ p.estimate)
+none_over : (choice r : Choice) (f : Form) (o : Option ℕ) → IsCheaper choice f o r → IfSome o (λ p. r.estimate ≤ p)
 none_over choice r f None e = tt
 none_over choice r f (Some p) (inl e) = let t = ap (λ x. x.estimate) e.0 in let k = e.1 in omega arith
 none_over choice r f (Some p) (inr e) = let t = ap (λ x. x.estimate) e.0 in omega arith
 
-module _ (first second third : Choice) (read grown : Option Priced) (is_second : IsCheaper first form.Read read second) (is_third : IsCheaper second form.Grown grown third) where
+module _ (first second third : Choice) (read grown : Option ℕ) (is_second : IsCheaper first form.Read read second) (is_third : IsCheaper second form.Grown grown third) where
   pub under_first : first.form ≡ form.Computed → third.form ≢ form.Computed → third.estimate < first.estimate
   under_first is other = go (taken first second form.Read read is_second) (taken second third form.Grown grown is_third)
     where
@@ -41,10 +38,10 @@ module _ (first second third : Choice) (read grown : Option Priced) (is_second :
       go (inr a) (inl b) = let t = ap (λ x. x.estimate) b in let k = a.1 in omega arith
       go (inr a) (inr b) = let j = a.1 in let k = b.1 in omega arith
 
-  pub under_read : first.form ≡ form.Computed → third.form ≡ form.Grown → IfSome read (λ p. third.estimate < p.estimate)
+  pub under_read : first.form ≡ form.Computed → third.form ≡ form.Grown → IfSome read (λ p. third.estimate < p)
   under_read is grows = go read (none_over first second form.Read read is_second) (taken first second form.Read read is_second) (taken second third form.Grown grown is_third)
     where
-      go : (o : Option Priced) → IfSome o (λ p. second.estimate ≤ p.estimate) → (second ≡ first) ⊎ ((second.form ≡ form.Read) × (second.estimate < first.estimate)) → (third ≡ second) ⊎ ((third.form ≡ form.Grown) × (third.estimate < second.estimate)) → IfSome o (λ p. third.estimate < p.estimate)
+      go : (o : Option ℕ) → IfSome o (λ p. second.estimate ≤ p) → (second ≡ first) ⊎ ((second.form ≡ form.Read) × (second.estimate < first.estimate)) → (third ≡ second) ⊎ ((third.form ≡ form.Grown) × (third.estimate < second.estimate)) → IfSome o (λ p. third.estimate < p)
       go None l a b = tt
       go (Some p) l (inl a) (inl b) = let wrong = sym (ap (λ x. x.form) (b ∙ a) ∙ is) ∙ grows in absurd (cc)
       go (Some p) l (inr a) (inl b) = let wrong = sym (ap (λ x. x.form) b ∙ a.0) ∙ grows in absurd (cc)
@@ -61,42 +58,50 @@ module _ (entries : Entries) (lengths : Lengths) (q : PlainPlan) (c : Cuts) wher
   abbrev Under : (PlainWay → Type 0) → ℕ → Type 0
   Under Ways n = (other : PlainRewriting) → IsRewriting (among entries) q c other → Ways (way_in other) → n ≤ estimate_of lengths other
 
-  under_of : (Ways : PlainWay → Type 0) (p : Priced) → LeastOf want.Price Ways entries lengths q c p → Under Ways p.estimate
-  under_of Ways p l = λ other k f. subst (λ n. n ≤ estimate_of lengths other) (sym l.prices.estimate) (l.least.least other k f)
+  under_of : (Ways : PlainWay → Type 0) (p : ℕ) → IsEstimate Ways entries lengths q c p → Under Ways p
+  under_of Ways p l = λ other k f. subst (λ n. n ≤ estimate_of lengths other) (sym l.estimate) (l.least.least other k f)
+
+  more_above : (Ways : PlainWay → Type 0) (n m : ℕ) → m < n → Under Ways n → CostMore Ways entries lengths q c m
+  more_above Ways n m less u = λ other k f. let h = u other k f in omega arith
+
+  reads_more : (o : Option ℕ) (m : ℕ) → IsEstimateIfAny IsRead entries lengths q c o → IfSome o (λ p. m < p) → CostMore IsRead entries lengths q c m
+  reads_more None m none less = λ other k f. absurd (none other k f)
+  reads_more (Some p) m l less = more_above IsRead p m less (under_of IsRead p l)
 
   under_below : (Ways : PlainWay → Type 0) (n m : ℕ) → m ≤ n → Under Ways n → Under Ways m
   under_below Ways n m le u = λ other k f. let h = u other k f in omega arith
 
-  lower : (choice r : Choice) (f : Form) (o : Option Priced) → IsCheaper choice f o r → r.estimate ≤ choice.estimate
+  lower : (choice r : Choice) (f : Form) (o : Option ℕ) → IsCheaper choice f o r → r.estimate ≤ choice.estimate
   lower choice r f None e = let t = ap (λ x. x.estimate) e in omega arith
   lower choice r f (Some p) (inl e) = let t = ap (λ x. x.estimate) e.0 in omega arith
   lower choice r f (Some p) (inr e) = let t = ap (λ x. x.estimate) e.0 in let k = e.1 in omega arith
 
-  holds_next : (choice r : Choice) (f : Form) (o : Option Priced) → LeastIfAny want.Price (ways_of f) entries lengths q c o → IsCheaper choice f o r → Holds choice → Holds r
+  holds_next : (choice r : Choice) (f : Form) (o : Option ℕ) → IsEstimateIfAny (ways_of f) entries lengths q c o → IsCheaper choice f o r → Holds choice → Holds r
   holds_next choice r f None l e h = subst Holds (sym e) h
   holds_next choice r f (Some p) l (inl e) h = subst Holds (sym e.0) h
-  holds_next choice r f (Some p) l (inr e) h = subst Holds (sym e.0) (record { of = l.of; least_of = l.least; estimate = l.prices.estimate })
+  holds_next choice r f (Some p) l (inr e) h = subst Holds (sym e.0) (record { of = l.of; least_of = l.least; estimate = l.estimate })
 
-  same_bytes : (choice r : Choice) (f : Form) (o : Option Priced) → IsCheaper choice f o r → r.bytes ≡ choice.bytes
+  same_bytes : (choice r : Choice) (f : Form) (o : Option ℕ) → IsCheaper choice f o r → r.bytes ≡ choice.bytes
   same_bytes choice r f None e = ap (λ x. x.bytes) e
   same_bytes choice r f (Some p) (inl e) = ap (λ x. x.bytes) e.0
   same_bytes choice r f (Some p) (inr e) = ap (λ x. x.bytes) e.0
 
-  under_next : (choice r : Choice) (f : Form) (o : Option Priced) → LeastIfAny want.Price (ways_of f) entries lengths q c o → IsCheaper choice f o r → Under (ways_of f) r.estimate
+  under_next : (choice r : Choice) (f : Form) (o : Option ℕ) → IsEstimateIfAny (ways_of f) entries lengths q c o → IsCheaper choice f o r → Under (ways_of f) r.estimate
   under_next choice r f None l e = λ other k w. absurd (l other k w)
   under_next choice r f (Some p) l (inl e) =
-      let t = ap (λ x. x.estimate) e.0 in let k = e.1 in under_below (ways_of f) p.estimate r.estimate (omega arith) (under_of (ways_of f) p l)
+      let t = ap (λ x. x.estimate) e.0 in let k = e.1 in under_below (ways_of f) p r.estimate (omega arith) (under_of (ways_of f) p l)
   under_next choice r f (Some p) l (inr e) =
-      let t = ap (λ x. x.estimate) e.0 in under_below (ways_of f) p.estimate r.estimate (omega arith) (under_of (ways_of f) p l)
+      let t = ap (λ x. x.estimate) e.0 in under_below (ways_of f) p r.estimate (omega arith) (under_of (ways_of f) p l)
 
-  pub chosen : (computed : Weighed) (read grown : Option Priced) (second third : Choice) → ComputedWeighed want.Price entries lengths q c computed →
-      LeastIfAny want.Price IsRead entries lengths q c read → LeastIfAny want.Price IsGrown entries lengths q c grown →
-      IsCheaper (record { form = form.Computed; estimate = computed.priced.estimate; bytes = computed.bytes }) form.Read read second → IsCheaper second form.Grown grown third → IsChoice entries lengths q c third
+  pub chosen : (computed : Price) (read grown : Option ℕ) (second third : Choice) → IsComputedPrice entries lengths q c computed →
+      IsEstimateIfAny IsRead entries lengths q c read → IsEstimateIfAny IsGrown entries lengths q c grown →
+      IsCheaper (record { form = form.Computed; estimate = computed.estimate; bytes = computed.bytes }) form.Read read second → IsCheaper second form.Grown grown third → IsChoice entries lengths q c third
   chosen computed read grown second third a b d e f =
-      let first : Choice = record { form = form.Computed; estimate = computed.priced.estimate; bytes = computed.bytes } in
-      let holds = holds_next second third form.Grown grown d f (holds_next first second form.Read read b e (record { of = a.least.of; least_of = a.least.least; estimate = a.least.prices.estimate })) in
+      let first : Choice = record { form = form.Computed; estimate = computed.estimate; bytes = computed.bytes } in
+      let holds = holds_next second third form.Grown grown d f (holds_next first second form.Read read b e (record { of = a.estimate.of; least_of = a.estimate.least; estimate = a.estimate.estimate })) in
       let below = lower second third form.Grown grown f in
-      let computes = under_below IsComputed second.estimate third.estimate below (under_below IsComputed computed.priced.estimate second.estimate (lower first second form.Read read e) (under_of IsComputed computed.priced a.least)) in
+      let under = under_of IsComputed computed.estimate a.estimate in
+      let computes = under_below IsComputed second.estimate third.estimate below (under_below IsComputed computed.estimate second.estimate (lower first second form.Read read e) under) in
       let reads = under_below IsRead second.estimate third.estimate below (under_next first second form.Read read b e) in
       let grows = under_next second third form.Grown grown d f in
       record {
@@ -105,6 +110,8 @@ module _ (entries : Entries) (lengths : Lengths) (q : PlainPlan) (c : Cuts) wher
         estimate = holds.estimate;
         bytes = same_bytes second third form.Grown grown f ∙ (same_bytes first second form.Read read e ∙ a.bytes);
         least = λ other k. under_each other k computes reads grows;
+        computed_first = λ other. more_above IsComputed computed.estimate third.estimate (under_first first second third read grown e f refl other) under;
+        read_second = λ is. reads_more read third.estimate b (under_read first second third read grown e f refl is);
       }
     where
       under_each : (other : PlainRewriting) → IsRewriting (among entries) q c other → Under IsComputed third.estimate → Under IsRead third.estimate → Under IsGrown third.estimate → third.estimate ≤ estimate_of lengths other
@@ -119,23 +126,16 @@ module _ (entries : Entries) (lengths : Lengths) (q : PlainPlan) (c : Cuts) wher
   pub least_there : (choice : Choice) → (h : IsChoice entries lengths q c choice) → IsLeast entries lengths q c h.of
   least_there choice h = record { is = h.least_of.is; least = λ other k. subst (λ n. n ≤ estimate_of lengths other) h.estimate (h.least other k) }
 
-  pub least_by_form : (w : Want) (choice : Choice) (f : Form) (p : Priced) → choice.form ≡ f → IsChoice entries lengths q c choice → LeastOf w (ways_of f) entries lengths q c p → Least w entries lengths q c p
-  least_by_form w choice f p e h l = record {
-    of = l.of;
-    least = record {
-      is = l.least.is;
-      least = λ other k.
-          let mine = l.least.least h.of h.least_of.is (subst (λ x. ways_of x (way_in h.of)) e h.least_of.form) in
-          let there = h.estimate in
-          let under = h.least other k in
-          omega arith;
-    };
-    prices = l.prices;
+  -- and so is each least one of its form
+  pub least_by_form : (choice : Choice) (f : Form) → choice.form ≡ f → IsChoice entries lengths q c choice → (r : PlainRewriting) → IsLeastOf (ways_of f) entries lengths q c r → IsLeast entries lengths q c r
+  least_by_form choice f e h r l = record {
+    is = l.is;
+    least = λ other k.
+        let mine = l.least h.of h.least_of.is (subst (λ x. ways_of x (way_in h.of)) e h.least_of.form) in
+        let there = h.estimate in
+        let under = h.least other k in
+        omega arith;
   }
-
-  pub weighed_by_form : (w : Want) (choice : Choice) (f : Form) (p : Priced) → choice.form ≡ f → IsChoice entries lengths q c choice → LeastOf w (ways_of f) entries lengths q c p →
-      LeastWeighed w entries lengths q c (record { priced = p; bytes = choice.bytes })
-  weighed_by_form w choice f p e h l = record { least = least_by_form w choice f p e h l; bytes = h.bytes }
 
   -- a form that was chosen has a rewriting
   pub form_there : (choice : Choice) (f : Form) → choice.form ≡ f → IsChoice entries lengths q c choice → HasNone (ways_of f) entries q c → ⊥

@@ -1,5 +1,5 @@
 -- What a rewriting of a form costs at least.
-use Rattle.std.proofs.Common.{◌≡◌, ℕ, ◌+◌, ◌≤◌, ◌⊎◌, inl, inr, arith, sym, subst}
+use Rattle.std.proofs.Common.{◌≡◌, ℕ, ◌+◌, ◌≤◌, ◌<◌, ◌⊎◌, inl, inr, arith, sym, subst}
 use Rattle.plan_core.specs.PlainPlan.{PlainPlan}
 use Rattle.estimator.specs.Bytes.{Lengths, whole_bytes, new_bytes, capped}
 use Rattle.estimator.specs.Cuts.{Cuts}
@@ -9,11 +9,9 @@ use Rattle.rewrite_core.specs.Estimate.{cost, delta_cost, way_cost, estimate_of}
 use Rattle.rewrite_core.specs.IsRewriting.{IsRewriting, IsWay, among}
 use Rattle.rewrite_core.specs.PlainRewriting.{PlainRewriting, Node, PlainWay, Scan, One, Two, Read, Tail, LeftGrew, RightGrew, BothGrew}
 use Rattle.rewriter.specs.declared.priced.Form.TheVariants as form
-use Rattle.rewriter.specs.declared.priced.Priced.{Priced}
-use Rattle.rewriter.specs.declared.priced.Want.TheVariants as want
-use Rattle.rewriter.specs.Choosing.{CostAtLeast}
+use Rattle.rewriter.specs.Choosing.{CostAtLeast, CostMore}
 use Rattle.rewriter.specs.Forms.{way_in, IsComputed, IsRead, IsGrown, HasNone}
-use Rattle.rewriter.specs.Search.{LeastOf, IsChoice}
+use Rattle.rewriter.specs.Search.{IsEstimate, IsChoice}
 use Rattle.rewriter.proofs.LeastParts.{forms, one_earlier}
 
 behind : (a w : ℕ) → capped w ≤ capped (a + w)
@@ -67,17 +65,22 @@ module _ (entries : Entries) (lengths : Lengths) (q : PlainPlan) (c : Cuts) wher
   pub none_to_grow : (n : ℕ) → HasNone IsGrown entries q c → CostAtLeast IsGrown entries lengths q c n
   none_to_grow n none other k f = absurd (none other k f)
 
-  pub read_is_least : (p : Priced) (bytes : ℕ) → LeastOf want.Price IsRead entries lengths q c p → bytes ≡ capped (whole_bytes lengths q c) → p.estimate ≤ bytes → CostAtLeast IsGrown entries lengths q c p.estimate →
-      IsChoice entries lengths q c (record { form = form.Read; estimate = p.estimate; bytes = bytes })
-  read_is_least p bytes l e below grown = record {
+  pub more_to_compute : (n bytes : ℕ) → bytes ≡ capped (whole_bytes lengths q c) → n < bytes → CostMore IsComputed entries lengths q c n
+  more_to_compute n bytes e below other k f = let most = to_compute other k f in omega arith
+
+  pub read_is_least : (n bytes : ℕ) → IsEstimate IsRead entries lengths q c n → bytes ≡ capped (whole_bytes lengths q c) → n < bytes → CostAtLeast IsGrown entries lengths q c n →
+      IsChoice entries lengths q c (record { form = form.Read; estimate = n; bytes = bytes })
+  read_is_least n bytes l e below grown = record {
     of = l.of;
     least_of = l.least;
-    estimate = l.prices.estimate;
+    estimate = l.estimate;
     bytes = e;
     least = λ other k. go other k (forms (way_in other));
+    computed_first = λ other. more_to_compute n bytes e below;
+    read_second = λ wrong. absurd (cc);
   }
     where
-      go : (other : PlainRewriting) → IsRewriting (among entries) q c other → IsComputed (way_in other) ⊎ (IsRead (way_in other) ⊎ IsGrown (way_in other)) → p.estimate ≤ estimate_of lengths other
+      go : (other : PlainRewriting) → IsRewriting (among entries) q c other → IsComputed (way_in other) ⊎ (IsRead (way_in other) ⊎ IsGrown (way_in other)) → n ≤ estimate_of lengths other
       go other k (inl f) = let most = to_compute other k f in omega arith
-      go other k (inr (inl f)) = subst (λ n. n ≤ estimate_of lengths other) (sym l.prices.estimate) (l.least.least other k f)
+      go other k (inr (inl f)) = subst (λ m. m ≤ estimate_of lengths other) (sym l.estimate) (l.least.least other k f)
       go other k (inr (inr f)) = grown other k f

@@ -3,6 +3,7 @@ pub mod PartBytes
 pub mod Formed
 pub mod LeastParts
 pub mod Shapes
+pub mod AlongTrees
 pub mod Choices
 pub mod WellFormed
 pub mod Growths

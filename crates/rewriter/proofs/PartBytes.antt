@@ -36,6 +36,13 @@ without_right a b c e z = omega arith
 without_left : (a b c : ℕ) → a ≡ b + c → b ≡ 0 → a ≡ c
 without_left a b c e z = omega arith
 
+-- the parts may stand in either order
+pub swapped : (a b d w : ℕ) → a + b + d + w ≡ a + d + b + w
+swapped a b d w = omega arith
+
+pub swapped_two : (b d w : ℕ) → b + d + w ≡ d + b + w
+swapped_two b d w = omega arith
+
 module _ (l : Lengths) where
   pub new_along : (x : PlainPlan) {o p n m : Cuts} → p ≡ o → m ≡ n → new_bytes l x p m ≡ new_bytes l x o n
   new_along x e f = λ i. new_bytes l x (e i) (f i)

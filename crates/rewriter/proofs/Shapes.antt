@@ -7,10 +7,7 @@ use Rattle.rewrite_core.specs.Entries.{Entries, AreSound, IsEarlier}
 use Rattle.rewrite_core.specs.IsRewriting.{IsScan, rights}
 use Rattle.estimator.specs.Bytes.{Lengths}
 use Rattle.estimator.specs.Cuts.{Cuts}
-use Rattle.rewriter.specs.declared.priced.PricedDelta.{PricedDelta}
-use Rattle.rewriter.specs.declared.priced.Want.{Want}
 use Rattle.rewriter.specs.Forms.{IsGrown, HasNone, HasNoDelta}
-use Rattle.rewriter.specs.Search.{LeastDelta}
 use Rattle.rewriter.proofs.LeastParts.{none_grown_by_way, join_no_tail, sides_out, TailOf, LeftGrewOf, RightGrewOf, BothGrewOf}
 use Rattle.rewriter.specs.Inputs.{HasChild, HasTwo, IsByRow, IsDistinct, IsWholeOnly, IsJoin, IsConcat}
 
@@ -46,9 +43,6 @@ whole_if (Order child keys) x h a b = tt
 
 pub none_along : (entries : Entries) (x : PlainPlan) {o p n m : Cuts} → p ≡ o → m ≡ n → HasNoDelta entries x p m → HasNoDelta entries x o n
 none_along entries x {o} {p} {n} {m} e f k = subst (λ a. HasNoDelta entries x a n) e (subst (λ b. HasNoDelta entries x p b) f k)
-
-pub delta_along : (want : Want) (entries : Entries) (lengths : Lengths) (x : PlainPlan) (d : PricedDelta) {o p n m : Cuts} → p ≡ o → m ≡ n → LeastDelta want entries lengths x p m d → LeastDelta want entries lengths x o n d
-delta_along want entries lengths x d {o} {p} {n} {m} e f k = subst (λ a. LeastDelta want entries lengths x a n d) e (subst (λ b. LeastDelta want entries lengths x p b d) f k)
 
 -- a join whose right input changed and has no delta isn't grown
 pub no_right : (entries : Entries) (sound : AreSound entries) (lengths : Lengths) (q : PlainPlan) (c : Cuts) (hit : Hit) (here : IsEarlier entries q c hit) (x y : PlainPlan) →

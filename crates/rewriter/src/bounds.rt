@@ -1,15 +1,15 @@
 //! What a rewriting costs at least, and when that is no less than what a kept result does.
-ghost use Rattle.std.specs.Prelude.{IfOk, IfSome};
+ghost use Rattle.std.specs.Prelude.{◌≡◌, IfOk, IfSome};
 ghost use Rattle.plan_core.specs.PlainPlan.{plan_of};
 ghost use Rattle.estimator.specs.Bytes.{IsCutOf};
 ghost use Rattle.rewrite_core.specs.Entries.{AreSound, IsEarlier};
-ghost use Rattle.rewriter.specs.Choosing.{CostAtLeast};
-ghost use Rattle.rewriter.specs.Forms.{IsRead, IsGrown};
-ghost use Rattle.rewriter.specs.Search.{LeastIfAny, IsChoice};
-ghost use Rattle.rewriter.specs.declared.priced.Want.TheVariants as want;
+ghost use Rattle.rewriter.specs.Choosing.{CostAtLeast, CostMore};
+ghost use Rattle.rewriter.specs.Forms.{IsComputed, IsRead, IsGrown};
+ghost use Rattle.rewriter.specs.Search.{IsEstimateIfAny, IsChoice};
+ghost use Rattle.rewriter.specs.declared.priced.Form.TheVariants as form;
 
 use crate::parts::Part;
-use crate::priced::{Choice, Form, Priced};
+use crate::priced::{Choice, Form};
 use crate::sums::{file_len, plus};
 use estimator::{Sizes, new_bytes, whole_bytes};
 use rewrite_core::{Hit, Lookup};
@@ -21,31 +21,35 @@ use std::alloc::Global;
 pub fn read_if_least<L: Lookup, Z: Sizes>(
     alloc: Global,
     part: Part<'_, '_>,
-    read: &Option<Priced>,
+    read: Option<u64>,
     lookup: &L,
     sizes: &Z,
 ) -> Result<Option<Choice>, Memory>
     requires sound { AreSound (L.entries lookup.now) }
     requires cuts { IsCutOf (Z.lengths sizes.now) (plan_of part.plan.now) part.cuts.now }
-    requires read { LeastIfAny want.Price IsRead (L.entries lookup.now) (Z.lengths sizes.now)
-        (plan_of part.plan.now) part.cuts.now read.now }
-    ensures { IfOk result (λ choice. IfSome choice (IsChoice (L.entries lookup.now) (Z.lengths sizes.now)
-        (plan_of part.entry.plan.now) part.entry.cuts.now)) }
+    requires read { IsEstimateIfAny IsRead (L.entries lookup.now) (Z.lengths sizes.now)
+        (plan_of part.plan.now) part.cuts.now read }
+    ensures least { IfOk result (λ choice. IfSome choice (IsChoice (L.entries lookup.now)
+        (Z.lengths sizes.now) (plan_of part.entry.plan.now) part.entry.cuts.now)) }
+    ensures reads { IfOk result (λ choice. IfSome choice (λ choice. choice.form ≡ form.Read)) }
+    ensures shorter { IfOk result (λ choice. IfSome choice (λ choice. CostMore IsComputed
+        (L.entries lookup.now) (Z.lengths sizes.now) (plan_of part.entry.plan.now) part.entry.cuts.now
+        choice.estimate)) }
 {
     let Some(read) = read else {
         return Ok(None);
     };
     let bytes = whole_bytes(part.plan, part.cuts, sizes);
-    if bytes <= read.estimate {
+    if bytes <= read {
         return Ok(None);
     }
     let grown = least_to_grow(alloc, part, lookup, sizes)?;
-    if grown < read.estimate {
+    if grown < read {
         return Ok(None);
     }
     Ok(Some(Choice {
         form: Form::Read,
-        estimate: read.estimate,
+        estimate: read,
         bytes,
     }))
 }

@@ -1,30 +1,26 @@
 //! By which parts an earlier result is grown.
-ghost use Rattle.std.specs.Prelude.{◌≡◌};
-ghost use Rattle.plan_core.specs.PlainPlan.{PlainPlan, plan_of};
-ghost use Rattle.estimator.specs.Bytes.{IsCutOf};
-ghost use Rattle.rewrite_core.specs.Entries.{AreSound, IsEarlier};
+ghost use Rattle.std.specs.Prelude.{◌≡◌, length};
+ghost use Rattle.plan_core.specs.PlainPlan.{plan_of, leaf_count};
+ghost use Rattle.estimator.specs.Bytes.{Lengths, IsCutOf};
+ghost use Rattle.rewrite_core.specs.Entries.{Entries, AreSound, IsEarlier};
 ghost use Rattle.rewriter.specs.Growing.{AreJoinInputs, Grows};
 ghost use Rattle.rewriter.specs.Inputs.{HasChild, IsConcat, IsJoin, IsLower};
 
 use crate::inputs::{concat_parts, join_sides, only_child};
 use crate::parts::{BothGrown, Growth, Part, Stretch};
 use crate::places::{first_input, second_input};
-use estimator::{Sizes, are_same_cuts, sides};
+use estimator::{are_same_cuts, sides};
 use plan_core::Plan;
-use rewrite_core::{Hit, Lookup};
+use rewrite_core::Hit;
 
 /// The parts by which this earlier result of the part's plan is grown to the part's cut.
-pub fn growth_of<'p, 'c, L: Lookup, Z: Sizes>(
-    part: Part<'p, 'c>,
-    hit: &'c Hit,
-    lookup: &L,
-    sizes: &Z,
-) -> Growth<'p, 'c>
-    requires sound { AreSound (L.entries lookup.now) }
-    requires cuts { IsCutOf (Z.lengths sizes.now) (plan_of part.plan.now) part.cuts.now }
-    requires hit { IsEarlier (L.entries lookup.now) (plan_of part.plan.now) part.cuts.now hit.now }
-    ensures { Grows (L.entries lookup.now) (Z.lengths sizes.now) (plan_of part.entry.plan.now)
-        part.entry.cuts.now hit.now result }
+pub fn growth_of<'p, 'c>(part: Part<'p, 'c>, hit: &'c Hit) -> Growth<'p, 'c>
+    requires old { length hit.now.cuts ≡ leaf_count (plan_of part.plan.now) }
+    requires new { length part.cuts.now ≡ leaf_count (plan_of part.plan.now) }
+    ensures { (entries : Entries) (lengths : Lengths) → AreSound entries
+        → IsCutOf lengths (plan_of part.entry.plan.now) part.entry.cuts.now
+        → IsEarlier entries (plan_of part.entry.plan.now) part.entry.cuts.now hit.now
+        → Grows entries lengths (plan_of part.entry.plan.now) part.entry.cuts.now hit.now result }
 {
     match only_child(part.plan) {
         Some(child) => Growth::Tail(Stretch {
@@ -34,9 +30,9 @@ pub fn growth_of<'p, 'c, L: Lookup, Z: Sizes>(
             new: part.cuts,
         }),
         None => match concat_parts(part.plan) {
-            Some((left, right)) => growth_of_concat(part, hit, left, right, lookup, sizes),
+            Some((left, right)) => growth_of_concat(part, hit, left, right),
             None => match join_sides(part.plan) {
-                Some((left, right)) => growth_of_join(part, hit, left, right, lookup, sizes),
+                Some((left, right)) => growth_of_join(part, hit, left, right),
                 None => Growth::Never,
             },
         },
@@ -44,21 +40,20 @@ pub fn growth_of<'p, 'c, L: Lookup, Z: Sizes>(
 }
 
 // Of a concatenation, whose left input has to be unchanged.
-fn growth_of_concat<'p, 'c, L: Lookup, Z: Sizes>(
+fn growth_of_concat<'p, 'c>(
     part: Part<'p, 'c>,
     hit: &'c Hit,
     left: &'p Plan,
     right: &'p Plan,
-    lookup: &L,
-    sizes: &Z,
 ) -> Growth<'p, 'c>
-    requires sound { AreSound (L.entries lookup.now) }
-    requires cuts { IsCutOf (Z.lengths sizes.now) (plan_of part.plan.now) part.cuts.now }
-    requires hit { IsEarlier (L.entries lookup.now) (plan_of part.plan.now) part.cuts.now hit.now }
+    requires old { length hit.now.cuts ≡ leaf_count (plan_of part.plan.now) }
+    requires new { length part.cuts.now ≡ leaf_count (plan_of part.plan.now) }
     requires parts { IsConcat (plan_of part.plan.now) (plan_of left.now) (plan_of right.now) }
     requires right { IsLower (plan_of right.now) (plan_of part.plan.now) }
-    ensures { Grows (L.entries lookup.now) (Z.lengths sizes.now) (plan_of part.entry.plan.now)
-        part.entry.cuts.now hit.now result }
+    ensures { (entries : Entries) (lengths : Lengths) → AreSound entries
+        → IsCutOf lengths (plan_of part.entry.plan.now) part.entry.cuts.now
+        → IsEarlier entries (plan_of part.entry.plan.now) part.entry.cuts.now hit.now
+        → Grows entries lengths (plan_of part.entry.plan.now) part.entry.cuts.now hit.now result }
 {
     let (old_lefts, old_rights) = sides(left, hit.cuts.items());
     let (new_lefts, new_rights) = sides(left, part.cuts);
@@ -74,22 +69,21 @@ fn growth_of_concat<'p, 'c, L: Lookup, Z: Sizes>(
 }
 
 // Of a join, by the inputs that have grown.
-fn growth_of_join<'p, 'c, L: Lookup, Z: Sizes>(
+fn growth_of_join<'p, 'c>(
     part: Part<'p, 'c>,
     hit: &'c Hit,
     left: &'p Plan,
     right: &'p Plan,
-    lookup: &L,
-    sizes: &Z,
 ) -> Growth<'p, 'c>
-    requires sound { AreSound (L.entries lookup.now) }
-    requires cuts { IsCutOf (Z.lengths sizes.now) (plan_of part.plan.now) part.cuts.now }
-    requires hit { IsEarlier (L.entries lookup.now) (plan_of part.plan.now) part.cuts.now hit.now }
+    requires old { length hit.now.cuts ≡ leaf_count (plan_of part.plan.now) }
+    requires new { length part.cuts.now ≡ leaf_count (plan_of part.plan.now) }
     requires sides { IsJoin (plan_of part.plan.now) (plan_of left.now) (plan_of right.now) }
     requires left { IsLower (plan_of left.now) (plan_of part.plan.now) }
     requires right { IsLower (plan_of right.now) (plan_of part.plan.now) }
-    ensures { Grows (L.entries lookup.now) (Z.lengths sizes.now) (plan_of part.entry.plan.now)
-        part.entry.cuts.now hit.now result }
+    ensures { (entries : Entries) (lengths : Lengths) → AreSound entries
+        → IsCutOf lengths (plan_of part.entry.plan.now) part.entry.cuts.now
+        → IsEarlier entries (plan_of part.entry.plan.now) part.entry.cuts.now hit.now
+        → Grows entries lengths (plan_of part.entry.plan.now) part.entry.cuts.now hit.now result }
 {
     let (old_lefts, old_rights) = sides(left, hit.cuts.items());
     let (new_lefts, new_rights) = sides(left, part.cuts);
@@ -105,24 +99,21 @@ fn growth_of_join<'p, 'c, L: Lookup, Z: Sizes>(
         old: old_rights,
         new: new_rights,
     };
-    growth_of_inputs(part, hit, lefts, rights, lookup, sizes)
+    growth_of_inputs(part, hit, lefts, rights)
 }
 
 // Of a join with these inputs.
-fn growth_of_inputs<'p, 'c, L: Lookup, Z: Sizes>(
+fn growth_of_inputs<'p, 'c>(
     part: Part<'p, 'c>,
     hit: &'c Hit,
     left: Stretch<'p, 'c>,
     right: Stretch<'p, 'c>,
-    lookup: &L,
-    sizes: &Z,
 ) -> Growth<'p, 'c>
-    requires sound { AreSound (L.entries lookup.now) }
-    requires cuts { IsCutOf (Z.lengths sizes.now) (plan_of part.plan.now) part.cuts.now }
-    requires hit { IsEarlier (L.entries lookup.now) (plan_of part.plan.now) part.cuts.now hit.now }
     requires inputs { AreJoinInputs (plan_of part.plan.now) hit.now.cuts part.cuts.now left right }
-    ensures { Grows (L.entries lookup.now) (Z.lengths sizes.now) (plan_of part.entry.plan.now)
-        part.entry.cuts.now hit.now result }
+    ensures { (entries : Entries) (lengths : Lengths) → AreSound entries
+        → IsCutOf lengths (plan_of part.entry.plan.now) part.entry.cuts.now
+        → IsEarlier entries (plan_of part.entry.plan.now) part.entry.cuts.now hit.now
+        → Grows entries lengths (plan_of part.entry.plan.now) part.entry.cuts.now hit.now result }
 {
     if are_same_cuts(right.old, right.new) {
         return Growth::Left {

@@ -1,6 +1,8 @@
 //! Of which parts a delta is made.
-ghost use Rattle.std.specs.Prelude.{◌≢◌};
-ghost use Rattle.plan_core.specs.PlainPlan.{plan_of};
+ghost use Rattle.std.specs.Prelude.{◌≡◌, ◌≢◌, length};
+ghost use Rattle.plan_core.specs.PlainPlan.{plan_of, leaf_count};
+ghost use Rattle.estimator.specs.Bytes.{Lengths};
+ghost use Rattle.rewrite_core.specs.Entries.{Entries};
 ghost use Rattle.rewriter.specs.Growing.{Increases};
 ghost use Rattle.rewriter.specs.InStreams.{AreCutsOf};
 ghost use Rattle.rewriter.specs.Inputs.{HasChild, IsConcat, IsJoin, IsLower};
@@ -10,50 +12,42 @@ use crate::cuts::is_longer;
 use crate::inputs::{concat_parts, is_by_row, is_distinct, join_sides, only_child};
 use crate::parts::{Increase, Part, Stretch};
 use crate::places::{first_input, second_input};
-use estimator::{Sizes, are_same_cuts, sides};
+use estimator::{are_same_cuts, sides};
 use plan_core::Plan;
-use rewrite_core::Lookup;
 
 /// The parts of which a delta of the plan between the cuts is made.
-pub fn increase_of<'p, 'c, L: Lookup, Z: Sizes>(
-    stretch: Stretch<'p, 'c>,
-    lookup: &L,
-    sizes: &Z,
-) -> Increase<'p, 'c>
-    requires cuts { AreCutsOf (Z.lengths sizes.now) (plan_of stretch.plan.now) stretch.old.now
-        stretch.new.now }
-    ensures { Increases (L.entries lookup.now) (Z.lengths sizes.now) (plan_of stretch.entry.plan.now)
-        stretch.entry.old.now stretch.entry.new.now result }
+pub fn increase_of<'p, 'c>(stretch: Stretch<'p, 'c>) -> Increase<'p, 'c>
+    requires old { length stretch.old.now ≡ leaf_count (plan_of stretch.plan.now) }
+    requires new { length stretch.new.now ≡ leaf_count (plan_of stretch.plan.now) }
+    ensures { (entries : Entries) (lengths : Lengths)
+        → AreCutsOf lengths (plan_of stretch.entry.plan.now) stretch.entry.old.now stretch.entry.new.now
+        → Increases entries lengths (plan_of stretch.entry.plan.now) stretch.entry.old.now
+        stretch.entry.new.now result }
 {
     if are_same_cuts(stretch.old, stretch.new) {
         return Increase::Unchanged;
     }
     match only_child(stretch.plan) {
-        Some(child) => increase_of_one(stretch, child, lookup, sizes),
+        Some(child) => increase_of_one(stretch, child),
         None => match concat_parts(stretch.plan) {
-            Some((left, right)) => increase_of_concat(stretch, left, right, lookup, sizes),
+            Some((left, right)) => increase_of_concat(stretch, left, right),
             None => match join_sides(stretch.plan) {
-                Some((left, right)) => increase_of_join(stretch, left, right, lookup, sizes),
-                None => increase_of_scan(stretch, lookup, sizes),
+                Some((left, right)) => increase_of_join(stretch, left, right),
+                None => increase_of_scan(stretch),
             },
         },
     }
 }
 
 // Of a plan with one input.
-fn increase_of_one<'p, 'c, L: Lookup, Z: Sizes>(
-    stretch: Stretch<'p, 'c>,
-    child: &'p Plan,
-    lookup: &L,
-    sizes: &Z,
-) -> Increase<'p, 'c>
-    requires cuts { AreCutsOf (Z.lengths sizes.now) (plan_of stretch.plan.now) stretch.old.now
-        stretch.new.now }
+fn increase_of_one<'p, 'c>(stretch: Stretch<'p, 'c>, child: &'p Plan) -> Increase<'p, 'c>
     requires differ { stretch.old.now ≢ stretch.new.now }
     requires child { HasChild (plan_of stretch.plan.now) (plan_of child.now) }
     requires lower { IsLower (plan_of child.now) (plan_of stretch.plan.now) }
-    ensures { Increases (L.entries lookup.now) (Z.lengths sizes.now) (plan_of stretch.entry.plan.now)
-        stretch.entry.old.now stretch.entry.new.now result }
+    ensures { (entries : Entries) (lengths : Lengths)
+        → AreCutsOf lengths (plan_of stretch.entry.plan.now) stretch.entry.old.now stretch.entry.new.now
+        → Increases entries lengths (plan_of stretch.entry.plan.now) stretch.entry.old.now
+        stretch.entry.new.now result }
 {
     let below = Stretch {
         plan: child,
@@ -74,20 +68,20 @@ fn increase_of_one<'p, 'c, L: Lookup, Z: Sizes>(
 }
 
 // Of a concatenation, whose left input has to be unchanged.
-fn increase_of_concat<'p, 'c, L: Lookup, Z: Sizes>(
+fn increase_of_concat<'p, 'c>(
     stretch: Stretch<'p, 'c>,
     left: &'p Plan,
     right: &'p Plan,
-    lookup: &L,
-    sizes: &Z,
 ) -> Increase<'p, 'c>
-    requires cuts { AreCutsOf (Z.lengths sizes.now) (plan_of stretch.plan.now) stretch.old.now
-        stretch.new.now }
+    requires old { length stretch.old.now ≡ leaf_count (plan_of stretch.plan.now) }
+    requires new { length stretch.new.now ≡ leaf_count (plan_of stretch.plan.now) }
     requires differ { stretch.old.now ≢ stretch.new.now }
     requires parts { IsConcat (plan_of stretch.plan.now) (plan_of left.now) (plan_of right.now) }
     requires right { IsLower (plan_of right.now) (plan_of stretch.plan.now) }
-    ensures { Increases (L.entries lookup.now) (Z.lengths sizes.now) (plan_of stretch.entry.plan.now)
-        stretch.entry.old.now stretch.entry.new.now result }
+    ensures { (entries : Entries) (lengths : Lengths)
+        → AreCutsOf lengths (plan_of stretch.entry.plan.now) stretch.entry.old.now stretch.entry.new.now
+        → Increases entries lengths (plan_of stretch.entry.plan.now) stretch.entry.old.now
+        stretch.entry.new.now result }
 {
     let (old_lefts, old_rights) = sides(left, stretch.old);
     let (new_lefts, new_rights) = sides(left, stretch.new);
@@ -103,21 +97,21 @@ fn increase_of_concat<'p, 'c, L: Lookup, Z: Sizes>(
 }
 
 // Of a join, whose right input has to be unchanged.
-fn increase_of_join<'p, 'c, L: Lookup, Z: Sizes>(
+fn increase_of_join<'p, 'c>(
     stretch: Stretch<'p, 'c>,
     left: &'p Plan,
     right: &'p Plan,
-    lookup: &L,
-    sizes: &Z,
 ) -> Increase<'p, 'c>
-    requires cuts { AreCutsOf (Z.lengths sizes.now) (plan_of stretch.plan.now) stretch.old.now
-        stretch.new.now }
+    requires old { length stretch.old.now ≡ leaf_count (plan_of stretch.plan.now) }
+    requires new { length stretch.new.now ≡ leaf_count (plan_of stretch.plan.now) }
     requires differ { stretch.old.now ≢ stretch.new.now }
     requires sides { IsJoin (plan_of stretch.plan.now) (plan_of left.now) (plan_of right.now) }
     requires left { IsLower (plan_of left.now) (plan_of stretch.plan.now) }
     requires right { IsLower (plan_of right.now) (plan_of stretch.plan.now) }
-    ensures { Increases (L.entries lookup.now) (Z.lengths sizes.now) (plan_of stretch.entry.plan.now)
-        stretch.entry.old.now stretch.entry.new.now result }
+    ensures { (entries : Entries) (lengths : Lengths)
+        → AreCutsOf lengths (plan_of stretch.entry.plan.now) stretch.entry.old.now stretch.entry.new.now
+        → Increases entries lengths (plan_of stretch.entry.plan.now) stretch.entry.old.now
+        stretch.entry.new.now result }
 {
     let (old_lefts, old_rights) = sides(left, stretch.old);
     let (new_lefts, new_rights) = sides(left, stretch.new);
@@ -140,15 +134,13 @@ fn increase_of_join<'p, 'c, L: Lookup, Z: Sizes>(
 }
 
 // Of a stream.
-fn increase_of_scan<'p, 'c, L: Lookup, Z: Sizes>(
-    stretch: Stretch<'p, 'c>,
-    lookup: &L,
-    sizes: &Z,
-) -> Increase<'p, 'c>
+fn increase_of_scan<'p, 'c>(stretch: Stretch<'p, 'c>) -> Increase<'p, 'c>
     requires differ { stretch.old.now ≢ stretch.new.now }
     requires scan { IsScan (plan_of stretch.plan.now) }
-    ensures { Increases (L.entries lookup.now) (Z.lengths sizes.now) (plan_of stretch.entry.plan.now)
-        stretch.entry.old.now stretch.entry.new.now result }
+    ensures { (entries : Entries) (lengths : Lengths)
+        → AreCutsOf lengths (plan_of stretch.entry.plan.now) stretch.entry.old.now stretch.entry.new.now
+        → Increases entries lengths (plan_of stretch.entry.plan.now) stretch.entry.old.now
+        stretch.entry.new.now result }
 {
     if is_longer(stretch.old, stretch.new) {
         return Increase::NewRows;

@@ -7,9 +7,8 @@ ghost use Rattle.rewrite_core.specs.PlainRewriting.{rewriting_of};
 
 use crate::parts::Part;
 use crate::places::ROOT;
-use crate::priced::Want;
-use crate::search::least_at;
 use crate::table::Found;
+use crate::trees::least_tree;
 use estimator::Sizes;
 use plan_core::Typed;
 use rewrite_core::{Lookup, Rewriting};
@@ -36,9 +35,6 @@ pub fn least<L: Lookup, Z: Sizes>(
         place: ROOT,
         cuts,
     };
-    let best = least_at(alloc, Want::Tree, whole, lookup, sizes, &mut found)?;
-    match best.priced.tree {
-        Some(tree) => Ok(tree),
-        None => unreachable!(),
-    }
+    let tree = least_tree(alloc, whole, lookup, sizes, &mut found)?;
+    Ok(Box::into_inner(tree))
 }

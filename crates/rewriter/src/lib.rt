@@ -11,15 +11,16 @@ mod increase;
 mod inputs;
 pub mod laws;
 mod least_rewriting;
-mod made;
 mod measures;
 mod nodes;
 mod parts;
 mod places;
 mod priced;
+mod prices;
 mod search;
 mod sums;
 mod table;
+mod trees;
 
 pub use least_rewriting::least;
 pub use measures::{estimate, reads};

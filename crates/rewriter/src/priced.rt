@@ -1,13 +1,4 @@
-//! What the search answers of a plan at a cut, or between two cuts.
-
-use rewrite_core::{Delta, Rewriting};
-
-/// Whether the search is for estimates alone, or for the trees that have them too.
-#[derive(Clone, Copy, PartialEq, Eq)]
-pub enum Want {
-    Price,
-    Tree,
-}
+//! What the search answers of a plan at a cut, or between two cuts. All are numbers.
 
 /// How a rewriting makes the result of its plan.
 #[derive(Clone, Copy, PartialEq, Eq)]
@@ -28,37 +19,17 @@ pub struct Choice {
     pub bytes: u64,
 }
 
-/// The estimate of a rewriting, and the rewriting where it is wanted.
-#[derive(Drop)]
-pub struct Priced {
-    pub estimate: u64,
-    pub tree: Option<Rewriting>,
-}
-
-/// A priced rewriting, and the bytes under its plan at its cut.
-#[derive(Drop)]
-pub struct Weighed {
-    pub priced: Priced,
-    pub bytes: u64,
-}
-
-/// The estimate of a delta, and the new bytes under its plan between its cuts.
+/// The estimate of a rewriting, and the bytes under its plan at its cut; or that of a delta, and the new
+/// bytes under its plan between its cuts.
 #[derive(Clone, Copy)]
-pub struct DeltaPrice {
+pub struct Price {
     pub estimate: u64,
     pub bytes: u64,
 }
 
-/// The price of a delta, and the delta where it is wanted.
-#[derive(Drop)]
-pub struct PricedDelta {
-    pub price: DeltaPrice,
-    pub tree: Option<Delta>,
-}
-
-/// A delta and a rewriting.
-#[derive(Drop)]
-pub struct PricedPair {
-    pub delta: PricedDelta,
-    pub best: Priced,
+/// The price of a delta, and the choice of a plan at a cut.
+#[derive(Clone, Copy)]
+pub struct PairPrice {
+    pub delta: Price,
+    pub best: Choice,
 }

@@ -1,104 +1,37 @@
-//! The search for a least rewriting. The recursion goes down the plan; a delta of a plan comes after the
-//! rewritings of that same plan. A plan's choice at a cut is found once, and the estimate of a least delta
-//! between two cuts; a tree is made of the chosen forms alone.
+//! The search for the forms of a least rewriting, by estimates alone. The recursion goes down the plan; a
+//! delta of a plan comes after the choices of that same plan. A plan's choice at a cut is found once, and the
+//! price of a least delta between two cuts.
 ghost use Rattle.std.specs.Prelude.{IfOk, OnOk};
 ghost use Rattle.plan_core.specs.PlainPlan.{plan_of};
-ghost use Rattle.estimator.specs.Bytes.{IsCutOf};
+ghost use Rattle.estimator.specs.Bytes.{Lengths, IsCutOf};
 ghost use Rattle.rewrite_core.specs.Entries.{AreSound, IsEarlier};
 ghost use Rattle.rewriter.specs.Forms.{IsRead, IsGrown};
 ghost use Rattle.rewriter.specs.InStreams.{AreCutsOf};
-ghost use Rattle.rewriter.specs.declared.priced.Want.TheVariants as want;
-ghost use Rattle.rewriter.specs.Search.{LeastWeighed, ComputedWeighed, LeastIfAny, LeastDeltaIfAny};
-ghost use Rattle.rewriter.specs.Search.{LeastPairIfAny};
-ghost use Rattle.rewriter.specs.Search.{IsChoice, IsDeltaPriceIfAny};
+ghost use Rattle.rewriter.specs.Search.{IsChoice, IsComputedPrice, IsDeltaPriceIfAny, IsEstimateIfAny};
+ghost use Rattle.rewriter.specs.Search.{IsPairPriceIfAny};
 ghost use Rattle.rewriter.specs.Table.{AreFound};
 
 use crate::bounds::read_if_least;
-use crate::choosing::{cheapest, price_of, priced_alone, without_tree};
+use crate::choosing::cheapest;
 use crate::computing::inputs_of;
 use crate::growth::growth_of;
 use crate::increase::increase_of;
-use crate::made::{
-    computed_one, computed_scan, computed_two, delta_of_child, delta_of_distinct, delta_of_join,
-    grown_both, grown_left, grown_right, grown_tail, new_rows, read_whole, unchanged,
-};
 use crate::parts::{Growth, Increase, Inputs, Part, Stretch};
-use crate::priced::{Choice, DeltaPrice, Form, Priced, PricedDelta, PricedPair, Want, Weighed};
+use crate::priced::{Choice, PairPrice, Price};
+use crate::prices::{
+    estimate_of_both, estimate_of_pair, estimate_of_tail, price_of_new_rows, price_of_nothing,
+    price_of_one, price_of_scan, price_of_two, price_over_child, price_over_pair,
+};
+use crate::sums::file_len;
 use crate::table::Found;
 use estimator::Sizes;
 use rewrite_core::{Hit, Lookup};
 use rows_core::Memory;
 use std::alloc::Global;
 
-/// A least rewriting of the part.
+/// The form of a least rewriting of the part, which is looked for once.
 #[cycle(search)]
-pub fn least_at<'p, L: Lookup, Z: Sizes>(
-    alloc: Global,
-    want: Want,
-    part: Part<'p, '_>,
-    lookup: &L,
-    sizes: &Z,
-    found: &mut Found<'p>,
-) -> Result<Weighed, Memory>
-    requires sound { AreSound (L.entries lookup.now) }
-    requires cuts { IsCutOf (Z.lengths sizes.now) (plan_of part.plan.now) part.cuts.now }
-    requires found { AreFound (L.entries lookup.now) (Z.lengths sizes.now) found.old }
-    ensures answer { IfOk result (LeastWeighed want (L.entries lookup.now) (Z.lengths sizes.now)
-        (plan_of part.entry.plan.now) part.entry.cuts.now) }
-    ensures found { OnOk result (AreFound (L.entries lookup.now) (Z.lengths sizes.now) found.new) }
-{
-    let choice = choice_at(alloc, part, lookup, sizes, found)?;
-    match want {
-        Want::Price => Ok(without_tree(choice)),
-        Want::Tree => chosen_at(alloc, choice, part, lookup, sizes, found),
-    }
-}
-
-// The tree of this choice.
-#[cycle(search)]
-fn chosen_at<'p, L: Lookup, Z: Sizes>(
-    alloc: Global,
-    choice: Choice,
-    part: Part<'p, '_>,
-    lookup: &L,
-    sizes: &Z,
-    found: &mut Found<'p>,
-) -> Result<Weighed, Memory>
-    requires sound { AreSound (L.entries lookup.now) }
-    requires cuts { IsCutOf (Z.lengths sizes.now) (plan_of part.plan.now) part.cuts.now }
-    requires choice { IsChoice (L.entries lookup.now) (Z.lengths sizes.now) (plan_of part.plan.now)
-        part.cuts.now choice }
-    requires found { AreFound (L.entries lookup.now) (Z.lengths sizes.now) found.old }
-    ensures answer { IfOk result (LeastWeighed want.Tree (L.entries lookup.now) (Z.lengths sizes.now)
-        (plan_of part.entry.plan.now) part.entry.cuts.now) }
-    ensures found { OnOk result (AreFound (L.entries lookup.now) (Z.lengths sizes.now) found.new) }
-{
-    let want = Want::Tree;
-    match choice.form {
-        Form::Computed => {
-            let made = computed_at(alloc, want, part, lookup, sizes, found)?;
-            Ok(made)
-        }
-        Form::Read => match read_at(alloc, want, part, lookup, sizes)? {
-            Some(priced) => Ok(Weighed {
-                priced,
-                bytes: choice.bytes,
-            }),
-            None => unreachable!(),
-        },
-        Form::Grown => match grown_at(alloc, want, part, lookup, sizes, found)? {
-            Some(priced) => Ok(Weighed {
-                priced,
-                bytes: choice.bytes,
-            }),
-            None => unreachable!(),
-        },
-    }
-}
-
-// The form of a least rewriting of the part, which is looked for once.
-#[cycle(search)]
-fn choice_at<'p, L: Lookup, Z: Sizes>(
+pub fn choice_at<'p, L: Lookup, Z: Sizes>(
     alloc: Global,
     part: Part<'p, '_>,
     lookup: &L,
@@ -137,194 +70,150 @@ fn choose_at<'p, L: Lookup, Z: Sizes>(
         (plan_of part.entry.plan.now) part.entry.cuts.now) }
     ensures found { OnOk result (AreFound (L.entries lookup.now) (Z.lengths sizes.now) found.new) }
 {
-    let want = Want::Price;
-    let read = read_at(alloc, want, part, lookup, sizes)?;
-    if let Some(choice) = read_if_least(alloc, part, &read, lookup, sizes)? {
+    let read = read_at(alloc, part, lookup)?;
+    if let Some(choice) = read_if_least(alloc, part, read, lookup, sizes)? {
         return Ok(choice);
     }
-    let computed = computed_at(alloc, want, part, lookup, sizes, found)?;
-    let grown = grown_at(alloc, want, part, lookup, sizes, found)?;
-    Ok(cheapest(&computed, &read, &grown))
+    let computed = computed_at(alloc, part, lookup, sizes, found)?;
+    let grown = grown_at(alloc, part, lookup, sizes, found)?;
+    Ok(cheapest(computed, read, grown))
 }
 
-// A least one of those that compute the node.
+// The price of a least one of those that compute the node.
 #[cycle(search)]
 fn computed_at<'p, L: Lookup, Z: Sizes>(
     alloc: Global,
-    want: Want,
     part: Part<'p, '_>,
     lookup: &L,
     sizes: &Z,
     found: &mut Found<'p>,
-) -> Result<Weighed, Memory>
+) -> Result<Price, Memory>
     requires sound { AreSound (L.entries lookup.now) }
     requires cuts { IsCutOf (Z.lengths sizes.now) (plan_of part.plan.now) part.cuts.now }
     requires found { AreFound (L.entries lookup.now) (Z.lengths sizes.now) found.old }
-    ensures answer { IfOk result (ComputedWeighed want (L.entries lookup.now) (Z.lengths sizes.now)
+    ensures answer { IfOk result (IsComputedPrice (L.entries lookup.now) (Z.lengths sizes.now)
         (plan_of part.entry.plan.now) part.entry.cuts.now) }
     ensures found { OnOk result (AreFound (L.entries lookup.now) (Z.lengths sizes.now) found.new) }
 {
-    match inputs_of(part, lookup, sizes) {
-        Inputs::Stream => computed_scan(alloc, want, part, lookup, sizes),
+    match inputs_of(part) {
+        Inputs::Stream => Ok(price_of_scan(part, sizes)),
         Inputs::One(input) => {
-            let best = least_at(alloc, want, input, lookup, sizes, found)?;
-            computed_one(alloc, want, part, input, best, lookup, sizes)
+            let best = choice_at(alloc, input, lookup, sizes, found)?;
+            Ok(price_of_one(best))
         }
         Inputs::Two(left, right) => {
-            let first = least_at(alloc, want, left, lookup, sizes, found)?;
-            let second = least_at(alloc, want, right, lookup, sizes, found)?;
-            computed_two(alloc, want, part, left, right, first, second, lookup, sizes)
+            let first = choice_at(alloc, left, lookup, sizes, found)?;
+            let second = choice_at(alloc, right, lookup, sizes, found)?;
+            Ok(price_of_two(first, second))
         }
     }
 }
 
-// The one that reads a kept result of the part, if there is one.
-fn read_at<L: Lookup, Z: Sizes>(
-    alloc: Global,
-    want: Want,
-    part: Part<'_, '_>,
-    lookup: &L,
-    sizes: &Z,
-) -> Result<Option<Priced>, Memory>
+// The estimate of the one that reads the kept result of the part, if there is one.
+fn read_at<L: Lookup>(alloc: Global, part: Part<'_, '_>, lookup: &L) -> Result<Option<u64>, Memory>
     requires sound { AreSound (L.entries lookup.now) }
-    ensures { IfOk result (LeastIfAny want IsRead (L.entries lookup.now) (Z.lengths sizes.now)
-        (plan_of part.entry.plan.now) part.entry.cuts.now) }
+    ensures { IfOk result (λ read. (lengths : Lengths) → IsEstimateIfAny IsRead (L.entries lookup.now)
+        lengths (plan_of part.entry.plan.now) part.entry.cuts.now read) }
 {
     match lookup.whole(alloc, part.plan, part.cuts)? {
         None => Ok(None),
-        Some(hit) => {
-            let made = read_whole(alloc, want, part.plan, part.cuts, hit, lookup, sizes)?;
-            Ok(Some(made))
-        }
+        Some(hit) => Ok(Some(file_len(&hit))),
     }
 }
 
-// A least one of those that grow an earlier result, if there is one.
+// The estimate of a least one of those that grow an earlier result, if there is one.
 #[cycle(search)]
 fn grown_at<'p, L: Lookup, Z: Sizes>(
     alloc: Global,
-    want: Want,
     part: Part<'p, '_>,
     lookup: &L,
     sizes: &Z,
     found: &mut Found<'p>,
-) -> Result<Option<Priced>, Memory>
+) -> Result<Option<u64>, Memory>
     requires sound { AreSound (L.entries lookup.now) }
     requires cuts { IsCutOf (Z.lengths sizes.now) (plan_of part.plan.now) part.cuts.now }
     requires found { AreFound (L.entries lookup.now) (Z.lengths sizes.now) found.old }
-    ensures answer { IfOk result (LeastIfAny want IsGrown (L.entries lookup.now) (Z.lengths sizes.now)
+    ensures answer { IfOk result (IsEstimateIfAny IsGrown (L.entries lookup.now) (Z.lengths sizes.now)
         (plan_of part.entry.plan.now) part.entry.cuts.now) }
     ensures found { OnOk result (AreFound (L.entries lookup.now) (Z.lengths sizes.now) found.new) }
 {
     match lookup.earlier(alloc, part.plan, part.cuts)? {
         None => Ok(None),
-        Some(hit) => grown_from(alloc, want, part, &hit, lookup, sizes, found),
+        Some(hit) => grown_from(alloc, part, &hit, lookup, sizes, found),
     }
 }
 
-// A least one of those that grow this result.
+// The estimate of a least one of those that grow this result.
 #[cycle(search)]
 fn grown_from<'p, L: Lookup, Z: Sizes>(
     alloc: Global,
-    want: Want,
     part: Part<'p, '_>,
     hit: &Hit,
     lookup: &L,
     sizes: &Z,
     found: &mut Found<'p>,
-) -> Result<Option<Priced>, Memory>
+) -> Result<Option<u64>, Memory>
     requires sound { AreSound (L.entries lookup.now) }
     requires cuts { IsCutOf (Z.lengths sizes.now) (plan_of part.plan.now) part.cuts.now }
     requires hit { IsEarlier (L.entries lookup.now) (plan_of part.plan.now) part.cuts.now hit.now }
     requires found { AreFound (L.entries lookup.now) (Z.lengths sizes.now) found.old }
-    ensures answer { IfOk result (LeastIfAny want IsGrown (L.entries lookup.now) (Z.lengths sizes.now)
+    ensures answer { IfOk result (IsEstimateIfAny IsGrown (L.entries lookup.now) (Z.lengths sizes.now)
         (plan_of part.entry.plan.now) part.entry.cuts.now) }
     ensures found { OnOk result (AreFound (L.entries lookup.now) (Z.lengths sizes.now) found.new) }
 {
-    match growth_of(part, hit, lookup, sizes) {
+    match growth_of(part, hit) {
         Growth::Never => Ok(None),
         Growth::Tail(tail) => {
-            let delta = delta_at(alloc, want, tail, lookup, sizes, found)?;
-            grown_tail(alloc, want, part, hit, tail, delta, lookup, sizes)
+            let delta = price_at(alloc, tail, lookup, sizes, found)?;
+            Ok(estimate_of_tail(hit, delta))
         }
         Growth::Left { left, right } => {
-            let pair = pair_at(alloc, want, left, right, lookup, sizes, found)?;
-            grown_left(alloc, want, part, hit, left, right, pair, lookup, sizes)
+            let pair = pair_at(alloc, left, right, lookup, sizes, found)?;
+            Ok(estimate_of_pair(hit, pair))
         }
         Growth::Right { left, right } => {
-            let pair = pair_at(alloc, want, right, left, lookup, sizes, found)?;
-            grown_right(alloc, want, part, hit, left, right, pair, lookup, sizes)
+            let pair = pair_at(alloc, right, left, lookup, sizes, found)?;
+            Ok(estimate_of_pair(hit, pair))
         }
         Growth::Both(parts) => {
             let (more_right, old_left) = (parts.right_delta, parts.old_left);
-            let before = pair_at(alloc, want, more_right, old_left, lookup, sizes, found)?;
+            let before = pair_at(alloc, more_right, old_left, lookup, sizes, found)?;
             let (more_left, right) = (parts.left_delta, parts.right);
-            let behind = pair_at(alloc, want, more_left, right, lookup, sizes, found)?;
-            grown_both(alloc, want, part, hit, parts, before, behind, lookup, sizes)
+            let behind = pair_at(alloc, more_left, right, lookup, sizes, found)?;
+            Ok(estimate_of_both(hit, before, behind))
         }
     }
 }
 
-// A least delta over the stretch and a least rewriting of the part, if there is such a delta.
+// The price of a least delta over the stretch and the choice of the part, if there is such a delta.
 #[cycle(search)]
 fn pair_at<'p, L: Lookup, Z: Sizes>(
     alloc: Global,
-    want: Want,
     stretch: Stretch<'p, '_>,
     part: Part<'p, '_>,
     lookup: &L,
     sizes: &Z,
     found: &mut Found<'p>,
-) -> Result<Option<PricedPair>, Memory>
+) -> Result<Option<PairPrice>, Memory>
     requires sound { AreSound (L.entries lookup.now) }
     requires stretch { AreCutsOf (Z.lengths sizes.now) (plan_of stretch.plan.now) stretch.old.now
         stretch.new.now }
     requires cuts { IsCutOf (Z.lengths sizes.now) (plan_of part.plan.now) part.cuts.now }
     requires found { AreFound (L.entries lookup.now) (Z.lengths sizes.now) found.old }
-    ensures answer { IfOk result (LeastPairIfAny want (L.entries lookup.now) (Z.lengths sizes.now)
+    ensures answer { IfOk result (IsPairPriceIfAny (L.entries lookup.now) (Z.lengths sizes.now)
         stretch.entry part.entry) }
     ensures found { OnOk result (AreFound (L.entries lookup.now) (Z.lengths sizes.now) found.new) }
 {
-    match delta_at(alloc, want, stretch, lookup, sizes, found)? {
+    match price_at(alloc, stretch, lookup, sizes, found)? {
         None => Ok(None),
         Some(delta) => {
-            let best = least_at(alloc, want, part, lookup, sizes, found)?;
-            Ok(Some(PricedPair {
-                delta,
-                best: best.priced,
-            }))
+            let best = choice_at(alloc, part, lookup, sizes, found)?;
+            Ok(Some(PairPrice { delta, best }))
         }
     }
 }
 
-// A least delta over the stretch, if there is one.
-#[cycle(search)]
-fn delta_at<'p, L: Lookup, Z: Sizes>(
-    alloc: Global,
-    want: Want,
-    stretch: Stretch<'p, '_>,
-    lookup: &L,
-    sizes: &Z,
-    found: &mut Found<'p>,
-) -> Result<Option<PricedDelta>, Memory>
-    requires sound { AreSound (L.entries lookup.now) }
-    requires cuts { AreCutsOf (Z.lengths sizes.now) (plan_of stretch.plan.now) stretch.old.now
-        stretch.new.now }
-    requires found { AreFound (L.entries lookup.now) (Z.lengths sizes.now) found.old }
-    ensures answer { IfOk result (LeastDeltaIfAny want (L.entries lookup.now) (Z.lengths sizes.now)
-        (plan_of stretch.entry.plan.now) stretch.entry.old.now stretch.entry.new.now) }
-    ensures found { OnOk result (AreFound (L.entries lookup.now) (Z.lengths sizes.now) found.new) }
-{
-    match want {
-        Want::Price => {
-            let price = price_at(alloc, stretch, lookup, sizes, found)?;
-            Ok(priced_alone(price))
-        }
-        Want::Tree => increased_at(alloc, want, stretch, lookup, sizes, found),
-    }
-}
-
-// The price of a least delta over the stretch, which is looked for once.
+// The price of a least delta over the stretch, if there is one, which is looked for once.
 #[cycle(search)]
 fn price_at<'p, L: Lookup, Z: Sizes>(
     alloc: Global,
@@ -332,7 +221,7 @@ fn price_at<'p, L: Lookup, Z: Sizes>(
     lookup: &L,
     sizes: &Z,
     found: &mut Found<'p>,
-) -> Result<Option<DeltaPrice>, Memory>
+) -> Result<Option<Price>, Memory>
     requires sound { AreSound (L.entries lookup.now) }
     requires cuts { AreCutsOf (Z.lengths sizes.now) (plan_of stretch.plan.now) stretch.old.now
         stretch.new.now }
@@ -344,45 +233,43 @@ fn price_at<'p, L: Lookup, Z: Sizes>(
     if let Some(price) = found.price(stretch) {
         return Ok(price);
     }
-    let delta = increased_at(alloc, Want::Price, stretch, lookup, sizes, found)?;
-    let price = price_of(&delta);
+    let price = increased_at(alloc, stretch, lookup, sizes, found)?;
     found.keep_price(alloc, stretch, price)?;
     Ok(price)
 }
 
-// A least delta over the stretch, made of its parts, if there is one.
+// The price of a least delta over the stretch, by those of its parts, if there is one.
 #[cycle(search)]
 fn increased_at<'p, L: Lookup, Z: Sizes>(
     alloc: Global,
-    want: Want,
     stretch: Stretch<'p, '_>,
     lookup: &L,
     sizes: &Z,
     found: &mut Found<'p>,
-) -> Result<Option<PricedDelta>, Memory>
+) -> Result<Option<Price>, Memory>
     requires sound { AreSound (L.entries lookup.now) }
     requires cuts { AreCutsOf (Z.lengths sizes.now) (plan_of stretch.plan.now) stretch.old.now
         stretch.new.now }
     requires found { AreFound (L.entries lookup.now) (Z.lengths sizes.now) found.old }
-    ensures answer { IfOk result (LeastDeltaIfAny want (L.entries lookup.now) (Z.lengths sizes.now)
+    ensures answer { IfOk result (IsDeltaPriceIfAny (L.entries lookup.now) (Z.lengths sizes.now)
         (plan_of stretch.entry.plan.now) stretch.entry.old.now stretch.entry.new.now) }
     ensures found { OnOk result (AreFound (L.entries lookup.now) (Z.lengths sizes.now) found.new) }
 {
-    match increase_of(stretch, lookup, sizes) {
+    match increase_of(stretch) {
         Increase::Never => Ok(None),
-        Increase::Unchanged => unchanged(alloc, want, stretch, lookup, sizes),
-        Increase::NewRows => new_rows(alloc, want, stretch, lookup, sizes),
+        Increase::Unchanged => Ok(Some(price_of_nothing())),
+        Increase::NewRows => Ok(Some(price_of_new_rows(stretch, sizes))),
         Increase::Child(child) => {
-            let delta = delta_at(alloc, want, child, lookup, sizes, found)?;
-            delta_of_child(alloc, want, stretch, child, delta, lookup, sizes)
+            let delta = price_at(alloc, child, lookup, sizes, found)?;
+            Ok(price_over_child(delta))
         }
         Increase::Distinct { before, child } => {
-            let pair = pair_at(alloc, want, child, before, lookup, sizes, found)?;
-            delta_of_distinct(alloc, want, stretch, before, child, pair, lookup, sizes)
+            let pair = pair_at(alloc, child, before, lookup, sizes, found)?;
+            Ok(price_over_pair(pair))
         }
         Increase::Join { left, right } => {
-            let pair = pair_at(alloc, want, left, right, lookup, sizes, found)?;
-            delta_of_join(alloc, want, stretch, left, right, pair, lookup, sizes)
+            let pair = pair_at(alloc, left, right, lookup, sizes, found)?;
+            Ok(price_over_pair(pair))
         }
     }
 }

@@ -8,7 +8,7 @@ ghost use Rattle.rewriter.specs.Table.{AreFound, IsKnownChoice, IsKnownDelta};
 
 use crate::parts::{Part, Stretch};
 use crate::places::key;
-use crate::priced::{Choice, DeltaPrice};
+use crate::priced::{Choice, Price};
 use estimator::are_same_cuts;
 use indexmap::IndexMap;
 use plan_core::Plan;
@@ -42,12 +42,12 @@ struct KnownDelta<'p> {
     plan: &'p Plan,
     old: Seq<Cut>,
     new: Seq<Cut>,
-    price: Option<DeltaPrice>,
+    price: Option<Price>,
 }
 
 impl KnownDelta<'_> {
     // The price, where it is for this stretch.
-    fn price_of(&self, stretch: Stretch<'_, '_>) -> Option<Option<DeltaPrice>>
+    fn price_of(&self, stretch: Stretch<'_, '_>) -> Option<Option<Price>>
         ensures { (entries : Entries) (lengths : Lengths) → IsKnownDelta entries lengths self.now
             → IfSome result (IsDeltaPriceIfAny entries lengths (plan_of stretch.entry.plan.now)
             stretch.entry.old.now stretch.entry.new.now) }
@@ -113,7 +113,7 @@ impl<'p> Found<'p> {
     }
 
     /// The price of a least delta over this stretch, if it was looked for.
-    pub fn price(&self, stretch: Stretch<'_, '_>) -> Option<Option<DeltaPrice>>
+    pub fn price(&self, stretch: Stretch<'_, '_>) -> Option<Option<Price>>
         ensures { (entries : Entries) (lengths : Lengths) → AreFound entries lengths self.now
             → IfSome result (IsDeltaPriceIfAny entries lengths (plan_of stretch.entry.plan.now)
             stretch.entry.old.now stretch.entry.new.now) }
@@ -129,7 +129,7 @@ impl<'p> Found<'p> {
         &mut self,
         alloc: Global,
         stretch: Stretch<'p, '_>,
-        price: Option<DeltaPrice>,
+        price: Option<Price>,
     ) -> Result<(), Memory>
         ensures { OnOk result ((entries : Entries) (lengths : Lengths) → AreFound entries lengths self.old
             → IsDeltaPriceIfAny entries lengths (plan_of stretch.entry.plan.now)

@@ -7,6 +7,7 @@ pub mod GroupLaws
 pub mod SumLaws
 pub mod KeptLaws
 pub mod Exact
+pub mod TruthLaws
 pub mod ValuePlaces
 pub mod ItemPlaces
 pub mod RulePlaces

@@ -1,5 +1,5 @@
 -- Where values, rows, sums, counts and accumulators stop.
-use Rattle.std.proofs.Common.{◌≡◌, ℕ, ℤ, pos, negsuc, suc, ◌-◌, ◌/◌, ◌%◌, ◌^◌, ◌<◌, ◌≤◌, cond, ltb, List, ◌++◌, length, Ok, Err, refl, sym, ap, subst, ◌∙◌, arith, inl, inr}
+use Rattle.std.proofs.Common.{◌≡◌, ℕ, ℤ, pos, negsuc, suc, ◌-◌, ◌/◌, ◌%◌, ◌^◌, ◌<◌, ◌≤◌, Bool, cond, ltb, List, ◌++◌, length, Ok, Err, refl, sym, ap, subst, ◌∙◌, arith, inl, inr}
 use Rattle.std.specs.Prelude.{slice_index}
 use Rattle.std.specs.Int.{w64, w128, to_be_bytes, cast_signed, cast_unsigned}
 use Rattle.std.specs.List.{flat_map}
@@ -15,7 +15,7 @@ use Rattle.row_blob.specs.declared.kept.Acc.{Acc}
 use Rattle.row_blob.specs.declared.kept.Acc.TheVariants as acc
 use Rattle.row_blob.specs.declared.shape.AccKind.{AccKind}
 use Rattle.row_blob.specs.declared.shape.AccKind.TheVariants as acc_kind
-use Rattle.byte_formats.specs.Format.{signed, text_spelling}
+use Rattle.byte_formats.specs.Format.{signed, text_spelling, flag}
 use Rattle.row_blob.specs.Spelling.{value_spelling, row_spelling, acc_spelling}
 use Rattle.byte_formats.specs.Reading.{◌>>=◌, Read, number_at, bounded_at, text_at}
 use Rattle.row_blob.specs.Reading.{value_at, row_at, sum_bound, sum_low, sum_high, sum_at, count_at, acc_at, accs_at}
@@ -31,16 +31,22 @@ use Rattle.byte_formats.proofs.Stopping.{GoesTo, IsExact, bind_err}
 use Rattle.row_blob.proofs.Exact.{mapped_exact, pair_exact, each_exact}
 use Rattle.byte_formats.proofs.Ranges.{big64, big128, number_exact, bounded_exact}
 use Rattle.byte_formats.proofs.TextPlaces.{text_exact}
+use Rattle.byte_formats.proofs.Told.{flag_fits}
+use Rattle.row_blob.proofs.TruthLaws.{flag_places}
 
 -- ---- values and rows
 
 int_from : (v : Value) → IsValue the_kind.Int v → (n : ℕ) × (n < 2 ^ 64) × (value_spelling v ≡ to_be_bytes w64 n)
 int_from (value.Int n) fits = (cast_unsigned w64 n, (of_z_fits w64 n fits).fits, refl)
-int_from (value.Text t) fits = absurd fits
+int_from _ fits = absurd fits
 
 text_from : (v : Value) → IsValue the_kind.Text v → (t : List ℕ) × IsTxt t × (value_spelling v ≡ text_spelling t)
-text_from (value.Int n) fits = absurd fits
 text_from (value.Text t) fits = (t, fits, refl)
+text_from _ fits = absurd fits
+
+truth_from : (v : Value) → IsValue the_kind.Bool v → (b : Bool) × flag.Fits b × (value_spelling v ≡ flag.spell b)
+truth_from (value.Bool b) fits = (b, flag_fits b, refl)
+truth_from _ fits = absurd fits
 
 pub value_exact : (kind : kind.Kind) → IsExact (value_at kind) value_spelling (IsValue kind)
 unfolding value_at
@@ -51,6 +57,9 @@ value_exact the_kind.Int =
 value_exact the_kind.Text =
     mapped_exact (λ (t : List ℕ). value.Text t) text_at text_spelling IsTxt value_spelling (IsValue the_kind.Text)
     (record { to = λ t fits. (fits, refl); from = text_from }) text_exact
+value_exact the_kind.Bool =
+    mapped_exact (λ (b : Bool). value.Bool b) flag.read flag.spell flag.Fits value_spelling (IsValue the_kind.Bool)
+    (record { to = λ b fits. (tt, refl); from = truth_from }) flag_places
 
 pub row_exact : (kinds : List kind.Kind) → IsExact (row_at kinds) row_spelling (IsRow kinds)
 unfolding row_at

@@ -20,12 +20,12 @@ use Rattle.row_blob.specs.declared.shape.AccKind.TheVariants as acc_kind
 use Rattle.row_blob.specs.declared.shape.Shape.{Shape}
 use Rattle.row_blob.specs.declared.shape.Shape.TheVariants as shape
 
--- a number in i64, or a text of 1,000 bytes at most
+-- a number in i64, a text of 1,000 bytes at most, or a truth value
 abbrev pub IsValue : kind.Kind → Value → Type 0
 IsValue the_kind.Int (value.Int n) = FitsSigned w64 n
-IsValue the_kind.Int (value.Text t) = ⊥
-IsValue the_kind.Text (value.Int n) = ⊥
 IsValue the_kind.Text (value.Text t) = IsTxt t
+IsValue the_kind.Bool (value.Bool b) = Unit {0}
+IsValue _ _ = ⊥
 
 -- one of each kind, in order
 abbrev pub AreEach : {K A : Type 0} → (K → A → Type 0) → List K → List A → Type 0

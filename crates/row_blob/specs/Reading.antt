@@ -20,6 +20,7 @@ use Rattle.row_blob.specs.declared.shape.Shape.{Shape}
 use Rattle.row_blob.specs.declared.shape.Shape.TheVariants as shape
 use Rattle.row_blob.specs.declared.refusal.BlobRefusal.{BlobRefusal}
 use Rattle.row_blob.specs.declared.refusal.BlobRefusal.TheVariants as refusal
+use Rattle.byte_formats.specs.Format.{flag}
 use Rattle.byte_formats.specs.Reading.{◌>>=◌, Read, literal_at, number_at, bounded_at, text_at, ended}
 use Rattle.row_blob.specs.Spelling.{opening}
 use Rattle.rows_core.specs.Value.{row_eq}
@@ -38,6 +39,9 @@ value_at the_kind.Int bytes = do
 value_at the_kind.Text bytes = do
   t ← text_at bytes
   Ok (value.Text t.0, t.1)
+value_at the_kind.Bool bytes = do
+  b ← flag.read bytes
+  Ok (value.Bool b.0, b.1)
 
 -- one item for each kind, behind the items that were read before
 abbrev pub each_at : {K A : Type 0} → (K → List ℕ → Read A) → List K → List A → List ℕ → Read (List A)

@@ -3,8 +3,8 @@ use Rattle.std.specs.Prelude.{ℕ, List, [], ◌∷◌, ◌++◌, length}
 use Rattle.std.specs.Int.{w64, w128, to_be_bytes}
 use Rattle.std.specs.List.{flat_map}
 use Rattle.rows_core.specs.declared.value.Value.{Value}
-use Rattle.rows_core.specs.declared.value.Value.TheVariants.{Int, Text}
-use Rattle.byte_formats.specs.Format.{signed, text_spelling}
+use Rattle.rows_core.specs.declared.value.Value.TheVariants.{Int, Text, Bool}
+use Rattle.byte_formats.specs.Format.{signed, text_spelling, byte_of_flag}
 use Rattle.row_blob.specs.declared.kept.Acc.{Acc}
 use Rattle.row_blob.specs.declared.kept.Acc.TheVariants.{Count, Sum, Avg, Pick}
 use Rattle.row_blob.specs.declared.kept.GroupRow.{GroupRow}
@@ -12,10 +12,11 @@ use Rattle.row_blob.specs.declared.kept.TaggedRow.{TaggedRow}
 use Rattle.row_blob.specs.declared.kept.Kept.{Kept}
 use Rattle.row_blob.specs.declared.kept.Kept.TheVariants.{Rows, Groups, Tagged}
 
--- a number in 8 bytes; a text's length in 4, and its bytes
+-- a number in 8 bytes; a text's length in 4, and its bytes; a truth value in one, 0 or 1
 abbrev pub value_spelling : Value → List ℕ
 value_spelling (Int n) = signed w64 n
 value_spelling (Text t) = text_spelling t
+value_spelling (Bool b) = byte_of_flag b ∷ []
 
 abbrev pub row_spelling : List Value → List ℕ
 row_spelling row = flat_map value_spelling row

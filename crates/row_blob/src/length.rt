@@ -77,6 +77,7 @@ fn value_len(value: &Value) -> u64
     match value {
         Value::Int(_) => 8,
         Value::Text(text) => 4 + text.bytes().len() as u64,
+        Value::Bool(_) => 1,
     }
 }
 

@@ -6,7 +6,7 @@ ghost use Rattle.row_blob.specs.Spelling.{value_spelling, acc_spelling, group_sp
 ghost use Rattle.row_blob.specs.Spelling.{row_spelling};
 
 use crate::kept::{Acc, GroupRow, TaggedRow};
-use byte_formats::{put_i64, put_text, put_u64, put_u128};
+use byte_formats::{put_flag, put_i64, put_text, put_u64, put_u128};
 use rows_core::{Memory, Row, Value};
 
 fn put_value(out: &mut Vec<u8>, value: &Value) -> Result<(), Memory>
@@ -15,6 +15,7 @@ fn put_value(out: &mut Vec<u8>, value: &Value) -> Result<(), Memory>
     match value {
         Value::Int(number) => put_i64(out, *number),
         Value::Text(text) => put_text(out, text),
+        Value::Bool(truth) => put_flag(out, *truth),
     }
 }
 

@@ -3,7 +3,7 @@ ghost use Rattle.std.specs.Prelude.{◌≡◌, []};
 ghost use Rattle.byte_formats.specs.Reading.{Gives};
 ghost use Rattle.row_blob.specs.Reading.{value_at, row_at, rows_at, items_at};
 
-use byte_formats::{Unread, text_at, u64_at};
+use byte_formats::{Unread, flag_at, text_at, u64_at};
 use rows_core::{Kind, Row, Value};
 use std::alloc::Global;
 
@@ -20,6 +20,10 @@ pub fn value_at(alloc: Global, kind: Kind, bytes: &[u8]) -> Result<(Value, &[u8]
         Kind::Text => {
             let (text, rest) = text_at(alloc, bytes)?;
             Ok((Value::Text(text), rest))
+        }
+        Kind::Bool => {
+            let (truth, rest) = flag_at(bytes)?;
+            Ok((Value::Bool(truth), rest))
         }
     }
 }

@@ -1,18 +1,18 @@
 -- Reading a line stops only where no row is spelled so.
 use Prim.Native.Nat.{suc}
-use Rattle.std.proofs.Common.{◌≡◌, ◌≢◌, refl, sym, ap, ◌∙◌, ℕ, ◌<◌, ◌≤◌, List, [], ◌∷◌, ◌++◌, length, take, drop, get_or, map, ◌*◌, arith, append_assoc, append-nil, length-append, drop-cons, inl, inr}
+use Rattle.std.proofs.Common.{◌≡◌, ◌≢◌, refl, sym, ap, ◌∙◌, ℕ, ◌<◌, ◌≤◌, List, [], ◌∷◌, ◌++◌, length, take, drop, get_or, map, ◌*◌, arith, append_assoc, append-nil, length-append, drop-cons, inl, inr, true, false}
 use Rattle.std.proofs.lemmas.List.{take-append-drop, map-append, drop_all, append_cancel_left}
 use Rattle.std.specs.List.{flat_map, AllByRecursion}
 use Rattle.rows_core.specs.declared.schema.Column.{Column}
 use Rattle.rows_core.specs.declared.value.Value.{Value}
-use Rattle.rows_core.specs.declared.value.Value.TheVariants.{Int, Text}
+use Rattle.rows_core.specs.declared.value.Value.TheVariants.{Int, Text, Bool as Truth}
 use Rattle.std.proofs.lemmas.Fmt.{length_signed_le}
 use Rattle.rows_core.specs.Schema.{kinds_of}
 use Rattle.rows_core.specs.Value.{kind_of}
 use Rattle.row_text.specs.declared.field.Field.{Field}
 use Rattle.row_text.specs.RowSpelling.{byte_spelling, value_spelling, more_spelling, row_spelling, IsShort, IsLoose, IsLooseRow, IsLong, HasLong}
 use Rattle.row_text.specs.Fields.{value_of, values_of, Ends}
-use Rattle.row_text.proofs.Spellings.{Spelled, Escaped, Plain, byte_is, signed_decimal-nonempty, value_apart}
+use Rattle.row_text.proofs.Spellings.{Spelled, Escaped, Plain, byte_is, signed_decimal-nonempty, truth-nonempty, value_apart}
 
 Ends-more : (values : List Value) → Ends (more_spelling values)
 Ends-more [] = tt
@@ -94,6 +94,7 @@ no_others (column ∷ columns) first line rest some loose e spelled none (v ∷ 
 value_spelling-nonempty : (value : Value) → IsLoose value → 0 < length (value_spelling value)
 value_spelling-nonempty (Int n) fits = signed_decimal-nonempty n fits
 value_spelling-nonempty (Text t) text = omega arith
+value_spelling-nonempty (Truth b) truth = truth-nonempty b
 
 row_spelling-nonempty : (v : Value) (values : List Value) → IsLoose v → row_spelling (v ∷ values) ≢ []
 row_spelling-nonempty v values loose h =
@@ -125,6 +126,8 @@ text-length (b ∷ text) = omega (arith, length-append (byte_spelling b) (flat_m
 
 value-length : (value : Value) → IsLoose value → IsShort value → length (value_spelling value) ≤ 2002
 value-length (Int n) fits short = omega (arith, length_signed_le 19 n (omega (arith, fits.sfits)) fits.sfits)
+value-length (Truth true) truth short = omega arith
+value-length (Truth false) truth short = omega arith
 value-length (Text t) text short = omega (arith, short, text-length t, length-append (flat_map byte_spelling t) (34 ∷ []))
 
 more-length : (values : List Value) → AllByRecursion IsLoose values → AllByRecursion IsShort values → length (more_spelling values) ≤ 2003 * length values

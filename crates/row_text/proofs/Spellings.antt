@@ -6,8 +6,8 @@ use Rattle.std.specs.List.{flat_map, AllByRecursion}
 use Rattle.std.specs.Fmt.{signed_decimal}
 use Rattle.rows_core.specs.Txt.{IsText}
 use Rattle.rows_core.specs.declared.value.Value.{Value}
-use Rattle.rows_core.specs.declared.value.Value.TheVariants.{Int, Text}
-use Rattle.row_text.specs.RowSpelling.{is_escaped, byte_spelling, text_spelling, value_spelling, IsLoose}
+use Rattle.rows_core.specs.declared.value.Value.TheVariants.{Int, Text, Bool as Truth}
+use Rattle.row_text.specs.RowSpelling.{is_escaped, byte_spelling, text_spelling, truth_spelling, value_spelling, IsLoose}
 use Rattle.row_text.specs.Fields.{Ends, HasNoComma}
 use Rattle.std.specs.Str.Parse.{AllDigits}
 use Rattle.std.proofs.lemmas.Str.Parse.{digit_from_value}
@@ -104,9 +104,9 @@ pub signed_decimal-nonempty : (number : ℤ) → FitsSigned w64 number → 0 < l
 signed_decimal-nonempty (pos n) fits = decimal_nonempty n (omega (arith, fits.sfits))
 signed_decimal-nonempty (negsuc n) fits = omega arith
 
-signed_decimal-no_quote : (bytes rest after : List ℕ) → 0 < length bytes → AllFrom45 bytes → bytes ++ rest ≢ 34 ∷ after
-signed_decimal-no_quote [] rest after n a h = absurd (omega arith)
-signed_decimal-no_quote (c ∷ cs) rest after n a h =
+no_quote-from45 : (bytes rest after : List ℕ) → 0 < length bytes → AllFrom45 bytes → bytes ++ rest ≢ 34 ∷ after
+no_quote-from45 [] rest after n a h = absurd (omega arith)
+no_quote-from45 (c ∷ cs) rest after n a h =
     let quote : ℕ = 34 in
     let same : c ≡ quote = cc in
     absurd (omega (arith, a.0, same))
@@ -122,13 +122,68 @@ pub number_before_comma : (field rest : List ℕ) → HasNoComma field → Ends 
 number_before_comma field rest p e none n after fits f h =
     none n fits (before_comma field (signed_decimal n) rest after p (HasNoComma-from45 _ (AllFrom45-signed_decimal n fits)) e f h).0
 
+-- ---- truth values
+
+AllFrom45-truth : (b : Bool) → AllFrom45 (truth_spelling b)
+AllFrom45-truth true = (omega arith, (omega arith, (omega arith, (omega arith, tt))))
+AllFrom45-truth false = (omega arith, (omega arith, (omega arith, (omega arith, (omega arith, tt)))))
+
+pub truth-nonempty : (b : Bool) → 0 < length (truth_spelling b)
+truth-nonempty true = omega arith
+truth-nonempty false = omega arith
+
+-- what is up to the first comma is the truth value, where one stands there
+pub truth_before_comma : (field rest : List ℕ) → HasNoComma field → Ends rest → ((b : Bool) → field ≢ truth_spelling b) →
+    (b : Bool) (after : List ℕ) → Ends after → field ++ rest ≢ truth_spelling b ++ after
+truth_before_comma field rest p e none b after f h =
+    none b (before_comma field (truth_spelling b) rest after p (HasNoComma-from45 _ (AllFrom45-truth b)) e f h).0
+
+same_truth : (a b : Bool) → truth_spelling a ≡ truth_spelling b → a ≡ b
+same_truth true true h = refl
+same_truth true false h = absurd (omega (arith, ap length h))
+same_truth false true h = absurd (omega (arith, ap length h))
+same_truth false false h = refl
+
+truth_apart : (a b : Bool) (rest after : List ℕ) → Ends rest → Ends after → truth_spelling a ++ rest ≡ truth_spelling b ++ after → (a ≡ b) × (rest ≡ after)
+truth_apart a b rest after e f h =
+    let parts = before_comma _ _ rest after (HasNoComma-from45 _ (AllFrom45-truth a)) (HasNoComma-from45 _ (AllFrom45-truth b)) e f h in
+    (same_truth a b parts.0, parts.1)
+
+-- no byte of a number is a letter
+abbrev AllUpTo57 : List ℕ → Type 0
+AllUpTo57 bytes = AllByRecursion (λ byte. byte ≤ 57) bytes
+
+up_to_digits : (ds : List ℕ) → AllDigits 10 ds → AllUpTo57 ds
+up_to_digits [] d = tt
+up_to_digits (c ∷ cs) d = let range = digit_from_value c d.0 in (omega (arith, range.1), up_to_digits cs d.1)
+
+AllUpTo57-signed_decimal : (number : ℤ) → FitsSigned w64 number → AllUpTo57 (signed_decimal number)
+AllUpTo57-signed_decimal (pos n) fits = up_to_digits _ (decimal_is_IsNumeral n (omega (arith, fits.sfits))).0.1
+AllUpTo57-signed_decimal (negsuc n) fits = (omega arith, up_to_digits _ (decimal_is_IsNumeral (suc n) (omega (arith, fits.sfits))).0.1)
+
+truth-no_number : (b : Bool) → AllUpTo57 (truth_spelling b) → ⊥
+truth-no_number true all = omega (arith, all.0)
+truth-no_number false all = omega (arith, all.0)
+
+number-no_truth : (n : ℤ) (b : Bool) (rest after : List ℕ) → FitsSigned w64 n → Ends rest → Ends after → signed_decimal n ++ rest ≢ truth_spelling b ++ after
+number-no_truth n b rest after fits e f h =
+    let same = (before_comma _ _ rest after (HasNoComma-from45 _ (AllFrom45-signed_decimal n fits)) (HasNoComma-from45 _ (AllFrom45-truth b)) e f h).0 in
+    truth-no_number b (subst AllUpTo57 same (AllUpTo57-signed_decimal n fits))
+
 -- a value up to a comma or the end is determined
 pub value_apart : (v w : Value) (rest after : List ℕ) → IsLoose v → IsLoose w → Ends rest → Ends after → value_spelling v ++ rest ≡ value_spelling w ++ after → (v ≡ w) × (rest ≡ after)
 value_apart (Int m) (Int n) rest after p q e f h =
     let parts = number_apart m n rest after p q e f h in
     (ap Int parts.0, parts.1)
-value_apart (Int m) (Text t) rest after p q e f h = absurd (signed_decimal-no_quote _ _ _ (signed_decimal-nonempty m p) (AllFrom45-signed_decimal m p) h)
-value_apart (Text s) (Int n) rest after p q e f h = absurd (signed_decimal-no_quote _ _ _ (signed_decimal-nonempty n q) (AllFrom45-signed_decimal n q) (sym h))
+value_apart (Int m) (Text t) rest after p q e f h = absurd (no_quote-from45 _ _ _ (signed_decimal-nonempty m p) (AllFrom45-signed_decimal m p) h)
+value_apart (Text s) (Int n) rest after p q e f h = absurd (no_quote-from45 _ _ _ (signed_decimal-nonempty n q) (AllFrom45-signed_decimal n q) (sym h))
+value_apart (Int m) (Truth b) rest after p q e f h = absurd (number-no_truth m b rest after p e f h)
+value_apart (Truth a) (Int n) rest after p q e f h = absurd (number-no_truth n a after rest q f e (sym h))
+value_apart (Truth a) (Truth b) rest after p q e f h =
+    let parts = truth_apart a b rest after e f h in
+    (ap Truth parts.0, parts.1)
+value_apart (Truth a) (Text t) rest after p q e f h = absurd (no_quote-from45 _ _ _ (truth-nonempty a) (AllFrom45-truth a) h)
+value_apart (Text s) (Truth b) rest after p q e f h = absurd (no_quote-from45 _ _ _ (truth-nonempty b) (AllFrom45-truth b) (sym h))
 value_apart (Text s) (Text t) rest after p q e f h =
     let inner : (flat_map byte_spelling s ++ 34 ∷ []) ++ rest ≡ (flat_map byte_spelling t ++ 34 ∷ []) ++ after = cc in
     let bytes : flat_map byte_spelling s ++ 34 ∷ rest ≡ flat_map byte_spelling t ++ 34 ∷ after =

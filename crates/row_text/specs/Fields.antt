@@ -4,12 +4,13 @@ use Rattle.std.specs.List.{AllByRecursion}
 use Rattle.rows_core.specs.declared.value.Value.{Value}
 use Rattle.rows_core.specs.declared.value.Value.TheVariants as value
 use Rattle.row_text.specs.declared.field.Field.{Field}
-use Rattle.row_text.specs.declared.field.Field.TheVariants.{Int, Text}
+use Rattle.row_text.specs.declared.field.Field.TheVariants.{Int, Text, Bool}
 
 -- a field as a value with a text of any length
 abbrev pub value_of : Field → Value
 value_of (Int number) = value.Int number
 value_of (Text text) = value.Text text
+value_of (Bool truth) = value.Bool truth
 
 abbrev pub values_of : List Field → List Value
 values_of fields = map value_of fields

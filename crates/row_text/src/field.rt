@@ -1,5 +1,5 @@
 //! The value at the front of a line.
-ghost use Rattle.std.specs.Prelude.{◌≡◌, ◌≢◌, ◌++◌, ◌∷◌, ℕ, ℤ, List, IfOk, IfSome, IfNone, MatchOption};
+ghost use Rattle.std.specs.Prelude.{◌≡◌, ◌≢◌, ◌++◌, ◌∷◌, ℕ, ℤ, Bool, List, IfOk, IfSome, IfNone, MatchOption};
 ghost use Rattle.std.specs.Prelude.{FitsSigned, IsTrue, ◌↔◌};
 ghost use Rattle.std.specs.List.{flat_map, AllByRecursion};
 ghost use Rattle.std.specs.Int.{w64};
@@ -7,7 +7,7 @@ ghost use Rattle.std.specs.Fmt.{signed_decimal};
 ghost use Rattle.rows_core.specs.declared.value.Value.{Value};
 ghost use Rattle.rows_core.specs.Txt.{IsText};
 ghost use Rattle.rows_core.specs.Value.{kind_of};
-ghost use Rattle.row_text.specs.RowSpelling.{byte_spelling, text_spelling, value_spelling, IsLoose};
+ghost use Rattle.row_text.specs.RowSpelling.{byte_spelling, text_spelling, truth_spelling, value_spelling, IsLoose};
 ghost use Rattle.row_text.specs.Fields.{value_of, Ends, HasNoComma};
 
 use itoa::Buffer;
@@ -19,6 +19,7 @@ use std::alloc::Global;
 pub enum Field {
     Int(i64),
     Text(Seq<u8>),
+    Bool(bool),
 }
 
 /// The value of this kind at the front of a line and what stands after it, which is nothing or begins with a
@@ -35,6 +36,7 @@ pub fn field_at(alloc: Global, kind: Kind, bytes: &[u8]) -> Result<Option<(Field
     match kind {
         Kind::Int => Ok(number_at(bytes)),
         Kind::Text => text_field_at(alloc, bytes),
+        Kind::Bool => Ok(truth_at(bytes)),
     }
 }
 
@@ -85,6 +87,33 @@ fn is_spelling_of(bytes: &[u8], number: i64) -> bool
     ensures { IsTrue result ↔ (bytes.now ≡ signed_decimal number) }
 {
     Buffer::new().format(number).as_bytes() == bytes
+}
+
+fn truth_at(bytes: &[u8]) -> Option<(Field, &[u8])>
+    ensures kind { IfSome result (λ f. kind_of (value_of f.0) ≡ Kind.Bool) }
+    ensures loose { IfSome result (λ f. IsLoose (value_of f.0)) }
+    ensures ends { IfSome result (λ f. Ends f.1.now) }
+    ensures found { IfSome result (λ f. bytes.now ≡ value_spelling (value_of f.0) ++ f.1.now) }
+    ensures none { IfNone result ((truth : Bool) (rest : List ℕ) →
+        Ends rest → bytes.now ≢ truth_spelling truth ++ rest) }
+{
+    let (field, rest) = up_to_comma(bytes);
+    match truth_of(field) {
+        Some(truth) => Some((Field::Bool(truth), rest)),
+        None => None,
+    }
+}
+
+/// The truth value that is spelled so.
+fn truth_of(bytes: &[u8]) -> Option<bool>
+    ensures found { IfSome result (λ truth. bytes.now ≡ truth_spelling truth) }
+    ensures none { IfNone result ((truth : Bool) → bytes.now ≢ truth_spelling truth) }
+{
+    match bytes {
+        b"true" => Some(true),
+        b"false" => Some(false),
+        _ => None,
+    }
 }
 
 fn text_field_at(alloc: Global, bytes: &[u8]) -> Result<Option<(Field, &[u8])>, Memory>

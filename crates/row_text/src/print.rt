@@ -4,8 +4,8 @@ ghost use Rattle.std.specs.Prelude.{vec_len, vec_capacity};
 ghost use Rattle.std.specs.List.{flat_map, AllByRecursion};
 ghost use Rattle.rows_core.specs.declared.value.Value.{Value};
 ghost use Rattle.std.specs.Fmt.{signed_decimal};
-ghost use Rattle.row_text.specs.RowSpelling.{byte_spelling, text_spelling, value_spelling, more_spelling};
-ghost use Rattle.row_text.specs.RowSpelling.{row_spelling, IsLoose, IsShort};
+ghost use Rattle.row_text.specs.RowSpelling.{byte_spelling, text_spelling, truth_spelling, value_spelling};
+ghost use Rattle.row_text.specs.RowSpelling.{more_spelling, row_spelling, IsLoose, IsShort};
 
 use itoa::Buffer;
 use rows_core::{Memory, Row, Value};
@@ -32,7 +32,7 @@ pub fn row_is_short(row: &Row)
     read_values(row.values());
 }
 
-// The values of a row are numbers in i64 and texts of at most 1,000 bytes.
+// The values of a row are numbers in i64, texts of at most 1,000 bytes, and truth values.
 fn read_values(values: &[Value])
     ensures loose { AllByRecursion IsLoose values.now }
     ensures short { AllByRecursion IsShort values.now }
@@ -54,6 +54,7 @@ fn read_value(value: &Value)
         Value::Text(text) => {
             let _bytes = text.bytes();
         }
+        Value::Bool(_) => {}
     }
 }
 
@@ -119,6 +120,7 @@ fn append_value(value: &Value, to: &mut Vec<u8>) -> Result<(), Memory>
     match value {
         Value::Int(number) => append_number(*number, to),
         Value::Text(text) => append_text(text.bytes(), to),
+        Value::Bool(truth) => append_truth(*truth, to),
     }
 }
 
@@ -131,6 +133,22 @@ fn append_number(number: i64, to: &mut Vec<u8>) -> Result<(), Memory>
     let mut buffer = Buffer::new();
     to.extend_from_slice(buffer.format(number).as_bytes())?;
     Ok(())
+}
+
+fn append_truth(truth: bool, to: &mut Vec<u8>) -> Result<(), Memory>
+    ensures ok { OnOk result (to.new.items ≡ to.old.items ++ truth_spelling truth) }
+    ensures start { take (vec_len to.old) to.new.items ≡ to.old.items }
+    ensures full { OnErr result (vec_capacity to.old < vec_len to.old + length (truth_spelling truth)) }
+    ensures capacity { vec_capacity to.old ≤ vec_capacity to.new }
+{
+    to.extend_from_slice(word_of(truth))?;
+    Ok(())
+}
+
+fn word_of(truth: bool) -> &'static [u8]
+    ensures { result.now ≡ truth_spelling truth }
+{
+    if truth { b"true" } else { b"false" }
 }
 
 fn append_text(text: &[u8], to: &mut Vec<u8>) -> Result<(), Memory>

@@ -144,6 +144,7 @@ fn value_of_field(field: Field) -> Result<Value, RowRefusal>
 {
     match field {
         Field::Int(number) => Ok(Value::Int(number)),
+        Field::Bool(truth) => Ok(Value::Bool(truth)),
         Field::Text(text) => match Txt::from_vec(text.into_vec()) {
             Ok(text) => Ok(Value::Text(text)),
             Err(TxtRefusal::NotText) => Err(RowRefusal::NotRow),

@@ -1,5 +1,6 @@
 pub mod Equality
 pub mod Kind
+pub mod Limits
 pub mod Name
 pub mod RowOrder
 pub mod Schema

@@ -5,11 +5,12 @@ ghost use Rattle.rows_core.specs.declared.kind.Kind.{Kind};
 
 use crate::exact_eq::ExactEq;
 
-/// What a column's values are: numbers in i64, or texts.
+/// What a column's values are: numbers in i64, texts or truth values.
 #[derive(Clone, Copy, PartialEq, Eq)]
 pub enum Kind {
     Int,
     Text,
+    Bool,
 }
 
 impl Kind {
@@ -23,6 +24,7 @@ impl Kind {
         match word {
             b"int" => Some(Kind::Int),
             b"text" => Some(Kind::Text),
+            b"bool" => Some(Kind::Bool),
             _ => None,
         }
     }
@@ -34,6 +36,7 @@ impl Kind {
         match self {
             Kind::Int => b"int",
             Kind::Text => b"text",
+            Kind::Bool => b"bool",
         }
     }
 }

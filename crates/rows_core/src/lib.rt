@@ -5,6 +5,7 @@ pub mod cut;
 pub mod exact_eq;
 pub mod file_ref;
 pub mod kind;
+pub mod limits;
 pub mod memory;
 pub mod name;
 pub mod order;

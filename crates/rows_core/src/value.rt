@@ -7,11 +7,13 @@ use crate::memory::Memory;
 use crate::txt::Txt;
 use std::alloc::Global;
 
-/// A number in i64 or a text. Numbers are ordered by value and texts by bytes; a number stands before a text.
+/// A number in i64, a text or a truth value. Numbers are ordered by value, texts by bytes, and `false` stands before `true`;
+/// a number stands before a text, and a text before a truth value.
 #[derive(PartialEq, Eq, PartialOrd, Ord, Hash, Drop)]
 pub enum Value {
     Int(i64),
     Text(Txt),
+    Bool(bool),
 }
 
 impl Value {
@@ -21,6 +23,7 @@ impl Value {
         match self {
             Value::Int(_) => Kind::Int,
             Value::Text(_) => Kind::Text,
+            Value::Bool(_) => Kind::Bool,
         }
     }
 
@@ -38,6 +41,7 @@ impl Value {
         match self {
             Value::Int(number) => Ok(Value::Int(*number)),
             Value::Text(text) => Ok(Value::Text(text.try_copy(alloc)?)),
+            Value::Bool(truth) => Ok(Value::Bool(*truth)),
         }
     }
 }

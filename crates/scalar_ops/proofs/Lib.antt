@@ -1,4 +1,5 @@
 pub mod FitsI64
 pub mod Rounding
 pub mod RowLaws
+pub mod TruthRows
 pub mod ValueLaws

@@ -1,5 +1,6 @@
 -- What the scalar operations give: exact whole numbers and truth values, and which of them are outside of i64.
-use Rattle.std.specs.Prelude.{◌≡◌, ◌≢◌, ◌↔◌, ◌^◌, ℕ, Bool, false, not, List, [], ◌∷◌, length, nat_eq, nat_lt, bytes_eq, ℤ, pos, negsuc, neg_ℤ, ◌+ℤ◌, ◌-ℤ◌, ◌*ℤ◌, Result, Ok, Err, if◌then◌else◌, map, IsTrue, slice_get, Option, None, Some, unwrap_or}
+use Rattle.std.specs.Prelude.{◌≡◌, ◌≢◌, ◌↔◌, ◌^◌, ℕ, Bool, false, ◌&&◌, ◌||◌, not, List, [], ◌∷◌, length, nat_eq, nat_lt, bytes_eq, ℤ, pos, negsuc, neg_ℤ, ◌+ℤ◌, ◌-ℤ◌, ◌*ℤ◌, Result, Ok, Err, if◌then◌else◌, map, IsTrue, slice_get, Option, None, Some, unwrap_or}
+use Rattle.std.specs.Bool.{beq}
 use Rattle.std.specs.Option.{option_map}
 use Rattle.scalar_ops.specs.declared.table.TheConstants.{OPS}
 use Rattle.scalar_ops.specs.declared.cell.CellKind.{CellKind}
@@ -8,7 +9,7 @@ use Rattle.scalar_ops.specs.Cells.{kind_of_cell, AreCells}
 use Rattle.scalar_ops.specs.Table.{kinds_of_args}
 use Rattle.std.specs.Int.{int_min, int_max}
 use Rattle.std.specs.Int.RustNames.{unsigned_abs}
-use Rattle.std.specs.Ordering.{int_cmp, int_eq, nat_cmp, is_lt, is_le, is_gt, is_ge}
+use Rattle.std.specs.Ordering.{int_cmp, int_eq, nat_cmp, bool_cmp, is_lt, is_le, is_gt, is_ge}
 use Rattle.std.specs.declared.cmp.Ordering.{Ordering}
 use Rattle.std.specs.declared.cmp.Ordering.TheVariants.{Equal}
 use Rattle.std.specs.Cmp.Lexicographic.{slice_cmp}
@@ -26,15 +27,17 @@ pub data Exact : Type 0 where
   Whole : ℤ → Exact
   Truth : Bool → Exact
 
--- numbers by value, texts by bytes
+-- numbers by value, texts by bytes, `false` before `true`
 abbrev pub order_of : Cell → Cell → Ordering
 order_of (cell.Int a) (cell.Int b) = int_cmp a b
 order_of (cell.Text s) (cell.Text t) = slice_cmp nat_cmp s t
+order_of (cell.Bool a) (cell.Bool b) = bool_cmp a b
 order_of _ _ = Equal
 
 abbrev pub is_same : Cell → Cell → Bool
 is_same (cell.Int a) (cell.Int b) = int_eq a b
 is_same (cell.Text s) (cell.Text t) = bytes_eq s t
+is_same (cell.Bool a) (cell.Bool b) = beq a b
 is_same _ _ = false
 
 -- the exact value of an operation at cells of its kinds
@@ -48,6 +51,8 @@ exact_value op.Div (cell.Int a ∷ cell.Int b ∷ []) = Whole (floor_div a b)
 exact_value op.Mod (cell.Int a ∷ cell.Int b ∷ []) = Whole (floor_mod a b)
 exact_value op.Least (cell.Int a ∷ cell.Int b ∷ []) = Whole (int_min a b)
 exact_value op.Most (cell.Int a ∷ cell.Int b ∷ []) = Whole (int_max a b)
+exact_value op.Least (cell.Bool a ∷ cell.Bool b ∷ []) = Truth (a && b)
+exact_value op.Most (cell.Bool a ∷ cell.Bool b ∷ []) = Truth (a || b)
 exact_value op.Eq (a ∷ b ∷ []) = Truth (is_same a b)
 exact_value op.Ne (a ∷ b ∷ []) = Truth (not (is_same a b))
 exact_value op.Lt (a ∷ b ∷ []) = Truth (is_lt (order_of a b))

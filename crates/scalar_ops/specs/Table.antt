@@ -80,4 +80,12 @@ stated_rows =
     ∷ one op.Len Text Int false
     ∷ two op.Starts Text Text kind.Bool false
     ∷ one op.Not kind.Bool kind.Bool false
+    ∷ two op.Eq kind.Bool kind.Bool kind.Bool false
+    ∷ two op.Ne kind.Bool kind.Bool kind.Bool false
+    ∷ two op.Lt kind.Bool kind.Bool kind.Bool false
+    ∷ two op.Le kind.Bool kind.Bool kind.Bool false
+    ∷ two op.Gt kind.Bool kind.Bool kind.Bool false
+    ∷ two op.Ge kind.Bool kind.Bool kind.Bool false
+    ∷ two op.Least kind.Bool kind.Bool kind.Bool false
+    ∷ two op.Most kind.Bool kind.Bool kind.Bool false
     ∷ []

@@ -10,4 +10,4 @@ pub mod table;
 pub use cell::{Cell, CellKind};
 pub use laws::{rows_are_found_by_kinds, table_as_stated, values_are_cells};
 pub use operations::apply;
-pub use table::{Args, OPS, Op, OpRow, OpTable};
+pub use table::{Args, OPS, Op, OpRow, OpTable, Operations};

@@ -62,6 +62,8 @@ const INTS: Args = Args::Two(CellKind::Int, CellKind::Int);
 
 const TEXTS: Args = Args::Two(CellKind::Text, CellKind::Text);
 
+const BOOLS: Args = Args::Two(CellKind::Bool, CellKind::Bool);
+
 /// A row of the table, in one line.
 macro_rules! row {
     ($op:ident $args:ident $result:ident overflows) => {
@@ -82,8 +84,11 @@ macro_rules! row {
     };
 }
 
-/// The scalar operations.
-pub static OPS: OpTable<24> = OpTable {
+/// The type of the table of all scalar operations.
+pub type Operations = OpTable<32>;
+
+/// The scalar operations. Plans, in memory and in files, name them by row, so new rows stand behind the old ones.
+pub static OPS: Operations = OpTable {
     rows: [
         row!(Add INTS Int overflows),
         row!(Sub INTS Int overflows),
@@ -109,6 +114,14 @@ pub static OPS: OpTable<24> = OpTable {
         row!(Len TEXT Int),
         row!(Starts TEXTS Bool),
         row!(Not BOOL Bool),
+        row!(Eq BOOLS Bool),
+        row!(Ne BOOLS Bool),
+        row!(Lt BOOLS Bool),
+        row!(Le BOOLS Bool),
+        row!(Gt BOOLS Bool),
+        row!(Ge BOOLS Bool),
+        row!(Least BOOLS Bool),
+        row!(Most BOOLS Bool),
     ],
 };
 

@@ -7,7 +7,7 @@ use Rattle.std.proofs.lemmas.List.Splits.{join_with_byte-slice_split, length-sli
 use Rattle.rows_core.specs.Name.{IsName, is_name, is_name_byte}
 use Rattle.rows_core.specs.Kind.{kind_word, kind_with_word}
 use Rattle.rows_core.specs.declared.kind.Kind.{Kind}
-use Rattle.rows_core.specs.declared.kind.Kind.TheVariants.{Int, Text}
+use Rattle.rows_core.specs.declared.kind.Kind.TheVariants.{Int, Text, Bool as Truth}
 use Rattle.rows_core.specs.declared.schema.Column.{Column}
 use Rattle.script_text.specs.Spelling.{AreSpaces, Padded, SpellsName, SpellsColumn, SpellsColumns, SpellsStream, SpellsWithName, SpellsAppend}
 use Rattle.script_text.specs.StreamLine.{is_mark, Parts, parts_at, only_kind, column_with, column_of_parts, column_of, columns_with, columns_of_parts, columns_of, columns_before, closed_columns, stream_with, stream_of_parts, stream_of}
@@ -86,24 +86,29 @@ SpellsName-read name text e = by (only_word text) refl e
 kind_bytes : (kind : Kind) → list_all is_name_byte (kind_word kind) ≡ true
 kind_bytes Int = refl
 kind_bytes Text = refl
+kind_bytes Truth = refl
 
 kind_some : (kind : Kind) → 0 < length (kind_word kind)
 kind_some Int = omega arith
 kind_some Text = omega arith
+kind_some Truth = omega arith
 
 kind_with_word-word : (kind : Kind) → kind_with_word (kind_word kind) ≡ Some kind
 unfolding kind_with_word
 kind_with_word-word Int = refl
 kind_with_word-word Text = refl
+kind_with_word-word Truth = refl
 
 kind_word-read : (word : List ℕ) (kind : Kind) → kind_with_word word ≡ Some kind → word ≡ kind_word kind
 unfolding kind_with_word
-kind_word-read word kind e = by (bytes_eq word (kind_word Int)) (bytes_eq word (kind_word Text)) refl refl e
+kind_word-read word kind e = by (bytes_eq word (kind_word Int)) (bytes_eq word (kind_word Text)) (bytes_eq word (kind_word Truth)) refl refl refl e
   where
-    by : (i t : Bool) → bytes_eq word (kind_word Int) ≡ i → bytes_eq word (kind_word Text) ≡ t → cond i (Some Int) (cond t (Some Text) None) ≡ Some kind → word ≡ kind_word kind
-    by true t is other e = let same : Int ≡ kind = cc in (bytes_eq-Decides word (kind_word Int)).0 is ∙ ap kind_word same
-    by false true other is e = let same : Text ≡ kind = cc in (bytes_eq-Decides word (kind_word Text)).0 is ∙ ap kind_word same
-    by false false other none e = absurd (cc)
+    by : (i t b : Bool) → bytes_eq word (kind_word Int) ≡ i → bytes_eq word (kind_word Text) ≡ t → bytes_eq word (kind_word Truth) ≡ b
+        → cond i (Some Int) (cond t (Some Text) (cond b (Some Truth) None)) ≡ Some kind → word ≡ kind_word kind
+    by true t b is other last e = let same : Int ≡ kind = cc in (bytes_eq-Decides word (kind_word Int)).0 is ∙ ap kind_word same
+    by false true b other is last e = let same : Text ≡ kind = cc in (bytes_eq-Decides word (kind_word Text)).0 is ∙ ap kind_word same
+    by false false true other last is e = let same : Truth ≡ kind = cc in (bytes_eq-Decides word (kind_word Truth)).0 is ∙ ap kind_word same
+    by false false false other none last e = absurd (cc)
 
 only_kind-padded : (kind : Kind) (text : List ℕ) → Padded (kind_word kind) text → only_kind text ≡ Some kind
 only_kind-padded kind text padded =

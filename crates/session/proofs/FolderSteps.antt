@@ -4,7 +4,7 @@ use Rattle.std.proofs.lemmas.List.{append-nil}
 use Rattle.rows_core.specs.declared.schema.Column.{Column}
 use Rattle.catalog_types.specs.declared.change.Change.{Change}
 use Rattle.catalog_types.specs.declared.program.Program.{Program}
-use Rattle.catalog_core.specs.Table.{most_ticks}
+use Rattle.rows_core.specs.Limits.{most_ticks}
 use Rattle.estimator.specs.Cuts.{Cuts}
 use Rattle.plan_core.specs.PlainPlan.{PlainPlan}
 use Rattle.planning.specs.Appending.{Append}

@@ -12,7 +12,7 @@ ghost use Rattle.folder.specs.Left.{IsLeft, IsLeftWith, Since};
 ghost use Rattle.folder.specs.Replay.{ReadsAs, StopsReading};
 ghost use Rattle.folder.specs.Sound.{Care};
 ghost use Rattle.folder.specs.State.{State};
-ghost use Rattle.journal_store.specs.Readings.{generation_file, HaveBodies, IsUnfinished, LogHasAtMost};
+ghost use Rattle.journal_store.specs.Readings.{generation_file, HaveBodies, LogHasAtMost};
 ghost use Rattle.script_text.specs.Answer.{IsNarrow};
 ghost use Rattle.script_text.specs.Script.{IsWhole};
 ghost use Rattle.script_text.specs.declared.answer.Refusal.{Refusal};
@@ -65,23 +65,19 @@ impl Session {
             → OnErr result (IsLeftWith care (D.view store.new) a b) }
         ensures not_a_store { IsTrue D.tells → (file at : ℕ) → IsErrOf result (LoadRefusal.NotAStore file at)
             → StopsReading (D.view store.old).files file at × Narrows (D.view store.old) (D.view store.new) }
-        // The generation in use is the one that was or is newly made, unless that has more than 1,024 bodies;
-        // then it is the next one, with the checkpoint of the table as its one body.
+        // The generation in use is the one that was, unless that has more than 1,024 bodies, is of an older
+        // form or is newly made; then it is the next one, with the checkpoint of the table as its one body.
         ensures generation { IsTrue D.tells → (g : ℕ) (bodies : List (List ℕ))
             → HaveBodies (D.view store.old).files g bodies
             → IfOk result (λ session. IsInUse (D.view store.new) (folder_of session) g bodies) }
-        // Only logs are changed, and files that the folder doesn't name; where the making is finished and no
-        // log is long these alone.
+        // Only logs are changed, and files that the folder doesn't name; where the log stays these alone.
         ensures alone { IsTrue D.tells → ChangesLogsOrUnnamed (D.view store.old) (D.view store.new) }
         ensures finished { IsTrue D.tells → IsLoadedAsItIs (D.view store.old).files
             → ChangesUnnamed (D.view store.old) (D.view store.new) }
-        // After `Ok` a folder that had a root has only named files, unless a removal failed. Where it had none
-        // no file is removed.
+        // After `Ok` a folder that had a root has only named files, unless a removal failed.
         ensures only_named { IsTrue D.tells → HasRoot (D.view store.old).files → IfOk result
             (λ session. Rose (D.counts store.old).removes (D.counts store.new).removes
             ⊎ HasOnlyNamed (D.view store.new) (folder_of session)) }
-        ensures no_removal { IsTrue D.tells → IsUnfinished ((D.view store.old).files 0)
-            → (D.counts store.new).removes ≡ (D.counts store.old).removes }
         ensures only { IsTrue D.tells → (file at : ℕ) → StopsReading (D.view store.old).files file at
             → IsErrOf result (LoadRefusal.NotAStore file at) ⊎ (IsErrOf result LoadRefusal.Fault
             ⊎ IsErrOf result LoadRefusal.Memory) }

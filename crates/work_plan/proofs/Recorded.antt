@@ -1,5 +1,5 @@
 -- What a piece of work records fits the table, and has a spelling, which is short.
-use Rattle.std.proofs.Common.{◌≡◌, refl, sym, ap, ◌∙◌, subst, inl, inr, ℕ, ◌+◌, ◌<◌, ◌≤◌, List, [], ◌∷◌, ◌++◌, length, map, Option, IfSome, IsTrue, arith}
+use Rattle.std.proofs.Common.{◌≡◌, refl, sym, ap, ◌∙◌, subst, inl, inr, ℕ, ◌+◌, ◌<◌, ◌≤◌, List, [], ◌∷◌, ◌++◌, length, map, Option, IfSome, arith}
 use Rattle.std.specs.List.{AllByRecursion}
 use Rattle.std.proofs.lemmas.List.{length-map}
 use Rattle.std.proofs.lemmas.List.FromFn.{length-range_with_len}
@@ -17,12 +17,14 @@ use Rattle.catalog_types.specs.declared.change.Change.TheVariants.{Work}
 use Rattle.catalog_types.specs.declared.program.Program.{Program}
 use Rattle.catalog_types.specs.declared.snapshot.StreamState.{StreamState}
 use Rattle.entry_table.proofs.Growth.{all-map}
-use Rattle.entry_table.specs.Ids.{AreIdsOf, are_apart, without}
-use Rattle.entry_table.specs.Results.{most_entries, file_end, MayBeKept}
+use Rattle.entry_table.specs.Ids.{AreIdsOf, without}
+use Rattle.entry_table.specs.Results.{MayBeKept}
+use Rattle.rows_core.specs.Limits.{most_entries, file_end}
 use Rattle.entry_table.proofs.Files.{files-fit}
 use Rattle.catalog_core.specs.IsTable.{IsTable}
 use Rattle.catalog_core.specs.Results.{IsResultOver}
-use Rattle.catalog_core.specs.Table.{Table, Fits, FitsProgram, most_ticks}
+use Rattle.catalog_core.specs.Table.{Table, Fits, FitsProgram}
+use Rattle.rows_core.specs.Limits.{most_ticks}
 use Rattle.record_codec.specs.Limits.{IsWithinLimits}
 use Rattle.record_codec.specs.Spelling.{change_spelling, IsNumber, HasChangeSpelling}
 use Rattle.work_plan.specs.declared.work.WorkPlan.{WorkPlan}
@@ -74,11 +76,11 @@ pub record IsRecordable (t : Table) (program : Option Program) (used dropped : L
   pub few : length admitted ≤ 4096
 
 pub recordable : (t : Table) → IsTable t → t.tick < most_ticks → WrittenLimits → (program : Option Program) → IfSome program (λ (program : Program). IsName program.name)
-    → FitsProgram program t → (used : List ℕ) → AreIdsOf t.entries used → (dropped : List ℕ) → AreIdsOf t.entries dropped → IsTrue (are_apart used dropped)
+    → FitsProgram program t → (used : List ℕ) → AreIdsOf t.entries used → (dropped : List ℕ) → AreIdsOf t.entries dropped
     → (mades : List MadeResult) → AllByRecursion (IsFitMade t.streams) mades
     → (admitted : List NewResult) → Admits (without dropped t.entries) t.next_file [] mades admitted → MayBeKept t.entries dropped t.next_file (entries_of admitted)
     → AllByRecursion (λ (new : PlainNewEntry). IsNumber new.machine) (entries_of admitted) → IsRecordable t program used dropped admitted
-recordable t is counted limits program named stored used ids dropped gone apart mades fit admitted admits may numbers =
+recordable t is counted limits program named stored used ids dropped gone mades fit admitted admits may numbers =
     let news = entries_of admitted in
     let known = admitted-known t.streams (without dropped t.entries) t.next_file mades admitted fit admits in
     let spelled = program-spelled t is.are_streams limits program named stored in
@@ -98,7 +100,7 @@ recordable t is counted limits program named stored used ids dropped gone apart 
         counted = counted;
         results = record {
           over = all-map (IsKnown t.streams) (IsResultOver t.streams) (λ new is. is.fit.over) news known;
-          results = record { read = ids; gone = gone; apart = apart; kept = may };
+          results = record { read = ids; gone = gone; kept = may };
         };
         stored = stored;
       };
@@ -119,14 +121,14 @@ KeepingLaw = (entries : List PlainEntry) (dropped : List ℕ) (file : ℕ) (made
     → AllByRecursion (λ (made : MadeResult). 0 < made.machine) mades → Admits (without dropped entries) file [] mades admitted → MayBeKept entries dropped file (entries_of admitted)
 
 pub planned : (t : Table) → IsTable t → t.tick < most_ticks → WrittenLimits → KeepingLaw → (program : Option Program) → IfSome program (λ (program : Program). IsName program.name)
-    → FitsProgram program t → (used : List ℕ) → AreIdsOf t.entries used → (dropped : List ℕ) → AreIdsOf t.entries dropped → IsTrue (are_apart used dropped)
+    → FitsProgram program t → (used : List ℕ) → AreIdsOf t.entries used → (dropped : List ℕ) → AreIdsOf t.entries dropped
     → (made : List KeptPlace) → AllByRecursion (λ (kept : KeptPlace). IsFit t.streams (plan_of kept.plan) kept.cuts × (0 < kept.machine)) made
     → (admitted : List NewResult) → Admits (without dropped t.entries) t.next_file [] (map made_of made) admitted → (entries : List PlainNewEntry) → entries ≡ entries_of admitted
     → AllByRecursion (λ (new : PlainNewEntry). IsNumber new.machine) entries → IsRecordable t program used dropped admitted
-planned t is counted limits keeping program named stored used ids dropped gone apart made fit admitted admits entries same numbers =
+planned t is counted limits keeping program named stored used ids dropped gone made fit admitted admits entries same numbers =
     let mades = map made_of made in
     let all = mades-fit t.streams made fit in
-    recordable t is counted limits program named stored used ids dropped gone apart mades all admitted admits
+    recordable t is counted limits program named stored used ids dropped gone mades all admitted admits
     (keeping t.entries dropped t.next_file mades admitted is.kept.few (mades-timed t.streams mades all) admits)
     (subst (AllByRecursion (λ (new : PlainNewEntry). IsNumber new.machine)) same numbers)
 

@@ -12,7 +12,8 @@ use Rattle.plan_binder.specs.Binding.{Names, binding}
 use Rattle.catalog_types.specs.PlainEntry.{PlainNewEntry}
 use Rattle.catalog_types.specs.declared.program.Program.{Program}
 use Rattle.catalog_types.specs.declared.snapshot.StreamState.{StreamState}
-use Rattle.entry_table.specs.Results.{most_result_bytes, most_plan_bytes, file_end, IsResult, HaveNextFiles}
+use Rattle.entry_table.specs.Results.{IsResult, HaveNextFiles}
+use Rattle.rows_core.specs.Limits.{most_result_bytes, most_plan_bytes, file_end}
 use Rattle.entry_table.specs.Results as results
 use Rattle.catalog_core.specs.IsTable.{IsStream}
 use Rattle.catalog_core.specs.Programs.{names_of, columns_of}

@@ -3,7 +3,7 @@ use Rattle.std.proofs.Common.{◌≡◌, refl, sym, subst, ℕ, ◌<◌, ◌≤�
 use Rattle.std.specs.List.{AllByRecursion, list_all}
 use Rattle.std.proofs.lemmas.Bool.{eqb-true, ltb-true, lt-ltb, and_from, and_parts}
 use Rattle.catalog_types.specs.PlainEntry.{PlainEntry}
-use Rattle.entry_table.specs.Ids.{ids_of, ascend_above, is_there, are_apart}
+use Rattle.entry_table.specs.Ids.{ids_of, ascend_above, is_there}
 
 -- ---- they are below the next one
 
@@ -87,8 +87,3 @@ ids-few low (e ∷ es) (id ∷ ids) ups up there =
         let upper : ascend_above e.id (id ∷ ids) ≡ true = and_from (nat_lt e.id id) (ascend_above id ids) (lt-ltb e.id id above) rest-up in
         let most = longer behind upper (later e.id e es (id ∷ ids) (le_refl e.id) upper there) in
         omega (arith, most)
-
--- none of them is dropped where none is
-pub apart-from-none : (ids : List ℕ) → are_apart ids [] ≡ true
-apart-from-none [] = refl
-apart-from-none (id ∷ ids) = apart-from-none ids

@@ -1,16 +1,17 @@
 //! What a piece of work records.
-ghost use Rattle.std.specs.Prelude.{◌≡◌, ◌<◌, [], map, IsTrue, IfOk, IfSome};
+ghost use Rattle.std.specs.Prelude.{◌≡◌, ◌<◌, [], map, IfOk, IfSome};
 ghost use Rattle.std.specs.List.{AllByRecursion};
 ghost use Rattle.rows_core.specs.Name.{IsName};
 ghost use Rattle.plan_core.specs.PlainPlan.{plan_of};
 ghost use Rattle.plan_spelling.specs.Spelling.{HasPlanSpelling};
 ghost use Rattle.executor.specs.declared.outcome.KeptPlace.{KeptPlace};
 ghost use Rattle.admission.specs.Admitting.{made_of, Admits};
-ghost use Rattle.entry_table.specs.Ids.{AreIdsOf, are_apart, without};
+ghost use Rattle.entry_table.specs.Ids.{AreIdsOf, without};
 ghost use Rattle.catalog_types.specs.declared.change.Change.TheVariants as change;
 ghost use Rattle.catalog_types.specs.declared.program.Program.{Program};
 ghost use Rattle.catalog_core.specs.Catalogs.{table_of};
-ghost use Rattle.catalog_core.specs.Table.{most_ticks, FitsProgram};
+ghost use Rattle.catalog_core.specs.Table.{FitsProgram};
+ghost use Rattle.rows_core.specs.Limits.{most_ticks};
 ghost use Rattle.work_plan.specs.Fitting.{IsFit};
 ghost use Rattle.work_plan.specs.Planning.{IsWorkPlan};
 
@@ -36,7 +37,7 @@ pub struct WorkPlan {
 }
 
 /// What work records that stores this program, if there is one, used the results with these ids, drops those
-/// with these others, and made these results, of which those are kept that are admitted beside the ones that
+/// with these, and made these results, of which those are kept that are admitted beside the ones that
 /// stay. `Memory` where memory was asked for and refused.
 pub fn plan_work(
     alloc: Global,
@@ -50,7 +51,6 @@ pub fn plan_work(
     requires counted { (table_of catalog.now).tick < most_ticks }
     requires used { AreIdsOf (table_of catalog.now).entries used.items }
     requires dropped { AreIdsOf (table_of catalog.now).entries dropped.items }
-    requires apart { IsTrue (are_apart used.items dropped.items) }
     requires made { AllByRecursion (λ (kept : KeptPlace). IsFit (table_of catalog.now).streams
         (plan_of kept.plan) kept.cuts × (0 < kept.machine)) made.items }
     ensures { IfOk result

@@ -1,5 +1,6 @@
 -- What a piece of work comes to: the rows of a plan at a cut of a state's streams, and the state after it.
 use Rattle.std.specs.Prelude.{◌≡◌, ℕ, ◌<◌, List, [], Err, length}
+use Rattle.rows_core.specs.Limits.{most_machine_time}
 use Rattle.scalar_ops.specs.Meaning.{overflow}
 use Rattle.row_blob.specs.Kept.{AreEach}
 use Rattle.plan_core.specs.Columns.{Rows}
@@ -15,10 +16,6 @@ use Rattle.admission.specs.Admitting.{MadeResult, Admits, entries_of}
 use Rattle.admission.specs.declared.new_result.NewResult.{NewResult}
 use Rattle.folder.specs.State.{Stream, State, IsResultIn, kinds_in, lists_in}
 use Rattle.work_plan.specs.Planning.{ids_from}
-
--- the greatest machine time that is counted
-abbrev pub most_machine_time : ℕ
-most_machine_time = 4294967295
 
 -- ---- what is made
 

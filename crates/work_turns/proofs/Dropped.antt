@@ -1,12 +1,12 @@
 -- The ids of entries that are among others.
 use Rattle.std.proofs.Common.{◌≡◌, refl, sym, ap, ◌∙◌, ℕ, ◌<◌, ◌==◌, ◌&&◌, ◌||◌, nat_lt, Bool, true, false, not, cond, List, [], ◌∷◌, ◌++◌, ◌+◌, length, map, take, get_or, arith}
 use Rattle.std.specs.List.{filter, list_all}
-use Rattle.std.proofs.lemmas.Bool.{eqb-true, ltb-true, not-true, and_from, and_parts}
+use Rattle.std.proofs.lemmas.Bool.{eqb-true, ltb-true, and_from, and_parts}
 use Rattle.std.proofs.lemmas.List.{map-append}
 use Rattle.std.proofs.lemmas.List.Elements.{filter_more}
 use Rattle.std.proofs.Math.Bool.{and-true, or-true, and-false}
 use Rattle.catalog_types.specs.PlainEntry.{PlainEntry}
-use Rattle.entry_table.specs.Ids.{AreIdsOf, ids_of, ascend_above, are_apart, is_among, is_there, without}
+use Rattle.entry_table.specs.Ids.{AreIdsOf, ids_of, ascend_above, is_among, is_there, without}
 use Rattle.entry_table.proofs.Growth.{ascend-lower}
 use Rattle.plan_choice.proofs.LeftOut.{left-there}
 use Rattle.work_turns.specs.Ends.{entries_among, those_among}
@@ -101,7 +101,7 @@ without-those ids es = agree (those_among ids es) ids es (among-those ids es) no
 pub among-twice : (ids : List ℕ) (es : List PlainEntry) → entries_among (those_among ids es) es ≡ entries_among ids es
 among-twice ids es = agree (those_among ids es) ids es (among-those ids es) (λ b. b) es (all-there es)
 
--- ---- ids of the entries that are left are apart from them
+-- ---- ids of the entries that are left are there
 
 all-left-there : (ids : List ℕ) (es : List PlainEntry) (used : List ℕ) → list_all (is_there (without ids es)) used ≡ true → list_all (is_there es) used ≡ true
 all-left-there ids es [] there = refl
@@ -111,14 +111,3 @@ all-left-there ids es (id ∷ used) there =
 
 pub are-among-all : (ids : List ℕ) (es : List PlainEntry) (used : List ℕ) → AreIdsOf (without ids es) used → AreIdsOf es used
 are-among-all ids es used is = record { ascend = is.ascend; there = all-left-there ids es used is.there }
-
-apart : (ids : List ℕ) (es : List PlainEntry) (used : List ℕ) → list_all (is_there (without ids es)) used ≡ true → are_apart used (those_among ids es) ≡ true
-apart ids es [] there = refl
-apart ids es (id ∷ used) there =
-    let parts = and_parts (is_there (without ids es) id) (list_all (is_there (without ids es)) used) there in
-    let isnt : is_among ids id ≡ false = not-true (is_among ids id) (left-there ids es id parts.0).0 in
-    and_from (not (is_among (those_among ids es) id)) (are_apart used (those_among ids es))
-    (ap not (among-those ids es id ∙ ap (λ b. b && is_there es id) isnt)) (apart ids es used parts.1)
-
-pub are-apart : (ids : List ℕ) (es : List PlainEntry) (used : List ℕ) → AreIdsOf (without ids es) used → are_apart used (those_among ids es) ≡ true
-are-apart ids es used is = apart ids es used is.there

@@ -22,7 +22,8 @@ use Rattle.plan_choice.specs.Leaving as tables
 use Rattle.plan_choice.specs.Taken.{IsTaken}
 use Rattle.work_plan.specs.Fitting.{IsFit}
 use Rattle.work_run.specs.Ends.{AreNewFiles, HaveFewValues, given_of}
-use Rattle.work_run.specs.Working.{Given, Keeps, most_machine_time}
+use Rattle.work_run.specs.Working.{Given, Keeps}
+use Rattle.rows_core.specs.Limits.{most_machine_time}
 use Rattle.work_run.specs.declared.work.Work.{Work}
 use Rattle.work_turns.specs.Turns.{HaveEnded, IsLost}
 use Rattle.work_turns.specs.declared.turns.LastTurn.{LastTurn}

@@ -3,7 +3,8 @@ ghost use Rattle.std.specs.Prelude.{◌≡◌, ◌<◌, ◌≤◌, List, [], len
 ghost use Rattle.plan_core.specs.PlainPlan.{PlainPlan};
 ghost use Rattle.estimator.specs.Cuts.{Cuts};
 ghost use Rattle.catalog_core.specs.Catalogs.{table_of};
-ghost use Rattle.catalog_core.specs.Table.{FitsProgram, most_ticks};
+ghost use Rattle.catalog_core.specs.Table.{FitsProgram};
+ghost use Rattle.rows_core.specs.Limits.{most_ticks};
 ghost use Rattle.admission.specs.Admitting.{made_of};
 ghost use Rattle.folder.specs.Sound.{Care};
 ghost use Rattle.folder.specs.State.{State, IsValid, table};

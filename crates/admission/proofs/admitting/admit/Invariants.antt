@@ -5,7 +5,7 @@ use Rattle.std.specs.Vec.Iter.{into_iter_items, into_iter_len}
 use Rattle.plan_core.specs.PlainPlan.{plan_of}
 use Rattle.plan_spelling.specs.Spelling.{HasPlanSpelling}
 use Rattle.entry_table.specs.Ids.{without}
-use Rattle.entry_table.specs.Results.{most_entries}
+use Rattle.rows_core.specs.Limits.{most_entries}
 use Rattle.executor.specs.declared.outcome.KeptPlace.{KeptPlace}
 use Rattle.admission.specs.declared.new_result.NewResult.{NewResult}
 use Rattle.admission.specs.Admitting.{made_of, Admits}

@@ -1,4 +1,5 @@
 use Rattle.catalog_types.specs.declared.change.Change.TheVariants.{Checkpoint}
+use Rattle.record_codec.specs.Forms.{newest}
 use Rattle.record_codec.proofs.Keyless.{keyless_is, keyless_spelled}
 use Rattle.folder.proofs.Limits.{checkpoint-short}
 use Rattle.folder.proofs.Restored.{keyless-fits, table-back}
@@ -12,7 +13,7 @@ pub returns-clause-short : goal.returns-clause-short
 returns-clause-short c = checkpoint-short
 
 pub returns-clause-read : goal.returns-clause-read
-returns-clause-read c = λ t is spelled. (keyless_is (Checkpoint t) (whole-spelled t is spelled), keyless_spelled (Checkpoint t))
+returns-clause-read c = λ t is spelled. (keyless_is newest (Checkpoint t) (whole-spelled t is spelled), keyless_spelled newest (Checkpoint t))
 
 pub returns-clause-fits : goal.returns-clause-fits
 returns-clause-fits c = keyless-fits

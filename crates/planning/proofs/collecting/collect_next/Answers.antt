@@ -1,4 +1,4 @@
-use Rattle.std.proofs.Common.{◌≡◌, ◌∙◌, sym, ap, subst, ℕ, ◌+◌, true, List, IsPermutation, refl, arith}
+use Rattle.std.proofs.Common.{◌≡◌, ◌∙◌, sym, ap, subst, ℕ, ◌+◌, true, List, refl, arith}
 use Rattle.std.specs.List.{All}
 use Rattle.catalog_types.specs.PlainEntry.{PlainEntry}
 use Rattle.catalog_types.specs.declared.change.Change.TheVariants.{Collect}
@@ -11,7 +11,7 @@ use Rattle.planning.specs.Collecting.{collection_of, files_of, bytes_of}
 use Rattle.planning.proofs.Entries.{ranked}
 use Rattle.planning.proofs.Going.{going-ids, going-bytes}
 use Rattle.planning.proofs.Recorded.{victims-of, recordable, is-plan}
-use Rattle.planning.proofs.collecting.collect_next.Goals.{In_ok-ids}
+use Rattle.planning.proofs.collecting.collect_next.Goals.{In_ok-ids, In_ok-recorded}
 use Rattle.planning.proofs.collecting.collect_next.Goals as goal
 
 -- what the collector gave
@@ -48,21 +48,23 @@ bytes_of-bytes-requires-clause-few c =
     let same = ap (bytes_of t) c.deref-2.ensures.value in
     omega (arith, most, same)
 
+-- they are recorded as they go
+recorded : (c : In_ok-recorded) → c.in_ok-recorded.recorded.items ≡ c.in_ok-ids.ids.items
+recorded c = c.in_ok-recorded.ensures.items ∙ c.deref-3.ensures.value
+
 pub spell_change-requires : goal.spell_change-requires
 spell_change-requires c =
     let t = table_of c.args.catalog.now in
     let v = going (goal.at.spell_change-requires c).In_ok-ids in
-    let moved = subst (λ (ids : List ℕ). IsPermutation ids c.in_ok-ascending.ascending.items) c.deref-3.ensures.value c.in_ok-ascending.ensures.same in
-    let good = recordable t c.entries.ensures.table c.requires c.args.held.now c.args.reclaim c.in_ok-ids.ids.items v c.in_ok-ascending.ascending.items moved c.in_ok-ascending.ensures.ascends in
-    subst (λ (ids : List ℕ). HasChangeSpelling (Collect ids)) (sym c.new.ensures) good.spelled
+    let good = recordable t c.entries.ensures.table c.requires c.args.held.now c.args.reclaim c.in_ok-ids.ids.items v in
+    subst (λ (ids : List ℕ). HasChangeSpelling (Collect ids)) (sym (c.new.ensures ∙ recorded (goal.at.spell_change-requires c).In_ok-recorded)) good.spelled
 
 pub returns : goal.returns
 returns c =
     let t = table_of c.args.catalog.now in
     let v = going (goal.at.returns c).In_ok-ids in
-    let moved = subst (λ (ids : List ℕ). IsPermutation ids c.in_ok-ascending.ascending.items) c.deref-3.ensures.value c.in_ok-ascending.ensures.same in
     is-plan t c.entries.ensures.table c.requires c.args.held.now c.args.reclaim c.in_ok-ids.ids.items v
     (record { change = Collect c.new.result; body = c.in_ok-body.body; ids = c.in_ok-ids.ids; files = c.in_ok-files.files; bytes = c.bytes_of-bytes.result })
-    c.in_ok-ascending.ascending.items moved c.in_ok-ascending.ensures.ascends c.small_changes.ensures.collect
-    refl (c.bytes_of-bytes.ensures ∙ ap (bytes_of t) c.deref-2.ensures.value) (ap Collect c.new.ensures) c.in_ok-body.ensures
+    c.small_changes.ensures.collect
+    refl (c.bytes_of-bytes.ensures ∙ ap (bytes_of t) c.deref-2.ensures.value) (ap Collect (c.new.ensures ∙ recorded (goal.at.returns c).In_ok-recorded)) c.in_ok-body.ensures
     (c.in_ok-files.ensures ∙ ap (files_of t) c.deref.ensures.value)

@@ -2,7 +2,7 @@ use Rattle.std.proofs.Common.{◌∙◌, ◌<◌, sym, ap, arith}
 use Rattle.plan_core.specs.PlainPlan.{leaves}
 use Rattle.catalog_core.specs.Catalogs.{table_of}
 use Rattle.catalog_core.specs.Streams.{states_of}
-use Rattle.catalog_core.specs.Table.{most_ticks}
+use Rattle.rows_core.specs.Limits.{most_ticks}
 use Rattle.planning.specs.Fetching.{fetched_cuts}
 use Rattle.planning.proofs.Fetches.{target, is_fetch, is_planned}
 use Rattle.planning.proofs.Stored.{same_cuts}

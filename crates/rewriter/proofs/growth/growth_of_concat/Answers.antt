@@ -8,15 +8,15 @@ use Rattle.rewriter.proofs.Shapes.{holds}
 use Rattle.rewriter.proofs.growth.growth_of_concat.Goals as goal
 
 pub sides-requires-2 : goal.sides-requires-2
-sides-requires-2 g c = left_fits (g.Z.Sizes.lengths c.args.sizes.now) (plan_of c.args.part.plan.now) (plan_of c.args.left.now) (plan_of c.args.right.now) c.args.part.cuts.now (two_of_concat (plan_of c.args.part.plan.now) (plan_of c.args.left.now) (plan_of c.args.right.now) c.requires.parts) c.requires.cuts
+sides-requires-2 c = left_fits (plan_of c.args.part.plan.now) (plan_of c.args.left.now) (plan_of c.args.right.now) c.args.part.cuts.now (two_of_concat (plan_of c.args.part.plan.now) (plan_of c.args.left.now) (plan_of c.args.right.now) c.requires.parts) c.requires.new
 
 pub returns-then-are_same_cuts : goal.returns-then-are_same_cuts
-returns-then-are_same_cuts g c =
-    tail_of_concat (g.L.Lookup.entries c.args.lookup.now) (g.Z.Sizes.lengths c.args.sizes.now) c.requires.sound (plan_of c.args.part.plan.now) c.args.part.cuts.now c.args.hit.now c.requires.hit c.requires.cuts (plan_of c.args.left.now) _ c.requires.parts c.requires.right
+returns-then-are_same_cuts c = λ entries lengths sound cut here.
+    tail_of_concat entries lengths sound (plan_of c.args.part.plan.now) c.args.part.cuts.now c.args.hit.now here cut (plan_of c.args.left.now) _ c.requires.parts c.requires.right
     (c.sides.ensures.rights ∙ ap (rights (plan_of c.args.left.now)) c.items.ensures) c.sides-2.ensures.rights
     (sym (c.sides.ensures.lefts ∙ ap (lefts (plan_of c.args.left.now)) c.items.ensures) ∙ (c.if-are_same_cuts.ensures.0 holds) ∙ c.sides-2.ensures.lefts)
 
 pub returns : goal.returns
-returns g c =
-    no_concat (g.L.Lookup.entries c.args.lookup.now) (g.Z.Sizes.lengths c.args.sizes.now) c.requires.sound (plan_of c.args.part.plan.now) c.args.part.cuts.now c.args.hit.now c.requires.hit c.requires.cuts (plan_of c.args.left.now) (plan_of c.args.right.now) c.requires.parts
+returns c = λ entries lengths sound cut here.
+    no_concat entries lengths sound (plan_of c.args.part.plan.now) c.args.part.cuts.now c.args.hit.now here cut (plan_of c.args.left.now) (plan_of c.args.right.now) c.requires.parts
     (λ e. never (c.if-are_same_cuts.ensures.1 ((c.sides.ensures.lefts ∙ ap (lefts (plan_of c.args.left.now)) c.items.ensures) ∙ e ∙ sym c.sides-2.ensures.lefts)))

@@ -5,16 +5,18 @@ use Rattle.rewriter.proofs.Ranges.{left_fits, two_of_join}
 use Rattle.rewriter.proofs.growth.growth_of_join.Goals as goal
 
 pub sides-requires-2 : goal.sides-requires-2
-sides-requires-2 g c = left_fits (g.Z.Sizes.lengths c.args.sizes.now) (plan_of c.args.part.plan.now) (plan_of c.args.left.now) (plan_of c.args.right.now) c.args.part.cuts.now (two_of_join (plan_of c.args.part.plan.now) (plan_of c.args.left.now) (plan_of c.args.right.now) c.requires.sides) c.requires.cuts
+sides-requires-2 c = left_fits (plan_of c.args.part.plan.now) (plan_of c.args.left.now) (plan_of c.args.right.now) c.args.part.cuts.now (two_of_join (plan_of c.args.part.plan.now) (plan_of c.args.left.now) (plan_of c.args.right.now) c.requires.sides) c.requires.new
 
-pub growth_of_inputs-requires-clause-inputs : goal.growth_of_inputs-requires-clause-inputs
-growth_of_inputs-requires-clause-inputs g c =
+pub growth_of_inputs-requires : goal.growth_of_inputs-requires
+growth_of_inputs-requires c =
     record {
-      join = c.requires.sides;
-      left = c.requires.left;
-      right = c.requires.right;
-      old_lefts = c.sides.ensures.lefts ∙ ap (lefts (plan_of c.args.left.now)) c.items.ensures;
-      new_lefts = c.sides-2.ensures.lefts;
-      old_rights = c.sides.ensures.rights ∙ ap (rights (plan_of c.args.left.now)) c.items.ensures;
-      new_rights = c.sides-2.ensures.rights;
+      inputs = record {
+        join = c.requires.sides;
+        left = c.requires.left;
+        right = c.requires.right;
+        old_lefts = c.sides.ensures.lefts ∙ ap (lefts (plan_of c.args.left.now)) c.items.ensures;
+        new_lefts = c.sides-2.ensures.lefts;
+        old_rights = c.sides.ensures.rights ∙ ap (rights (plan_of c.args.left.now)) c.items.ensures;
+        new_rights = c.sides-2.ensures.rights;
+      };
     }

@@ -8,15 +8,15 @@ use Rattle.rewriter.proofs.Shapes.{holds}
 use Rattle.rewriter.proofs.increase.increase_of_concat.Goals as goal
 
 pub sides-requires : goal.sides-requires
-sides-requires g c = left_fits (g.Z.Sizes.lengths c.args.sizes.now) (plan_of c.args.stretch.plan.now) (plan_of c.args.left.now) (plan_of c.args.right.now) c.args.stretch.old.now (two_of_concat (plan_of c.args.stretch.plan.now) (plan_of c.args.left.now) (plan_of c.args.right.now) c.requires.parts) c.requires.cuts.before
+sides-requires c = left_fits (plan_of c.args.stretch.plan.now) (plan_of c.args.left.now) (plan_of c.args.right.now) c.args.stretch.old.now (two_of_concat (plan_of c.args.stretch.plan.now) (plan_of c.args.left.now) (plan_of c.args.right.now) c.requires.parts) c.requires.old
 
 pub sides-requires-2 : goal.sides-requires-2
-sides-requires-2 g c = left_fits (g.Z.Sizes.lengths c.args.sizes.now) (plan_of c.args.stretch.plan.now) (plan_of c.args.left.now) (plan_of c.args.right.now) c.args.stretch.new.now (two_of_concat (plan_of c.args.stretch.plan.now) (plan_of c.args.left.now) (plan_of c.args.right.now) c.requires.parts) c.requires.cuts.after
+sides-requires-2 c = left_fits (plan_of c.args.stretch.plan.now) (plan_of c.args.left.now) (plan_of c.args.right.now) c.args.stretch.new.now (two_of_concat (plan_of c.args.stretch.plan.now) (plan_of c.args.left.now) (plan_of c.args.right.now) c.requires.parts) c.requires.new
 
 pub returns-then-are_same_cuts : goal.returns-then-are_same_cuts
-returns-then-are_same_cuts g c =
-    child_of_concat (g.L.Lookup.entries c.args.lookup.now) (g.Z.Sizes.lengths c.args.sizes.now) (plan_of c.args.stretch.plan.now) c.args.stretch.old.now c.args.stretch.new.now c.requires.differ c.requires.cuts (plan_of c.args.left.now) _ c.requires.parts c.requires.right c.sides.ensures.rights c.sides-2.ensures.rights (sym c.sides.ensures.lefts ∙ (c.if-are_same_cuts.ensures.0 holds) ∙ c.sides-2.ensures.lefts)
+returns-then-are_same_cuts c = λ entries lengths cuts.
+    child_of_concat entries lengths (plan_of c.args.stretch.plan.now) c.args.stretch.old.now c.args.stretch.new.now c.requires.differ cuts (plan_of c.args.left.now) _ c.requires.parts c.requires.right c.sides.ensures.rights c.sides-2.ensures.rights (sym c.sides.ensures.lefts ∙ (c.if-are_same_cuts.ensures.0 holds) ∙ c.sides-2.ensures.lefts)
 
 pub returns : goal.returns
-returns g c =
-    law.delta_concat_none (g.L.Lookup.entries c.args.lookup.now) (g.Z.Sizes.lengths c.args.sizes.now) (plan_of c.args.stretch.plan.now) c.args.stretch.old.now c.args.stretch.new.now (plan_of c.args.left.now) (plan_of c.args.right.now) c.requires.parts c.requires.differ (λ d same k. never (c.if-are_same_cuts.ensures.1 (c.sides.ensures.lefts ∙ same ∙ sym c.sides-2.ensures.lefts)))
+returns c = λ entries lengths cuts.
+    law.delta_concat_none entries lengths (plan_of c.args.stretch.plan.now) c.args.stretch.old.now c.args.stretch.new.now (plan_of c.args.left.now) (plan_of c.args.right.now) c.requires.parts c.requires.differ (λ d same k. never (c.if-are_same_cuts.ensures.1 (c.sides.ensures.lefts ∙ same ∙ sym c.sides-2.ensures.lefts)))

@@ -4,4 +4,5 @@ use Rattle.rewriter.proofs.LeastParts as law
 use Rattle.rewriter.proofs.increase.increase_of_scan.Goals as goal
 
 pub returns : goal.returns
-returns g c = law.delta_scan_none (g.L.Lookup.entries c.args.lookup.now) (g.Z.Sizes.lengths c.args.sizes.now) (plan_of c.args.stretch.plan.now) c.args.stretch.old.now c.args.stretch.new.now c.requires.scan c.requires.differ (λ l. never (c.if-is_longer.ensures.1 l))
+returns c = λ entries lengths cuts.
+    law.delta_scan_none entries lengths (plan_of c.args.stretch.plan.now) c.args.stretch.old.now c.args.stretch.new.now c.requires.scan c.requires.differ (λ l. never (c.if-is_longer.ensures.1 l))

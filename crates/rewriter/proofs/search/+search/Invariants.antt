@@ -1,4 +1,4 @@
--- The recursion goes down the plan. At one plan a delta comes before its rewritings, and those come before the forms.
+-- The recursion goes down the plan. At one plan a delta comes before its choices, and those come before the forms.
 use Rattle.std.proofs.Common.{◌+◌, ◌*◌, max}
 use Rattle.plan_core.specs.OperatorCount.{operator_count}
 use Rattle.plan_core.specs.PlainPlan.{plan_of}
@@ -13,26 +13,17 @@ decreases-grown_from g l = 10 * operator_count (plan_of l.part.plan.now) + 0
 abbrev pub decreases-grown_at : goal.decreases-grown_at
 decreases-grown_at g l = 10 * operator_count (plan_of l.part.plan.now) + 1
 
-abbrev pub decreases-chosen_at : goal.decreases-chosen_at
-decreases-chosen_at g l = 10 * operator_count (plan_of l.part.plan.now) + 2
-
 abbrev pub decreases-choose_at : goal.decreases-choose_at
 decreases-choose_at g l = 10 * operator_count (plan_of l.part.plan.now) + 2
 
 abbrev pub decreases-choice_at : goal.decreases-choice_at
 decreases-choice_at g l = 10 * operator_count (plan_of l.part.plan.now) + 3
 
-abbrev pub decreases-least_at : goal.decreases-least_at
-decreases-least_at g l = 10 * operator_count (plan_of l.part.plan.now) + 4
-
 abbrev pub decreases-pair_at : goal.decreases-pair_at
-decreases-pair_at g l = max (10 * operator_count (plan_of l.stretch.plan.now) + 9) (10 * operator_count (plan_of l.part.plan.now) + 5)
+decreases-pair_at g l = max (10 * operator_count (plan_of l.stretch.plan.now) + 7) (10 * operator_count (plan_of l.part.plan.now) + 4)
 
 abbrev pub decreases-increased_at : goal.decreases-increased_at
-decreases-increased_at g l = 10 * operator_count (plan_of l.stretch.plan.now) + 6
+decreases-increased_at g l = 10 * operator_count (plan_of l.stretch.plan.now) + 5
 
 abbrev pub decreases-price_at : goal.decreases-price_at
-decreases-price_at g l = 10 * operator_count (plan_of l.stretch.plan.now) + 7
-
-abbrev pub decreases-delta_at : goal.decreases-delta_at
-decreases-delta_at g l = 10 * operator_count (plan_of l.stretch.plan.now) + 8
+decreases-price_at g l = 10 * operator_count (plan_of l.stretch.plan.now) + 6

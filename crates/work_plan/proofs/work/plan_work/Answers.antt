@@ -24,7 +24,7 @@ ids_from-requires c =
     let t = table_of c.args.catalog.now in
     let admits = subst (λ (ids : List ℕ). Admits (without ids t.entries) t.next_file [] (map made_of c.args.made.items) c.in_ok-admitted.admitted.items) c.as_slice.ensures.value c.in_ok-admitted.ensures in
     let good = planned (table_of c.args.catalog.now) c.know_table.ensures c.requires.counted c.counts_are_of_the_written_plan.ensures.limits c.admitted_results_may_be_kept.ensures
-    c.args.program c.know_name.ensures c.requires.program c.args.used.items c.requires.used c.args.dropped.items c.requires.dropped c.requires.apart c.args.made.items c.requires.made
+    c.args.program c.know_name.ensures c.requires.program c.args.used.items c.requires.used c.args.dropped.items c.requires.dropped c.args.made.items c.requires.made
     c.in_ok-admitted.admitted.items admits c.in_ok-parts.parts.entries.items c.in_ok-parts.ensures.entries c.in_ok-parts.ensures.numbers in
     let numbered = good.numbered in
     omega (arith, numbered, c.next_id.ensures, c.len-count.ensures)
@@ -34,7 +34,7 @@ spell_change-requires c =
     let t = table_of c.args.catalog.now in
     let admits = subst (λ (ids : List ℕ). Admits (without ids t.entries) t.next_file [] (map made_of c.args.made.items) c.in_ok-admitted.admitted.items) c.as_slice.ensures.value c.in_ok-admitted.ensures in
     let good = planned (table_of c.args.catalog.now) c.know_table.ensures c.requires.counted c.counts_are_of_the_written_plan.ensures.limits c.admitted_results_may_be_kept.ensures
-    c.args.program c.know_name.ensures c.requires.program c.args.used.items c.requires.used c.args.dropped.items c.requires.dropped c.requires.apart c.args.made.items c.requires.made
+    c.args.program c.know_name.ensures c.requires.program c.args.used.items c.requires.used c.args.dropped.items c.requires.dropped c.args.made.items c.requires.made
     c.in_ok-admitted.admitted.items admits c.in_ok-parts.parts.entries.items c.in_ok-parts.ensures.entries c.in_ok-parts.ensures.numbers in
     subst HasChangeSpelling (sym (c.change_of-change.ensures ∙ ap (λ (entries : List PlainNewEntry). Work c.args.program c.args.used.items c.args.dropped.items entries) c.in_ok-parts.ensures.entries)) good.spelled
 
@@ -43,7 +43,7 @@ returns c =
     let t = table_of c.args.catalog.now in
     let admits = subst (λ (ids : List ℕ). Admits (without ids t.entries) t.next_file [] (map made_of c.args.made.items) c.in_ok-admitted.admitted.items) c.as_slice.ensures.value c.in_ok-admitted.ensures in
     let good = planned (table_of c.args.catalog.now) c.know_table.ensures c.requires.counted c.counts_are_of_the_written_plan.ensures.limits c.admitted_results_may_be_kept.ensures
-    c.args.program c.know_name.ensures c.requires.program c.args.used.items c.requires.used c.args.dropped.items c.requires.dropped c.requires.apart c.args.made.items c.requires.made
+    c.args.program c.know_name.ensures c.requires.program c.args.used.items c.requires.used c.args.dropped.items c.requires.dropped c.args.made.items c.requires.made
     c.in_ok-admitted.admitted.items admits c.in_ok-parts.parts.entries.items c.in_ok-parts.ensures.entries c.in_ok-parts.ensures.numbers in
     let count : c.len-count.result ≡ length c.in_ok-admitted.admitted.items = omega (arith, c.len-count.ensures, c.in_ok-admitted.admitted.ok.0) in
     is-work-plan (table_of c.args.catalog.now) c.args.program c.args.used.items c.args.dropped.items (map made_of c.args.made.items) c.in_ok-admitted.admitted.items admits good c.changes_are_short.ensures

@@ -1,16 +1,16 @@
-use Rattle.std.proofs.Common.{◌≡◌, ◌∙◌, refl, ap, sym, subst, ℕ, List, [], map, IsTrue}
+use Rattle.std.proofs.Common.{◌≡◌, ◌∙◌, refl, ap, sym, subst, ℕ, List, [], map}
 use Rattle.catalog_types.specs.PlainEntry.{PlainEntry}
 use Rattle.catalog_core.specs.Catalogs.{table_of}
 use Rattle.catalog_core.specs.IsTable.{IsTable}
 use Rattle.catalog_core.specs.Table.{Table}
 use Rattle.admission.specs.Admitting.{made_of}
-use Rattle.entry_table.specs.Ids.{AreIdsOf, are_apart}
+use Rattle.entry_table.specs.Ids.{AreIdsOf}
 use Rattle.work_plan.specs.Planning.{IsWorkPlan}
 use Rattle.work_run.specs.declared.work.Work.{Work}
 use Rattle.work_run.proofs.Worked.{Laws}
 use Rattle.work_turns.specs.Ends.{files_among, those_among}
 use Rattle.work_turns.specs.Turns.{IsChosenOf}
-use Rattle.work_turns.proofs.Dropped.{among-twice, are-among-all, are-apart, are-ids}
+use Rattle.work_turns.proofs.Dropped.{among-twice, are-among-all, are-ids}
 use Rattle.work_turns.proofs.WorkedTurns.{comes-in-turns}
 use Rattle.work_turns.proofs.work.work_of_turns.Goals as goal
 
@@ -25,15 +25,6 @@ plan_work-requires-clause-dropped c =
     let gone = c.args.last.lost.items in
     let same : c.in_ok-dropped.dropped.ids.items ≡ those_among gone t.entries = c.in_ok-dropped.ensures.ids ∙ (λ i. those_among (c.as_slice.ensures.value i) (c.entries.ensures.entries i)) in
     subst (AreIdsOf t.entries) (sym same) (are-ids gone t.entries c.know_table.ensures.kept.ascend)
-
-pub plan_work-requires-clause-apart : goal.plan_work-requires-clause-apart
-plan_work-requires-clause-apart c =
-    let t = table_of c.args.catalog.now in
-    let lost = c.args.last.lost.items in
-    let used = c.args.last.turn.used.items in
-    let same : c.in_ok-dropped.dropped.ids.items ≡ those_among lost t.entries = c.in_ok-dropped.ensures.ids ∙ (λ i. those_among (c.as_slice.ensures.value i) (c.entries.ensures.entries i)) in
-    subst (λ (ids : List ℕ). IsTrue (are_apart ids c.in_ok-dropped.dropped.ids.items)) (sym (c.in_ok-reads.ensures ∙ c.as_slice-2.ensures.value))
-    (subst (λ (ids : List ℕ). IsTrue (are_apart used ids)) (sym same) (are-apart lost t.entries used c.requires.told.used))
 
 pub returns-clause-ok : goal.returns-clause-ok
 returns-clause-ok c = λ care s plan form cuts choice valid means is is_last.

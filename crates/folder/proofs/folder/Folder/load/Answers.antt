@@ -4,7 +4,7 @@ use Rattle.folder.specs.declared.folder.Folder.{Folder}
 use Rattle.folder.specs.declared.refusal.LoadRefusal.TheVariants.{NotAStore}
 use Rattle.journal_store.specs.Journals.{had_root_of}
 use Rattle.folder.proofs.Crash.{left_of_since}
-use Rattle.folder.proofs.Freed.{short_of_unfinished, had_none, gone_before, freed_alone, freed_finished, freed_since, freed_left}
+use Rattle.folder.proofs.Freed.{gone_before, freed_alone, freed_finished, freed_since, freed_left}
 use Rattle.folder.proofs.Going.{err_same}
 use Rattle.folder.proofs.Loading.{reads_or_stops, stop_once}
 use Rattle.folder.proofs.LoadLemmas.{taken_of}
@@ -22,9 +22,6 @@ returns-in-Err-clause-alone g c = λ told. logs_or_unnamed _ _ (c.load_logs.ensu
 
 pub returns-in-Err-clause-finished : goal.returns-in-Err-clause-finished
 returns-in-Err-clause-finished g c = λ told as_it_is. unnamed_narrowed _ _ (c.load_logs.ensures.finished told as_it_is)
-
-pub returns-in-Err-clause-no_removal : goal.returns-in-Err-clause-no_removal
-returns-in-Err-clause-no_removal g c = λ told unfinished. c.load_logs.ensures.no_removal told (short_of_unfinished (g.D.Store.view c.args.store.now).files unfinished)
 
 pub returns-in-Err-clause-store : goal.returns-in-Err-clause-store
 returns-in-Err-clause-store g c = λ told t reads file at is.
@@ -72,12 +69,6 @@ returns-in-Err-free_unnamed-clause-finished g c = λ told as_it_is.
     freed_finished (g.D.Store.view c.args.store.now) (g.D.Store.view c.load_logs.new.store) (g.D.Store.view c.free_unnamed.new.store) c.in-Ok.folder c.free_unnamed.ensures.alone
     as_it_is reading (c.in-Ok.ensures.generation told reading.generation reading.bodies reading.logs) (c.load_logs.ensures.finished told as_it_is)
 
-pub returns-in-Err-free_unnamed-clause-no_removal : goal.returns-in-Err-free_unnamed-clause-no_removal
-returns-in-Err-free_unnamed-clause-no_removal g c = λ told unfinished.
-    let files = (g.D.Store.view c.args.store.now).files in
-    (c.free_unnamed.ensures.had_none (had_none (had_root_of (journal_of c.in-Ok.folder)) (files 0) (c.in-Ok.ensures.had_root told) unfinished)).1
-    ∙ c.load_logs.ensures.no_removal told (short_of_unfinished files unfinished)
-
 -- ---- they were
 
 pub returns-in-Ok-free_unnamed-clause-stands : goal.returns-in-Ok-free_unnamed-clause-stands
@@ -118,12 +109,6 @@ pub returns-in-Ok-free_unnamed-clause-only_named : goal.returns-in-Ok-free_unnam
 returns-in-Ok-free_unnamed-clause-only_named g c = λ told has_root.
     gone_before (g.D.Store.counts c.args.store.now).removes (g.D.Store.counts c.load_logs.new.store).removes (g.D.Store.counts c.free_unnamed.new.store).removes c.load_logs.ensures.counts.removes
     (c.in-Ok-free_unnamed.ensures.gone told ((c.in-Ok.ensures.had_root told).1 has_root))
-
-pub returns-in-Ok-free_unnamed-clause-no_removal : goal.returns-in-Ok-free_unnamed-clause-no_removal
-returns-in-Ok-free_unnamed-clause-no_removal g c = λ told unfinished.
-    let files = (g.D.Store.view c.args.store.now).files in
-    (c.free_unnamed.ensures.had_none (had_none (had_root_of (journal_of c.in-Ok.folder)) (files 0) (c.in-Ok.ensures.had_root told) unfinished)).1
-    ∙ c.load_logs.ensures.no_removal told (short_of_unfinished files unfinished)
 
 pub returns-in-Ok-free_unnamed-clause-taken : goal.returns-in-Ok-free_unnamed-clause-taken
 returns-in-Ok-free_unnamed-clause-taken g c = λ told h bodies have.

@@ -1,5 +1,8 @@
 use Rattle.std.proofs.Common.{Err, ap}
-use Rattle.folder_session.proofs.LoadLemmas.{only_of}
+use Rattle.folder.specs.declared.folder.Folder.{Folder}
+use Rattle.folder.specs.declared.refusal.LoadRefusal.TheVariants.{NotAStore}
+use Rattle.folder_session.specs.declared.session.FolderSession.{FolderSession}
+use Rattle.folder_session.proofs.LoadLemmas.{same_err, only_of}
 use Rattle.folder_session.proofs.session.FolderSession.load.Goals as goal
 
 pub returns-in-Ok-clause-stands : goal.returns-in-Ok-clause-stands
@@ -9,6 +12,11 @@ returns-in-Ok-clause-stands g c = λ told care a b left.
 
 pub returns-in-Ok-clause-only : goal.returns-in-Ok-clause-only
 returns-in-Ok-clause-only g c = λ told file at stops. absurd (c.in-Ok.ensures.exactly told file at stops)
+
+pub returns-in-Err-clause-not_a_store : goal.returns-in-Err-clause-not_a_store
+returns-in-Err-clause-not_a_store g c = λ told file at is.
+    let refused = same_err {T = FolderSession} {U = Folder} c.in-Err.refusal (NotAStore file at) is in
+    (c.in-Err.ensures.not_a_store told file at refused, c.in-Err.ensures.unchanged told file at refused)
 
 pub returns-in-Err-clause-only : goal.returns-in-Err-clause-only
 returns-in-Err-clause-only g c = λ told file at stops. only_of c.in-Err.refusal file at (λ h b is. c.in-Err.ensures.place told file at h b stops (ap Err is))

@@ -28,14 +28,12 @@ record_and_remove-requires-clause-free g c =
 pub returns-clause-ok : goal.returns-clause-ok
 returns-clause-ok g c = λ told care s stands.
     c.record_and_remove.ensures.ok told care s (with_collection s c.args.plan.ids.items) stands (next_collection care (g.D.Store.view c.args.store.now) s (table_in (folder_of c.args.self)) stands.means.table_is c.requires.planned.0 c.requires.planned.1 c.args.plan c.requires.planned.2
-    (c.same_collection_in_any_order.ensures.ids c.args.plan.ids.items c.requires.planned.2.ascending s.entries c.requires.planned.2.same)
-    (c.next_states.ensures.collection care c.args.store.now s c.requires.planned.2.ascending stands.means.settled stands.means.valid))
+    (c.next_states.ensures.collection care c.args.store.now s c.args.plan.ids.items stands.means.settled stands.means.valid))
 
 pub returns-clause-err : goal.returns-clause-err
 returns-clause-err g c = λ told care s stands.
     c.record_and_remove.ensures.err told care s (with_collection s c.args.plan.ids.items) stands (next_collection care (g.D.Store.view c.args.store.now) s (table_in (folder_of c.args.self)) stands.means.table_is c.requires.planned.0 c.requires.planned.1 c.args.plan c.requires.planned.2
-    (c.same_collection_in_any_order.ensures.ids c.args.plan.ids.items c.requires.planned.2.ascending s.entries c.requires.planned.2.same)
-    (c.next_states.ensures.collection care c.args.store.now s c.requires.planned.2.ascending stands.means.settled stands.means.valid))
+    (c.next_states.ensures.collection care c.args.store.now s c.args.plan.ids.items stands.means.settled stands.means.valid))
 
 pub returns-clause-alone : goal.returns-clause-alone
 returns-clause-alone g c = λ wanted.

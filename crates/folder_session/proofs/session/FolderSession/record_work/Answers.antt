@@ -4,7 +4,8 @@ use Rattle.catalog_types.specs.declared.change.Change.{Change}
 use Rattle.catalog_types.specs.declared.change.Change.TheVariants as change
 use Rattle.catalog_core.specs.Catalogs.{table_of}
 use Rattle.catalog_core.specs.IsTable.{IsTable}
-use Rattle.catalog_core.specs.Table.{Fits, Table, after, file_end}
+use Rattle.catalog_core.specs.Table.{Fits, Table, after}
+use Rattle.rows_core.specs.Limits.{file_end}
 use Rattle.admission.specs.Admitting.{entries_of}
 use Rattle.folder.specs.Folders.{table_in}
 use Rattle.folder.specs.Next.{with_work}

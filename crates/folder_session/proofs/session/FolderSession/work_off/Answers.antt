@@ -2,7 +2,8 @@ use Rattle.std.proofs.Common.{◌≡◌, ◌<◌, ◌∙◌, ℕ, List, [], map,
 use Rattle.estimator.specs.Cuts.{Cuts}
 use Rattle.catalog_types.specs.declared.change.Change.TheVariants as change
 use Rattle.catalog_core.specs.Catalogs.{table_of}
-use Rattle.catalog_core.specs.Table.{FitsProgram, Table, most_ticks}
+use Rattle.catalog_core.specs.Table.{FitsProgram, Table}
+use Rattle.rows_core.specs.Limits.{most_ticks}
 use Rattle.admission.specs.Admitting.{entries_of, made_of}
 use Rattle.planning.specs.Running.{IsTypedAt}
 use Rattle.script_text.specs.declared.answer.Answer.TheVariants as answer
