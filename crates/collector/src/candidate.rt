@@ -18,7 +18,7 @@ pub struct Candidate {
 }
 
 impl Candidate {
-    ghost use Rattle.std.specs.Prelude.{◌≡◌};
+    ghost use Rattle.std.specs.Prelude.{◌≡◌, ◌≤◌, ◌*◌};
     ghost use Rattle.collector.specs.Ratio.{CanBeRanked};
     ghost use Rattle.collector.specs.Standing.{standing_of, standing_cmp};
     ghost use Rattle.collector.specs.Candidates.{standing};
@@ -27,12 +27,29 @@ impl Candidate {
         requires { CanBeRanked now entry.now }
         ensures { standing result ≡ standing_of now entry.now }
     {
-        let size = entry.file.len;
+        let idle = u64::from(now - entry.last);
+        Candidate::of(entry.id, entry.file.len, idle, entry.uses, entry.machine)
+    }
+
+    /// A result with this id and length in bytes, which was last used so many ticks ago, so often before, and
+    /// took so much machine time.
+    pub fn of(id: u32, size: u64, idle: u64, uses: u32, machine: u32) -> Candidate
+        requires short { size ≤ 67108864 }
+        requires since { idle ≤ 4294967296 }
+        requires used { 0 < uses }
+        requires worked { 0 < machine }
+        ensures { standing result ≡ record {
+          id = id;
+          size = size;
+          idle_bytes = size * idle;
+          used_time = uses * machine;
+        } }
+    {
         Candidate {
-            id: entry.id,
+            id,
             size,
-            idle_bytes: size * u64::from(now - entry.last),
-            used_time: product(entry.uses, entry.machine),
+            idle_bytes: size * idle,
+            used_time: product(uses, machine),
         }
     }
 

@@ -2,12 +2,13 @@
 //! used and how long they took to compute.
 #![tactic(auto)]
 
-mod candidate;
+pub mod candidate;
 pub mod collection;
 mod exact;
 pub mod laws;
 pub mod ratio;
 
+pub use candidate::Candidate;
 pub use collection::victims;
 pub use laws::{one_list_of_victims, ratios_are_ordered};
 pub use ratio::ratio_cmp;

@@ -17,7 +17,7 @@ use Rattle.journal_store.proofs.MakingLemmas.{log_is_journal}
 use Rattle.folder.specs.State.{State, IsValid, table}
 use Rattle.folder.specs.Replay.{form_in, IsBodyOf, MayBeMade, Replays, due_in}
 use Rattle.folder.specs.Sound.{Care, HoldsAll, Speaks, IsSound}
-use Rattle.folder.specs.Left.{Near, IsSoundForOneOf, IsLeft, IsLeftWith, Everything, Since, StaysSound}
+use Rattle.folder.specs.Left.{AreApart, IsSoundForOneOf, IsLeft, IsLeftWith, Everything, Since, StaysSound}
 use Rattle.folder.specs.Standing.{Stands, Means, IsNext}
 use Rattle.folder.proofs.Replays.{form_in-push, reads_of, Replays-push}
 use Rattle.folder.proofs.Frames.{named_is_no_journal, sound_beside, holds_beside, stands_same}
@@ -57,7 +57,7 @@ module _ (care : Care) (u v : View) (t : Table) (journal : Journal) (s s' : Stat
   after_form = form_in-push means.stands.bodies body means.stands.form_is
 
   beside_logs : (image : ℕ → List ℕ) → ((g : ℕ) → g ≢ generation_file means.stands.generation → Now u g (image g)) → (g : ℕ) → (IsTrue (is_journal_file g) → ⊥) → Now u g (image g)
-  beside_logs image others g plain = others g (λ is. plain (subst IsJournalFile (sym is) (log_is_journal means.stands.generation)))
+  beside_logs image others g plain = others g (λ is. plain (subst IsJournalFile (sym is) (log_is_journal means.stands.generation means.stands.keeps.few)))
 
   keeps_files : (x : State) → IsValid x → ((image : ℕ → List ℕ) → IsImageAt u u.moment image → HoldsAll care x image)
       → (image : ℕ → List ℕ) → ((g : ℕ) → g ≢ generation_file means.stands.generation → Now u g (image g)) → HoldsAll care x image
@@ -70,14 +70,14 @@ module _ (care : Care) (u v : View) (t : Table) (journal : Journal) (s s' : Stat
   commit_one image (inl old) others = inl (record {
     reading =
         reads_of newest image means.stands.generation means.stands.bodies (table s)
-        (inl (record { root = means.stands.keeps.root (image 0) (others 0 (root_not_log means.stands.generation)); log = old })) means.stands.form_is before_replays;
+        (inl (record { root = means.stands.keeps.root (image 0) (others 0 (root_not_log means.stands.generation)); log = old; few = means.stands.keeps.few })) means.stands.form_is before_replays;
     valid = means.valid;
     holds = keeps_files s means.valid (λ i is. (means.settled i is).holds) image others;
   })
   commit_one image (inr new) others = inr (record {
     reading =
         reads_of newest image means.stands.generation (means.stands.bodies ++ body ∷ []) (table s')
-        (inl (record { root = means.stands.keeps.root (image 0) (others 0 (root_not_log means.stands.generation)); log = new })) after_form after_replays;
+        (inl (record { root = means.stands.keeps.root (image 0) (others 0 (root_not_log means.stands.generation)); log = new; few = means.stands.keeps.few })) after_form after_replays;
     valid = next.valid;
     holds = keeps_files s' next.valid next.ready image others;
   })
@@ -96,7 +96,7 @@ module _ (care : Care) (u v : View) (t : Table) (journal : Journal) (s s' : Stat
         settled = λ image is. record {
           reading =
               reads_of newest image means.stands.generation (means.stands.bodies ++ body ∷ []) (table s')
-              (inl (record { root = keeps.root (image 0) (is 0); log = keeps.log (image (generation_file means.stands.generation)) (is (generation_file means.stands.generation)) }))
+              (inl (record { root = keeps.root (image 0) (is 0); log = keeps.log (image (generation_file means.stands.generation)) (is (generation_file means.stands.generation)); few = keeps.few }))
               after_form after_replays;
           valid = next.valid;
           holds = keeps_files s' next.valid next.ready image (λ g other. run.others v.moment g (image g) run.time.later (omega arith) other (is g));
@@ -135,21 +135,20 @@ since_then_first care a b u v w since stays =
 
 -- ---- what stands after a call that failed
 
-pub near_back : (a b : State) → Near a b → Near b a
-near_back a b (inl same) = inl (sym same)
-near_back a b (inr (inl up)) = inr (inr up)
-near_back a b (inr (inr down)) = inr (inl down)
+pub apart_back : (a b : State) → AreApart a b → AreApart b a
+apart_back a b (inl same) = inl (sym same)
+apart_back a b (inr other) = inr (λ same. other (sym same))
 
-module _ (care : Care) (u v : View) (a b : State) (near : Near a b) (law : (g : ℕ) → Now v g (v.files g)) (since : Since care a b u v) where
+module _ (care : Care) (u v : View) (a b : State) (apart : AreApart a b) (law : (g : ℕ) → Now v g (v.files g)) (since : Since care a b u v) where
   images : (image : ℕ → List ℕ) → IsImageAt v v.moment image → IsSoundForOneOf care a b image
   images = image_has Everything (IsSoundForOneOf care a b) u v since
 
   pub left_of_since : IsLeftWith care v a b
   left_of_since = elim (files_have Everything (IsSoundForOneOf care a b) u v since law) [
-    | inl of_a ↦ inl (record { near = near; read = of_a; images = images })
-    | inr of_b ↦ inr (record { near = near_back a b near; read = of_b; images = λ image is. elim (images image is) [ inl x ↦ inr x | inr x ↦ inl x ] })
+    | inl of_a ↦ inl (record { apart = apart; read = of_a; images = images })
+    | inr of_b ↦ inr (record { apart = apart_back a b apart; read = of_b; images = λ image is. elim (images image is) [ inl x ↦ inr x | inr x ↦ inl x ] })
   ]
 
 -- a store with a state that is meant is left with it
 pub left_of_means : (care : Care) (v : View) (t : Table) (journal : Journal) (s : State) → ((g : ℕ) → Now v g (v.files g)) → Means care v t journal s → IsLeft care v s s
-left_of_means care v t journal s law means = record { near = inl refl; read = means.settled v.files law; images = λ image is. inl (means.settled image is) }
+left_of_means care v t journal s law means = record { apart = inl refl; read = means.settled v.files law; images = λ image is. inl (means.settled image is) }

@@ -7,7 +7,7 @@ use Rattle.outside_traits.proofs.RunLemmas.{spans_none, spans_of, spans_on, span
 use Rattle.folder.specs.Left.{Everything, IsSettled, StaysSound}
 use Rattle.folder.specs.Sound.{Care, IsSound}
 use Rattle.folder.specs.State.{State}
-use Rattle.folder.specs.Written.{AreWritten, ChangesFrom}
+use Rattle.folder.specs.Written.{AreWritten, IsFrom, ChangesFrom}
 
 -- ---- what a crash leaves
 
@@ -20,15 +20,17 @@ stays_on care u v w s first then = spans_on Everything (λ image. IsSound care i
 -- ---- which files are changed
 
 pub changes_none : (first : ℕ) (v : View) → ChangesFrom first v v
-changes_none first v = spans_none (λ file. first ≤ file) (λ image. Unit {0}) v (λ image is. tt)
+changes_none first v = spans_none (IsFrom first) (λ image. Unit {0}) v (λ image is. tt)
 
-pub changes_one : (n ahead : ℕ) (u v : View) → ChangesOnly (n + ahead) u v → ChangesFrom (n + ahead) u v
-changes_one n ahead u v run = spans_of (n + ahead) (λ x. Unit {0}) (λ file. n + ahead ≤ file) (λ image. Unit {0}) u v run (omega arith) (λ image here others. tt)
+pub changes_one : (n ahead : ℕ) (u v : View) → n + ahead < 4294967296 → ChangesOnly (n + ahead) u v → ChangesFrom (n + ahead) u v
+changes_one n ahead u v room run =
+    spans_of (n + ahead) (λ x. Unit {0}) (IsFrom (n + ahead)) (λ image. Unit {0}) u v run (omega arith, room) (λ image here others. tt)
 
-pub changes_on : (n ahead : ℕ) (u v w : View) → ChangesOnly (n + ahead) u v → ChangesFrom (n + (ahead + 1)) v w → ChangesFrom (n + ahead) u w
-changes_on n ahead u v w first then =
-    spans_on (λ file. n + ahead ≤ file) (λ image. Unit {0}) u v w (changes_one n ahead u v first)
-    (spans_wider (λ file. n + (ahead + 1) ≤ file) (λ file. n + ahead ≤ file) (λ image. Unit {0}) (λ image. Unit {0}) v w then (λ file later. omega (arith, later)) (λ image any others. tt))
+pub changes_on : (n ahead : ℕ) (u v w : View) → n + ahead < 4294967296 → ChangesOnly (n + ahead) u v → ChangesFrom (n + (ahead + 1)) v w → ChangesFrom (n + ahead) u w
+changes_on n ahead u v w room first then =
+    spans_on (IsFrom (n + ahead)) (λ image. Unit {0}) u v w (changes_one n ahead u v room first)
+    (spans_wider (IsFrom (n + (ahead + 1))) (IsFrom (n + ahead)) (λ image. Unit {0}) (λ image. Unit {0}) v w then
+    (λ file is. let later = is.0 in (omega (arith, later), is.1)) (λ image any others. tt))
 
 -- ---- what they hold
 

@@ -16,13 +16,10 @@ use Rattle.folder.specs.Replay.{ReadsAs}
 use Rattle.folder.specs.Sound.{Care, Holds, HoldsAll, Speaks, IsSound}
 use Rattle.folder.specs.Left.{IsSettled}
 use Rattle.folder.specs.Standing.{Stands}
-use Rattle.folder.proofs.JournalLemmas.{have_same}
+use Rattle.folder.proofs.JournalLemmas.{few_in, have_same}
 
 pub root_is_journal : IsJournalFile 0
 root_is_journal = refl
-
-generation_is_high : (g : ℕ) → is_journal_file (4294967296 + g) ≡ true
-generation_is_high g = grind (arith, nat_tests)
 
 pub no_journal_file : (n : ℕ) → 0 < n → n < 4294967296 → is_journal_file n ≡ false
 no_journal_file n low high = grind (arith, nat_tests)
@@ -49,7 +46,7 @@ pub reads_same : (a b : ℕ → List ℕ) (t : Table) → ((g : ℕ) → IsJourn
 reads_same a b t same reading = record {
   generation = reading.generation;
   bodies = reading.bodies;
-  logs = have_same a b reading.generation reading.bodies (same 0 root_is_journal) (same (generation_file reading.generation) (log_is_journal reading.generation)) reading.logs;
+  logs = have_same a b reading.generation reading.bodies (same 0 root_is_journal) (same (generation_file reading.generation) (log_is_journal reading.generation (few_in a reading.generation reading.bodies reading.logs))) reading.logs;
   replays = reading.replays;
 }
 
@@ -58,7 +55,7 @@ pub stands_same : (u v : View) (t : Table) (journal : Journal) → ((g : ℕ) (x
     → Stands u t journal → Stands v t journal
 stands_same u v t journal here same stands =
     let file : ℕ = generation_file stands.generation in
-    let log : IsJournalFile (generation_file stands.generation) = log_is_journal stands.generation in
+    let log : IsJournalFile (generation_file stands.generation) = log_is_journal stands.generation stands.keeps.few in
     record {
       generation = stands.generation;
       bodies = stands.bodies;
@@ -68,6 +65,7 @@ stands_same u v t journal here same stands =
         end = stands.keeps.end;
         root = λ x now. stands.keeps.root x (here 0 x root_is_journal now);
         log = λ x now. stands.keeps.log x (here file x log now);
+        few = stands.keeps.few;
       };
       replays = stands.replays;
       stable = record {

@@ -54,4 +54,4 @@ module _ (u v w : View) (folder : Folder) (run : ChangesStrays (named_in folder)
     freed_since = since_then_first care a b u v w since (strays_stay v w (table_in folder) (journal_of folder) run care a law means)
 
     pub freed_left : ((g : ℕ) → Now w g (w.files g)) → IsLeft care u a b → IsLeftWith care w a b
-    freed_left later left = left_of_since care u w a b left.near later freed_since
+    freed_left later left = left_of_since care u w a b left.apart later freed_since

@@ -67,7 +67,7 @@ module _ (care : Care) (u v : View) (a b : State) (left : IsLeft care u a b) (lo
 
   pub load_left : (r : Loaded) → ((g : ℕ) → Now v g (v.files g)) → OnErr r (IsLeftWith care v a b)
   load_left (Ok found) law = tt
-  load_left (Err e) law = left_of_since care u v a b left.near law (loading_since care u v a b left loading)
+  load_left (Err e) law = left_of_since care u v a b left.apart law (loading_since care u v a b left loading)
 
 -- which refusal of the journal it was
 was_not_a_store : (g b f a : ℕ) → refusal.NotAStore g b ≡ refusal.NotAStore f a → (f ≡ g) × (a ≡ b)

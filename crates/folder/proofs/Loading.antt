@@ -1,5 +1,5 @@
 -- Loading a store that is left with one or two states.
-use Rattle.std.proofs.Common.{◌≡◌, inl, inr, ℕ, ◌+◌, false, List, [], ◌∷◌, map, refl, sym, ap, ◌∙◌, subst, arith}
+use Rattle.std.proofs.Common.{◌≢◌, ◌≡◌, inl, inr, ℕ, ◌+◌, false, List, [], ◌∷◌, map, refl, sym, ap, ◌∙◌, subst, arith}
 use Rattle.std.specs.List.{Contains}
 use Rattle.outside_traits.specs.View.{View, IsImageAt}
 use Rattle.outside_traits.specs.Runs.{Spans}
@@ -16,7 +16,7 @@ use Rattle.journal_store.specs.declared.journal.Journal.{Journal}
 use Rattle.folder.specs.State.{Stream, State, Names, table, stream_of}
 use Rattle.folder.specs.Replay.{form_in, Replays, ReadsAs, StopsReplay, StopsReading, due_in, is_checkpoint}
 use Rattle.folder.specs.Sound.{Care, IsSound}
-use Rattle.folder.specs.Left.{Follows, Near, IsSoundForOneOf, IsLeft, Everything, Since}
+use Rattle.folder.specs.Left.{Follows, AreApart, IsSoundForOneOf, IsLeft, Everything, Since}
 use Rattle.folder.specs.Standing.{StandsIn, MeansIn}
 use Rattle.folder.proofs.Replays.{reads_of, replays_once, replays_or_stops, stops_once}
 use Rattle.journal_store.proofs.OneReading.{have_once, have_or_stop, stop_once as stop_once_in_journal}
@@ -57,7 +57,7 @@ stop_once files file at g b (inr x) (inr y) =
 pub stands_reads : (f : Form) (v : View) (t : Table) (journal : Journal) (image : ℕ → List ℕ) → StandsIn f v t journal → IsImageAt v v.moment image → ReadsAs image t
 stands_reads f v t journal image stands is =
     reads_of f image stands.generation stands.bodies t
-    (inl (record { root = stands.keeps.root (image 0) (is 0); log = stands.keeps.log (image (generation_file stands.generation)) (is (generation_file stands.generation)) }))
+    (inl (record { root = stands.keeps.root (image 0) (is 0); log = stands.keeps.log (image (generation_file stands.generation)) (is (generation_file stands.generation)); few = stands.keeps.few }))
     stands.form_is stands.replays
 
 -- ---- states with one table
@@ -69,16 +69,15 @@ tick-after (change.Work program reads dropped kept) t plain = refl
 tick-after (change.Collect ids) t plain = refl
 tick-after (change.Checkpoint whole) t plain = absurd (cc)
 
-follows_other : (a b : State) → Follows a b → table a ≡ table b → ⊥
-follows_other a b follows same =
-    let up : (table b).tick ≡ (table a).tick + 1 = ap (λ (t : Table). t.tick) follows.1.1 ∙ tick-after follows.0 (table a) follows.1.0.0 in
-    absurd (omega (arith, up, ap (λ (t : Table). t.tick) same))
+pub follows_apart : (a b : State) → Follows a b → a.tick ≢ b.tick
+follows_apart a b follows same =
+    let up : b.tick ≡ a.tick + 1 = ap (λ (t : Table). t.tick) follows.1.1 ∙ tick-after follows.0 (table a) follows.1.0.0 in
+    absurd (omega (arith, up, same))
 
--- two states that are near and have one table are one
-pub near_same : (a b : State) → Near a b → table a ≡ table b → a ≡ b
-near_same a b (inl same) is = same
-near_same a b (inr (inl up)) is = absurd (follows_other a b up is)
-near_same a b (inr (inr down)) is = absurd (follows_other b a down (sym is))
+-- two states that are apart or one, and have one table, are one
+pub apart_same : (a b : State) → AreApart a b → table a ≡ table b → a ≡ b
+apart_same a b (inl same) is = same
+apart_same a b (inr other) is = absurd (other (ap (λ (t : Table). t.tick) is))
 
 -- ---- loading
 
@@ -123,6 +122,6 @@ module _ (care : Care) (u v : View) (a b : State) (left : IsLeft care u a b) (lo
           | inl sound ↦ sound
           | inr sound ↦
               let tables : table a ≡ table b = sym same ∙ reads_once image t (table b) (stands_reads f v t journal image stands is) sound.reading in
-              subst (λ s. IsSound care image s) (sym (near_same a b left.near tables)) sound
+              subst (λ s. IsSound care image s) (sym (apart_same a b left.apart tables)) sound
         ];
       }

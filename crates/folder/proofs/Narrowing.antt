@@ -20,7 +20,7 @@ module _ (u v : View) (narrow : Narrows u v) where
 
   pub left_narrowed : (care : Care) (a b : State) → IsLeft care u a b → IsLeft care v a b
   left_narrowed care a b left = record {
-    near = left.near;
+    apart = left.apart;
     read = sound_same care u.files v.files a left.read (λ g speaks. narrow.same g);
     images = λ image is. left.images image (image_before image is);
   }

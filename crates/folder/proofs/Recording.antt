@@ -17,8 +17,9 @@ use Rattle.journal_store.specs.declared.journal.Journal.{Journal}
 use Rattle.folder.specs.State.{State}
 use Rattle.folder.specs.Replay.{IsBodyOf, is_checkpoint}
 use Rattle.folder.specs.Sound.{Care}
-use Rattle.folder.specs.Left.{Near, Since}
+use Rattle.folder.specs.Left.{AreApart, Since}
 use Rattle.folder.specs.Standing.{Stands, Means, IsNext}
+use Rattle.folder.proofs.Loading.{follows_apart}
 use Rattle.folder.proofs.Crash.{commit_since, commit_means, commit_stands}
 
 -- the keys of entries alone aren't spelled, and a checkpoint alone has entries
@@ -58,8 +59,8 @@ module _ (care : Care) (u v : View) (t : Table) (journal : Journal) (s s' : Stat
       (crash means.stands.generation means.stands.bodies means.stands.keeps) (committed means.stands.generation means.stands.bodies means.stands.keeps)
       (stable means.stands.generation means.stands.bodies means.stands.keeps means.stands.stable)
 
-pub near_next : (care : Care) (v : View) (s s' : State) (c : Change) → IsNext care v s c s' → Near s s'
-near_next care v s s' c next = inr (inl (c, next.step))
+pub apart_next : (care : Care) (v : View) (s s' : State) (c : Change) → IsNext care v s c s' → AreApart s s'
+apart_next care v s s' c next = inr (follows_apart s s' (c, next.step))
 
 pub record_stands : (u v : View) (t t' : Table) (journal journal' : Journal) (c : Change) (body : List ℕ) → Stands u t journal → IsBodyOf newest c body → is_checkpoint c ≡ false → Fits c t
     → t' ≡ after c t → ((g : ℕ) (bodies : List (List ℕ)) → Keeps u journal g bodies → Keeps v journal' g (bodies ++ body ∷ []))

@@ -1,5 +1,5 @@
 -- Which files a folder names, and what a run that spares them leaves.
-use Rattle.std.proofs.Common.{◌≡◌, ◌∙◌, inl, inr, refl, sym, ap, subst, ℕ, ◌+◌, ◌<◌, ◌==◌, Bool, true, false, true≢false, List, [], ◌∷◌, ◌++◌, map, arith}
+use Rattle.std.proofs.Common.{◌≡◌, ◌≢◌, ◌∙◌, inl, inr, refl, sym, ap, subst, ℕ, ◌+◌, ◌^◌, ◌<◌, ◌==◌, Bool, true, false, true≢false, List, [], ◌∷◌, ◌++◌, map, arith}
 use Rattle.std.specs.Prelude.{IsTrue, not, ◌⊎◌}
 use Rattle.std.specs.List.{Contains, flat_map}
 use Rattle.std.specs.List.Sorted.{IsPermutation}
@@ -16,12 +16,12 @@ use Rattle.catalog_core.specs.OwnFiles.{extent_files, result_files, files_in}
 use Rattle.record_codec.specs.Forms.{newest}
 use Rattle.catalog_core.specs.Table.{Table, empty_table}
 use Rattle.journal_store.specs.Journals.{generation_of, Keeps}
-use Rattle.journal_store.specs.Readings.{generation_file, is_journal_file, IsJournalFile}
+use Rattle.journal_store.specs.Readings.{generation_file, users_file, is_journal_file, IsJournalFile}
 use Rattle.journal_store.specs.declared.journal.Journal.{Journal}
 use Rattle.journal_store.proofs.MakingLemmas.{log_is_journal}
 use Rattle.folder.specs.Folders.{journal_of, table_in}
 use Rattle.folder.specs.InUse.{IsInUse}
-use Rattle.folder.specs.Left.{Everything, StaysSound}
+use Rattle.folder.specs.Left.{Everything, LeavesAlone, StaysSound}
 use Rattle.folder.specs.Replay.{ReadsAs, Replays, due_in}
 use Rattle.folder.specs.Sound.{Care, IsSound}
 use Rattle.folder.specs.Standing.{Stands, Means}
@@ -29,6 +29,7 @@ use Rattle.folder.specs.State.{State, Names, extent_of, states_of, stream_of, ta
 use Rattle.folder.specs.Unnamed.{HasRoot, IsLogOrUnnamed, IsUnnamed, ChangesUnnamed, ChangesLogsOrUnnamed, named_by}
 use Rattle.folder.specs.declared.folder.Folder.{Folder}
 use Rattle.folder.proofs.Frames.{holds_beside, root_is_journal}
+use Rattle.folder.proofs.JournalLemmas.{few_in}
 use Rattle.folder.proofs.Replays.{reads_of}
 
 -- ---- what is named
@@ -41,13 +42,22 @@ flat_member {X = X} f (z ∷ zs) x y has there = by (λ at. flat_member f zs x y
     by rest (inl here) = Contains-append_left (f z) (flat_map f zs) y (subst (λ (w : X). Contains (f w) y) (sym here) there)
     by rest (inr at) = Contains-append_right (f z) (flat_map f zs) y (rest at)
 
+-- the files that stand behind those of the table
+abbrev behind_files : ℕ → List ℕ
+behind_files g = 0 ∷ generation_file g ∷ users_file ∷ []
+
 pub names_root : (g : ℕ) (t : Table) → Contains (named_by g t) 0
-names_root g t = Contains-append_right (files_in t.streams t.entries) (0 ∷ generation_file g ∷ []) 0 (at_front 0 (generation_file g ∷ []))
+names_root g t = Contains-append_right (files_in t.streams t.entries) (behind_files g) 0 (at_front 0 (generation_file g ∷ users_file ∷ []))
 
 pub names_log : (g : ℕ) (t : Table) → Contains (named_by g t) (generation_file g)
 names_log g t =
-    Contains-append_right (files_in t.streams t.entries) (0 ∷ generation_file g ∷ []) (generation_file g)
-    (behind 0 (generation_file g ∷ []) (generation_file g) (at_front (generation_file g) []))
+    Contains-append_right (files_in t.streams t.entries) (behind_files g) (generation_file g)
+    (behind 0 (generation_file g ∷ users_file ∷ []) (generation_file g) (at_front (generation_file g) (users_file ∷ [])))
+
+pub names_users : (g : ℕ) (t : Table) → Contains (named_by g t) users_file
+names_users g t =
+    Contains-append_right (files_in t.streams t.entries) (behind_files g) users_file
+    (behind 0 (generation_file g ∷ users_file ∷ []) users_file (behind (generation_file g) (users_file ∷ []) users_file (at_front users_file [])))
 
 -- the file of an extent or of a kept result
 file_in : (s : State) (at : FileRef) (bytes : List ℕ) → Names s at bytes → Contains (files_in (states_of s.streams) s.entries) at.file
@@ -62,7 +72,7 @@ file_in s at bytes (inr names) =
     (subst (λ (r : FileRef). Contains (result_files s.entries) r.file) (sym names.at_is) (mapped (λ e. e.file.file) s.entries names.entry names.has))
 
 names_file : (g : ℕ) (s : State) (at : FileRef) (bytes : List ℕ) → Names s at bytes → Contains (named_by g (table s)) at.file
-names_file g s at bytes names = Contains-append_left (files_in (states_of s.streams) s.entries) (0 ∷ generation_file g ∷ []) at.file (file_in s at bytes names)
+names_file g s at bytes names = Contains-append_left (files_in (states_of s.streams) s.entries) (behind_files g) at.file (file_in s at bytes names)
 
 -- what is named is no stray
 named_has : (named : List ℕ) (file : ℕ) → Contains named file → IsStray named file → ⊥
@@ -98,6 +108,7 @@ module _ (u v : View) (t : Table) (journal : Journal) (run : ChangesStrays (name
     end = keeps.end;
     root = λ x now. keeps.root x (now_before g 0 x keeps.is_generation (names_root g t) now);
     log = λ x now. keeps.log x (now_before g (generation_file g) x keeps.is_generation (names_log g t) now);
+    few = keeps.few;
   }
 
   pub strays_stand : Stands u t journal → Stands v t journal
@@ -130,6 +141,7 @@ module _ (u v : View) (t : Table) (journal : Journal) (run : ChangesStrays (name
           (inl (record {
             root = means.stands.keeps.root (image 0) (others 0 (named_has (named_by g t) 0 (names_root g t)));
             log = means.stands.keeps.log (image (generation_file g)) (others (generation_file g) (named_has (named_by g t) (generation_file g) (names_log g t)));
+            few = means.stands.keeps.few;
           }))
           means.stands.form_is (subst (λ x. Replays newest (due_in g) empty_table means.stands.bodies x) means.table_is means.stands.replays);
       valid = means.valid;
@@ -176,19 +188,25 @@ module _ (files : ℕ → List ℕ) (t : Table) (has_root : HasRoot files) (read
   other_stray : (g file : ℕ) → is_journal_file file ≡ false → IsStray (named_by g t) file → IsStray (named_by reading.generation t) file
   other_stray g file plain stray = by (is_named (named_by reading.generation t) file) refl
     where
-      no_log : (h : ℕ) → Contains (0 ∷ generation_file h ∷ []) file → ⊥
-      no_log h has = elim (front_or_behind 0 (generation_file h ∷ []) file has) [
+      no_users : users_file ≡ file → ⊥
+      no_users is = named_has (named_by g t) file (subst (Contains (named_by g t)) is (names_users g t)) stray
+
+      no_log : (h : ℕ) → h < 2 ^ 62 → Contains (behind_files h) file → ⊥
+      no_log h few has = elim (front_or_behind 0 (generation_file h ∷ users_file ∷ []) file has) [
         | inl root ↦ true≢false (sym (subst IsJournalFile root root_is_journal) ∙ plain)
-        | inr more ↦ elim (front_or_behind (generation_file h) [] file more) [
-          | inl log ↦ true≢false (sym (subst IsJournalFile log (log_is_journal h)) ∙ plain)
-          | inr none ↦ none_in_nothing file none
+        | inr more ↦ elim (front_or_behind (generation_file h) (users_file ∷ []) file more) [
+          | inl log ↦ true≢false (sym (subst IsJournalFile log (log_is_journal h few)) ∙ plain)
+          | inr last ↦ elim (front_or_behind users_file [] file last) [
+            | inl users ↦ no_users users
+            | inr none ↦ none_in_nothing file none
+          ]
         ]
       ]
 
       not_named : Contains (named_by reading.generation t) file → ⊥
-      not_named has = elim (Contains-append_cases (files_in t.streams t.entries) (0 ∷ generation_file reading.generation ∷ []) file has) [
-        | inl of_table ↦ named_has (named_by g t) file (Contains-append_left (files_in t.streams t.entries) (0 ∷ generation_file g ∷ []) file of_table) stray
-        | inr of_journal ↦ no_log reading.generation of_journal
+      not_named has = elim (Contains-append_cases (files_in t.streams t.entries) (behind_files reading.generation) file has) [
+        | inl of_table ↦ named_has (named_by g t) file (Contains-append_left (files_in t.streams t.entries) (behind_files g) file of_table) stray
+        | inr of_journal ↦ no_log reading.generation (few_in files reading.generation reading.bodies reading.logs) of_journal
       ]
 
       by : (b : Bool) → is_named (named_by reading.generation t) file ≡ b → IsTrue (not b)
@@ -223,3 +241,16 @@ pub strays_alone : (t : Table) (g : ℕ) (u v w : View) (has_root : HasRoot u.fi
 strays_alone t g u v w has_root reading is narrow run =
     spans_on (IsUnnamed u.files) (λ image. Unit {0}) u v w (unnamed_narrowed u v narrow)
     (spans_wider (IsStray (named_by g t)) (IsUnnamed u.files) (λ image. Unit {0}) (λ image. Unit {0}) v w run (λ file stray. stray_unnamed u.files t has_root reading g file is stray) (λ image any others. tt))
+
+-- ---- the users' file
+
+-- it is no log, and each folder names it
+users_stay : (files : ℕ → List ℕ) (file : ℕ) → IsLogOrUnnamed files file → file ≡ users_file → ⊥
+users_stay files file (inl log) is = true≢false (sym log ∙ ap is_journal_file is)
+users_stay files file (inr unnamed) is =
+    named_has (named_by unnamed.reading.generation unnamed.t) users_file (names_users unnamed.reading.generation unnamed.t)
+    (subst (IsStray (named_by unnamed.reading.generation unnamed.t)) is unnamed.stray)
+
+pub users_alone : (u v : View) → ChangesLogsOrUnnamed u v → LeavesAlone users_file u v
+users_alone u v run =
+    spans_wider (IsLogOrUnnamed u.files) (λ g. g ≢ users_file) (λ image. Unit {0}) (λ image. Unit {0}) u v run (λ g of is. users_stay u.files g of is) (λ image any others. tt)

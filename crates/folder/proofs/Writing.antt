@@ -1,14 +1,14 @@
 -- New files, before the change that names them is recorded.
-use Rattle.std.proofs.Common.{◌≡◌, ◌≢◌, inl, inr, ℕ, ◌+◌, ◌==◌, ◌^◌, ◌<◌, ◌≤◌, List, refl, ap, subst, arith}
+use Rattle.std.proofs.Common.{◌≡◌, ◌≢◌, ◌∙◌, inl, inr, ℕ, ◌+◌, ◌==◌, ◌^◌, ◌<◌, ◌≤◌, List, refl, sym, ap, subst, true≢false, arith}
 use Rattle.std.specs.Prelude.{IsTrue}
 use Rattle.std.proofs.lemmas.Bool.{both_ways, eqb-true, eq-eqb}
 use Rattle.outside_traits.specs.View.{View, Now, Only}
 use Rattle.outside_traits.specs.Runs.{ChangesOnly, Spans}
 use Rattle.outside_traits.proofs.RunLemmas.{spans_of}
 use Rattle.catalog_core.specs.Table.{Table}
-use Rattle.journal_store.specs.Readings.{IsJournalFile, is_journal_file}
+use Rattle.journal_store.specs.Readings.{users_file, IsJournalFile, is_journal_file}
 use Rattle.journal_store.specs.declared.journal.Journal.{Journal}
-use Rattle.folder.specs.State.{State}
+use Rattle.folder.specs.State.{State, IsValid}
 use Rattle.folder.specs.Sound.{Care, Speaks}
 use Rattle.folder.specs.Left.{StaysSound}
 use Rattle.folder.specs.Standing.{Stands, Means}
@@ -53,3 +53,22 @@ written_stands u v t journal file ahead file_is room run stands =
 -- any other file holds what it held
 pub others_stay : (u v : View) (file named : ℕ) → named ≡ file → ChangesOnly file u v → (g : ℕ) (held : List ℕ) → g ≢ named → Only held (Now u g) → Only held (Now v g)
 others_stay u v file named is run g held other only = λ x now. only x (run.others v.moment g x run.time.later (omega arith) (subst (λ n. g ≢ n) is other) now)
+
+-- ---- the users' file
+
+-- it is no log, and its number is above those of the files that a state names
+users_unspoken : (s : State) → IsValid s → (g : ℕ) → IsTrue (g == users_file) → Speaks s g → ⊥
+users_unspoken s valid g is (inl log) = true≢false (sym log ∙ ap is_journal_file (eqb-true g users_file is))
+users_unspoken s valid g is (inr named) =
+    let high : named.0.file < s.next_file = (valid.given named.0 named.1 named.2).1 in
+    let last : s.next_file ≤ 4294967296 = valid.last in
+    let same : g ≡ named.0.file = named.3 in
+    let users : g ≡ users_file = eqb-true g users_file is in
+    omega (arith, high, last, same, users)
+
+module _ (care : Care) (u v : View) (t : Table) (journal : Journal) (s : State) (law : (g : ℕ) → Now u g (u.files g)) (means : Means care u t journal s) (run : ChangesOnly users_file u v) where
+  pub users_keep : StaysSound care s u v
+  users_keep = beside_stays (λ g. g == users_file) care u v t journal s law means (users_unspoken s means.valid) (one_file users_file u v run)
+
+  pub users_mean : Means care v t journal s
+  users_mean = beside_means (λ g. g == users_file) care u v t journal s law means (users_unspoken s means.valid) (one_file users_file u v run)

@@ -1,5 +1,5 @@
 -- What a crash leaves.
-use Rattle.std.specs.Prelude.{◌≡◌, ◌⊎◌, ℕ, false, List}
+use Rattle.std.specs.Prelude.{◌≡◌, ◌≢◌, ◌⊎◌, ℕ, false, List}
 use Rattle.outside_traits.specs.View.{View, IsImageAt}
 use Rattle.outside_traits.specs.Runs.{Spans}
 use Rattle.catalog_types.specs.declared.change.Change.{Change}
@@ -16,9 +16,9 @@ IsStep t c t' = MayBeMade false t c × (t' ≡ after c t)
 abbrev pub Follows : State → State → Type 0
 Follows a b = (c : Change) × IsStep (table a) c (table b)
 
--- they are one state, or lie one recorded change apart
-abbrev pub Near : State → State → Type 0
-Near a b = (a ≡ b) ⊎ Follows a b ⊎ Follows b a
+-- they are one state, or in the one more commands were recorded than in the other
+abbrev pub AreApart : State → State → Type 0
+AreApart a b = (a ≡ b) ⊎ (a.tick ≢ b.tick)
 
 abbrev pub IsSoundForOneOf : Care → State → State → (ℕ → List ℕ) → Type 0
 IsSoundForOneOf care a b image = IsSound care image a ⊎ IsSound care image b
@@ -27,11 +27,11 @@ IsSoundForOneOf care a b image = IsSound care image a ⊎ IsSound care image b
 abbrev pub IsSettled : Care → View → State → Type 0
 IsSettled care v s = (image : ℕ → List ℕ) → IsImageAt v v.moment image → IsSound care image s
 
--- The store is left with these two states, which are one or lie one recorded change apart: its files are those of the
--- first as they read, and each crash now leaves files of one of them. A store that is left with one state is left with it
--- twice. A mix of images is an image, so a crash leaves no mix of the two states.
+-- The store is left with these two states, which are one or have other ticks: its files are those of the first as they
+-- read, and each crash now leaves files of one of them. A store that is left with one state is left with it twice. A mix
+-- of images is an image, so a crash leaves no mix of the two states.
 pub record IsLeft (care : Care) (v : View) (a b : State) : Type 0 where
-  pub near : Near a b
+  pub apart : AreApart a b
   pub read : IsSound care v.files a
   pub images : (image : ℕ → List ℕ) → IsImageAt v v.moment image → IsSoundForOneOf care a b image
 
@@ -45,6 +45,10 @@ Everything g = Unit {0}
 -- each crash since leaves files of one of the two states
 abbrev pub Since : Care → State → State → View → View → Type 0
 Since care a b u v = Spans Everything (IsSoundForOneOf care a b) u v
+
+-- no file but others of this one is changed, nor what a crash since leaves of one
+abbrev pub LeavesAlone : ℕ → View → View → Type 0
+LeavesAlone file u v = Spans (λ g. g ≢ file) (λ image. Unit {0}) u v
 
 -- each crash since leaves files of this state
 abbrev pub StaysSound : Care → State → View → View → Type 0

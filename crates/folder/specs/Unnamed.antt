@@ -6,7 +6,7 @@ use Rattle.folder.specs.Strays.{IsStray, OnlyNamed}
 use Rattle.catalog_core.specs.OwnFiles.{files_in}
 use Rattle.catalog_core.specs.Table.{Table}
 use Rattle.journal_store.specs.Journals.{generation_of}
-use Rattle.journal_store.specs.Readings.{generation_file, IsJournalFile, IsUnfinished}
+use Rattle.journal_store.specs.Readings.{generation_file, users_file, IsJournalFile, IsUnfinished}
 use Rattle.folder.specs.Folders.{journal_of, table_in}
 use Rattle.folder.specs.Replay.{ReadsAs}
 use Rattle.folder.specs.declared.folder.Folder.{Folder}
@@ -15,9 +15,9 @@ use Rattle.folder.specs.declared.folder.Folder.{Folder}
 abbrev pub HasRoot : (ℕ → List ℕ) → Type 0
 HasRoot files = IsUnfinished (files 0) → ⊥
 
--- the files of the table's extents and kept results, the root, and the log of this generation
+-- the files of the table's extents and kept results, the root, the log of this generation, and the users' file
 abbrev pub named_by : ℕ → Table → List ℕ
-named_by generation t = files_in t.streams t.entries ++ 0 ∷ generation_file generation ∷ []
+named_by generation t = files_in t.streams t.entries ++ 0 ∷ generation_file generation ∷ users_file ∷ []
 
 abbrev pub named_in : Folder → List ℕ
 named_in folder = named_by (generation_of (journal_of folder)) (table_in folder)

@@ -1,5 +1,5 @@
 -- Files that are written one behind the other.
-use Rattle.std.specs.Prelude.{ℕ, ◌+◌, ◌≤◌, List, [], ◌∷◌}
+use Rattle.std.specs.Prelude.{ℕ, ◌+◌, ◌<◌, ◌≤◌, List, [], ◌∷◌}
 use Rattle.outside_traits.specs.Runs.{Spans}
 use Rattle.outside_traits.specs.View.{View, Now, Only}
 
@@ -8,6 +8,10 @@ abbrev pub AreWritten : View → ℕ → List (List ℕ) → Type 0
 AreWritten v file [] = Unit {0}
 AreWritten v file (bytes ∷ others) = Only bytes (Now v file) × AreWritten v (file + 1) others
 
--- no file before this one is changed, nor what a crash since leaves of one
+-- an extent or a kept result may come to stand in this file, which isn't before that one
+abbrev pub IsFrom : ℕ → ℕ → Type 0
+IsFrom first file = (first ≤ file) × (file < 4294967296)
+
+-- no other file is changed, nor what a crash since leaves of one
 abbrev pub ChangesFrom : ℕ → View → View → Type 0
-ChangesFrom first old new = Spans (λ file. first ≤ file) (λ image. Unit {0}) old new
+ChangesFrom first old new = Spans (IsFrom first) (λ image. Unit {0}) old new

@@ -9,8 +9,8 @@ ghost use Rattle.outside_traits.specs.Runs.{Narrows};
 ghost use Rattle.folder.specs.Strays.{ChangesStrays};
 ghost use Rattle.catalog_core.specs.Table.{Table};
 ghost use Rattle.journal_store.specs.Journals.{had_root_of};
-ghost use Rattle.journal_store.specs.Readings.{generation_file, HaveBodies, LogHasAtMost};
-ghost use Rattle.folder.specs.Left.{IsLeft, IsLeftWith, Since, StaysSound};
+ghost use Rattle.journal_store.specs.Readings.{generation_file, users_file, HaveBodies, LogHasAtMost};
+ghost use Rattle.folder.specs.Left.{IsLeft, IsLeftWith, LeavesAlone, Since, StaysSound};
 ghost use Rattle.folder.specs.Replay.{ReadsAs, StopsReading};
 ghost use Rattle.folder.specs.Sound.{Care};
 ghost use Rattle.folder.specs.State.{State};
@@ -18,6 +18,7 @@ ghost use Rattle.folder.specs.State.{State};
 use crate::folder::Folder;
 use crate::refusal::LoadRefusal;
 use crate::remove_strays;
+use journal_store::USERS_FILE;
 use outside_traits::{Failed, Store};
 use rows_core::Memory;
 use std::alloc::Global;
@@ -61,6 +62,8 @@ impl Folder {
         // Only logs are changed, and files that the folder doesn't name; where the log stays these alone; and
         // none before `NotAStore`.
         ensures alone { IsTrue D.tells → ChangesLogsOrUnnamed (D.view store.old) (D.view store.new) }
+        // So the users' file is left alone.
+        ensures users { IsTrue D.tells → LeavesAlone users_file (D.view store.old) (D.view store.new) }
         ensures finished { IsTrue D.tells → IsLoadedAsItIs (D.view store.old).files
             → ChangesUnnamed (D.view store.old) (D.view store.new) }
         ensures unchanged { IsTrue D.tells → (file at : ℕ) → IsErrOf result (LoadRefusal.NotAStore file at)
@@ -132,6 +135,7 @@ impl Folder {
         let mut files = self.catalog().files(alloc)?;
         files.push(0)?;
         files.push(self.journal().file())?;
+        files.push(USERS_FILE)?;
         files.sort_unstable();
         Ok(files)
     }

@@ -1,7 +1,7 @@
 //! Stores that are left, states that follow, and what the files of a state hold.
 ghost use Rattle.std.specs.Prelude.{◌≡◌, ℕ, List, [], Option, length, ◌<◌, ◌≤◌, IsTrue};
 ghost use Rattle.outside_traits.specs.View.{View, Now, Only};
-ghost use Rattle.outside_traits.specs.Runs.{Narrows};
+ghost use Rattle.outside_traits.specs.Runs.{ChangesOnly, Narrows};
 ghost use Rattle.rows_core.specs.declared.schema.Column.{Column};
 ghost use Rattle.rows_core.specs.declared.value.Value.{Value};
 ghost use Rattle.std.specs.List.{AllByRecursion, Contains};
@@ -34,6 +34,7 @@ ghost use Rattle.folder.specs.Removing.{IsFree};
 ghost use Rattle.folder.specs.Standing.{Stands, Means, IsNext};
 ghost use Rattle.folder.specs.Next.{with_stream, with_rows, with_run, with_work, with_collection};
 ghost use Rattle.folder.specs.Next.{new_extent, AreRowsOf, IsReadyResult};
+ghost use Rattle.journal_store.specs.Readings.{users_file};
 ghost use Rattle.journal_store.specs.declared.journal.Journal.{Journal};
 
 use catalog_core::files_of_tables;
@@ -75,6 +76,12 @@ pub fn left_stores<D: Store>()
     ensures stands { (before then : D) (t : Table) (journal : Journal)
         → Narrows (D.view before) (D.view then) → Stands (D.view before) t journal
         → Stands (D.view then) t journal }
+    // A change of the users' file alone keeps what is meant.
+    ensures beside { (care : Care) (before then : D) (t : Table) (journal : Journal) (s : State)
+        → Means care (D.view before) t journal s
+        → ChangesOnly users_file (D.view before) (D.view then)
+        → Means care (D.view then) t journal s
+        × StaysSound care s (D.view before) (D.view then) }
 {}
 
 /// The states that follow from one, where the change fits its table: with one more stream; with one more

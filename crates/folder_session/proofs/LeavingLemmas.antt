@@ -20,7 +20,7 @@ use Rattle.journal_store.specs.Readings.{generation_file}
 use Rattle.journal_store.specs.declared.journal.Journal.{Journal}
 use Rattle.folder.specs.Folders.{journal_of, table_in}
 use Rattle.folder.specs.Removing.{ChangesAmong}
-use Rattle.folder.specs.Written.{ChangesFrom}
+use Rattle.folder.specs.Written.{IsFrom, ChangesFrom}
 use Rattle.folder.specs.declared.folder.Folder.{Folder}
 use Rattle.folder.proofs.FilesWritten.{counted_on}
 use Rattle.folder_session.specs.declared.session.FolderSession.{FolderSession}
@@ -73,8 +73,8 @@ module _ (folder : Folder) where
 
   -- files that are written
   pub writes_more : (files : List ℕ) (u v : View) → ChangesFrom ((table_in folder).next_file + 0) u v → WritesAndRemoves folder files u v
-  writes_more files u v run = spans_wider (λ file. (table_in folder).next_file + 0 ≤ file) (λ file. IsWritten folder file ⊎ Contains files file) (λ image. Unit {0}) (λ image. Unit {0}) u v run
-      (λ file later. inl (inr (omega (arith, later)))) (λ image any others. tt)
+  writes_more files u v run = spans_wider (IsFrom ((table_in folder).next_file + 0)) (λ file. IsWritten folder file ⊎ Contains files file) (λ image. Unit {0}) (λ image. Unit {0}) u v run
+      (λ file is. let later = is.0 in inl (inr (omega (arith, later), is.1))) (λ image any others. tt)
 
   -- files that are written, and then a change that is recorded, and files that are removed
   pub writes_and_removes : (files : List ℕ) (u v w : View) → ChangesFrom ((table_in folder).next_file + 0) u v → RecordsAndRemoves folder files v w → WritesAndRemoves folder files u w
@@ -100,7 +100,7 @@ removes_prepared files u v session session' t j removes =
   where
     either : (file : ℕ) → IsWritten (folder_of session') file → IsWritten (folder_of session) file
     either file (inl log) = inl (subst (λ (x : Journal). file ≡ generation_file (generation_of x)) j log)
-    either file (inr next) = inr (subst (λ (x : Table). x.next_file ≤ file) t next)
+    either file (inr next) = inr (subst (λ (x : Table). IsFrom x.next_file file) t next)
 
 pub appends_prepared : (u v : View) (session session' : FolderSession) → table_in (folder_of session') ≡ table_in (folder_of session) → journal_of (folder_of session') ≡ journal_of (folder_of session)
     → AppendsAtMost (folder_of session') u v → AppendsAtMost (folder_of session) u v

@@ -23,6 +23,7 @@ use Rattle.planning.specs.Making.{making}
 use Rattle.planning.specs.Fetching.{IsFetching}
 use Rattle.planning.specs.Running.{running}
 use Rattle.folder.specs.Folders.{table_in, journal_of, FolderStands}
+use Rattle.folder.proofs.Loading.{follows_apart}
 use Rattle.folder.specs.Left.{Follows, IsLeft, Since, StaysSound, Everything, IsSoundForOneOf}
 use Rattle.folder.specs.Next.{with_stream, with_rows}
 use Rattle.folder.specs.Sound.{Care, IsSound}
@@ -140,7 +141,7 @@ module _ (care : Care) (t u v : View) (s new : State) (before : StaysSound care 
   breaks_before recorded left = record {
     recorded = recorded;
     since = since_stays new;
-    left = inl (record { near = inr (inl recorded); read = left.read; images = λ image is. inl (elim (left.images image is) [ inl sound ↦ sound | inr sound ↦ sound ]) });
+    left = inl (record { apart = inr (follows_apart s new recorded); read = left.read; images = λ image is. inl (elim (left.images image is) [ inl sound ↦ sound | inr sound ↦ sound ]) });
   }
 
 -- ---- work

@@ -15,6 +15,7 @@ use Rattle.folder.specs.Folders.{FolderMeans, journal_of, table_in}
 use Rattle.folder.specs.Left.{Follows, IsLeft, IsLeftWith, Since}
 use Rattle.folder.specs.Sound.{Care}
 use Rattle.folder.specs.State.{State}
+use Rattle.folder.specs.Written.{IsFrom}
 use Rattle.folder.specs.declared.folder.Folder.{Folder}
 use Rattle.journal_store.specs.Journals.{generation_of}
 use Rattle.journal_store.specs.Readings.{generation_file}
@@ -67,7 +68,7 @@ IsLogInUse folder file = file ≡ generation_file (generation_of (journal_of fol
 
 -- the log in use, and files that no state names yet
 abbrev pub IsWritten : Folder → ℕ → Type 0
-IsWritten folder file = IsLogInUse folder file ⊎ ((table_in folder).next_file ≤ file)
+IsWritten folder file = IsLogInUse folder file ⊎ IsFrom (table_in folder).next_file file
 
 -- the log in use, and the next file
 abbrev pub IsAppended : Folder → ℕ → Type 0

@@ -12,7 +12,7 @@ ghost use Rattle.catalog_core.specs.Table.{Fits, after};
 ghost use Rattle.folder.specs.Folders.{catalog_of, journal_of, table_in, FolderStands};
 ghost use Rattle.folder.specs.InUse.{IsInUse, IsLoadedAsItIs};
 ghost use Rattle.folder.specs.Unnamed.{HasRoot, HasOnlyNamed, ChangesUnnamed, ChangesLogsOrUnnamed};
-ghost use Rattle.folder.specs.Left.{IsLeft, IsLeftWith, Since};
+ghost use Rattle.folder.specs.Left.{IsLeft, IsLeftWith, LeavesAlone, Since};
 ghost use Rattle.folder.specs.Removing.{AreGone, IsFree};
 ghost use Rattle.folder.specs.Replay.{ReadsAs, StopsReading, is_checkpoint};
 ghost use Rattle.folder.specs.Sound.{Care};
@@ -20,7 +20,7 @@ ghost use Rattle.folder.specs.Standing.{IsNext};
 ghost use Rattle.folder.specs.State.{State, table};
 ghost use Rattle.journal_store.specs.Journals.{generation_of};
 ghost use Rattle.later_states.specs.Later.{IsLater, SparesHeld};
-ghost use Rattle.journal_store.specs.Readings.{generation_file, HaveBodies, LogHasAtMost};
+ghost use Rattle.journal_store.specs.Readings.{generation_file, users_file, HaveBodies, LogHasAtMost};
 ghost use Rattle.planning.specs.Appending.{Append, append_change, file_bytes};
 ghost use Rattle.planning.specs.Recorded.{IsRecordOf};
 ghost use Rattle.folder.specs.Next.{with_rows, AreRowsOf};
@@ -80,6 +80,7 @@ impl FolderSession {
             → IfOk result (λ session. IsInUse (D.view store.new) (folder_of session) g bodies) }
         // Only logs are changed, and files that the folder doesn't name; where the log stays these alone.
         ensures alone { IsTrue D.tells → ChangesLogsOrUnnamed (D.view store.old) (D.view store.new) }
+        ensures users { IsTrue D.tells → LeavesAlone users_file (D.view store.old) (D.view store.new) }
         ensures finished { IsTrue D.tells → IsLoadedAsItIs (D.view store.old).files
             → ChangesUnnamed (D.view store.old) (D.view store.new) }
         // After `Ok` a folder that had a root has only named files, unless a removal failed.

@@ -1,5 +1,5 @@
 -- The next generation is made the one in use.
-use Rattle.std.proofs.Common.{◌≡◌, ◌≢◌, ◌⊎◌, inl, inr, ℕ, ◌+◌, List, [], ◌∷◌, ◌++◌, length, drop, Result, Ok, Err, sym, ap, ◌∙◌, subst, arith}
+use Rattle.std.proofs.Common.{◌≡◌, ◌≢◌, ◌⊎◌, inl, inr, ℕ, ◌+◌, ◌^◌, ◌<◌, List, [], ◌∷◌, ◌++◌, length, drop, Result, Ok, Err, sym, ap, ◌∙◌, subst, arith}
 use Rattle.std.specs.Prelude.{OnOk, OnErr}
 use Rattle.outside_traits.specs.View.{View, Now, Only}
 use Rattle.outside_traits.specs.Calls.{Acts, Gone}
@@ -20,7 +20,10 @@ root_not_log g is = let e : 0 ≡ 4294967296 + g = is in omega (arith, e)
 
 -- ## The next log is made
 
-module _ (u v : View) (journal : Journal) (g next : ℕ) (bodies : List (List ℕ)) (body : List ℕ) (keeps : Keeps u journal g bodies) (is_next : next ≡ g + 1) (making : ChangesOnly (generation_file next) u v) where
+module _ (u v : View) (journal : Journal) (g next : ℕ) (bodies : List (List ℕ)) (body : List ℕ) (keeps : Keeps u journal g bodies) (is_next : next ≡ g + 1) (few : next < 2 ^ 62) (making : ChangesOnly (generation_file next) u v) where
+  few_next : g + 1 < 2 ^ 62
+  few_next = omega (arith, few, is_next)
+
   not_next : generation_file g ≢ generation_file next
   not_next is = let e : 4294967296 + g ≡ 4294967296 + next = is in omega (arith, e, is_next)
 
@@ -36,10 +39,11 @@ module _ (u v : View) (journal : Journal) (g next : ℕ) (bodies : List (List �
   -- meanwhile an image has the former generation
   pub making_next : Spans IsJournalFile (λ image. HaveFormerOrNext image g bodies body) u v
   making_next =
-      spans_of (generation_file next) (λ x. Unit {0}) IsJournalFile (λ image. HaveFormerOrNext image g bodies body) u v making (log_is_journal next)
+      spans_of (generation_file next) (λ x. Unit {0}) IsJournalFile (λ image. HaveFormerOrNext image g bodies body) u v making (log_is_journal next few)
       (λ image any others. inl (inl (record {
         root = keeps.root (image 0) (others 0 (root_not_log next));
         log = keeps.log (image (generation_file g)) (others (generation_file g) not_next);
+        few = keeps.few;
       })))
 
   -- and the root stands as it did
@@ -66,10 +70,12 @@ module _ (u v : View) (journal : Journal) (g next : ℕ) (bodies : List (List �
         | inl before ↦ inl (inl (record {
           root = subst (λ f. Reads (generations g) (image f)) journal.is_root before;
           log = former_log (image (generation_file g)) (others (generation_file g) (not_root g));
+          few = keeps.few;
         }))
         | inr after ↦ inr (inl (record {
           root = subst (λ l. Reads l (image 0)) (next_generations number is) (subst (λ f. Reads (generations g ++ number ∷ []) (image f)) journal.is_root after);
           log = next_log log file stands (image (generation_file (g + 1))) (others (generation_file (g + 1)) (not_root (g + 1)));
+          few = few_next;
         }))
       ])
 
@@ -82,6 +88,7 @@ module _ (u v : View) (journal : Journal) (g next : ℕ) (bodies : List (List �
     root = λ x now. subst (λ l. Reads l x) (next_generations number is) (root.outcomes x (subst (λ f. Now w f x) (sym made.is_root) now));
     log = λ x now. next_log made.log (made.is_file ∙ ap generation_file same) stands x
         (naming.others w.moment (generation_file (g + 1)) x naming.time.later (omega arith) (not_root (g + 1)) now);
+    few = few_next;
   }
 
   pub stable_next : (w : View) → ChangesOnly (file_of journal.root) v w → Only (v.files (generation_file next)) (Now v (generation_file next))
@@ -122,10 +129,11 @@ module _ (w z : View) (file g : ℕ) (is_former : file ≡ generation_file g) (r
       → Spans IsJournalFile (λ image. HaveFormerOrNext image g bodies body) w z
   removing_former journal bodies body keeps =
       spans_of file (λ x. Unit {0}) IsJournalFile (λ image. HaveFormerOrNext image g bodies body) w z removing
-      (subst (λ f. IsJournalFile f) (sym is_former) (log_is_journal g))
+      (subst (λ f. IsJournalFile f) (sym is_former) (log_is_journal g (omega (arith, keeps.few))))
       (λ image any others. inr (inl (record {
         root = keeps.root (image 0) (others 0 root_kept);
         log = keeps.log (image (generation_file (g + 1))) (others (generation_file (g + 1)) next_kept);
+        few = keeps.few;
       })))
 
   pub removed_keeps : (journal : Journal) (body : List ℕ) → Keeps w journal (g + 1) (body ∷ []) → Keeps z journal (g + 1) (body ∷ [])
@@ -134,6 +142,7 @@ module _ (w z : View) (file g : ℕ) (is_former : file ≡ generation_file g) (r
     end = keeps.end;
     root = λ x now. keeps.root x (removing.others z.moment 0 x removing.time.later (omega arith) root_kept now);
     log = λ x now. keeps.log x (removing.others z.moment (generation_file (g + 1)) x removing.time.later (omega arith) next_kept now);
+    few = keeps.few;
   }
 
   pub removed_stable : AreStable w (g + 1) → AreStable z (g + 1)

@@ -29,12 +29,12 @@ module _ (u : View) (journal : Journal) (g : ℕ) (bodies : List (List ℕ)) (ke
       → Spans IsJournalFile (λ image. HaveBeforeOrAfter image g bodies body) u v
   committing v body run =
       spans_of (file_of journal.log) (IsBeforeOrAfter bodies body) IsJournalFile (λ image. HaveBeforeOrAfter image g bodies body) u v run
-      (subst (λ f. IsJournalFile f) (sym log_file) (log_is_journal g))
+      (subst (λ f. IsJournalFile f) (sym log_file) (log_is_journal g keeps.few))
       (λ image log others.
       let root = keeps.root (image 0) (others 0 not_root) in
       elim log [
-        | inl before ↦ inl (inl (record { root = root; log = subst (λ f. Reads bodies (image f)) log_file before }))
-        | inr after ↦ inr (inl (record { root = root; log = subst (λ f. Reads (bodies ++ body ∷ []) (image f)) log_file after }))
+        | inl before ↦ inl (inl (record { root = root; log = subst (λ f. Reads bodies (image f)) log_file before; few = keeps.few }))
+        | inr after ↦ inr (inl (record { root = root; log = subst (λ f. Reads (bodies ++ body ∷ []) (image f)) log_file after; few = keeps.few }))
       ])
 
   -- and then it is there
@@ -45,4 +45,5 @@ module _ (u : View) (journal : Journal) (g : ℕ) (bodies : List (List ℕ)) (ke
     end = stands.end;
     root = λ x now. keeps.root x (run.others v.moment 0 x run.time.later (omega arith) not_root now);
     log = λ x now. stands.outcomes x (subst (λ f. Now v f x) (sym (file ∙ log_file)) now);
+    few = keeps.few;
   }

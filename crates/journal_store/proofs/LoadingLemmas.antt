@@ -1,5 +1,5 @@
 -- Loading the journal: an image while it is loaded, and what stops it.
-use Rattle.std.proofs.Common.{◌≡◌, ◌≢◌, inl, inr, ℕ, ◌+◌, ◌<◌, List, [], ◌∷◌, length, Result, Ok, Err, IsErrOf, refl, sym, ap, ◌∙◌, subst, arith}
+use Rattle.std.proofs.Common.{◌≡◌, ◌≢◌, inl, inr, ℕ, ◌+◌, ◌^◌, ◌<◌, List, [], ◌∷◌, length, Result, Ok, Err, IsErrOf, refl, sym, ap, ◌∙◌, subst, arith}
 use Rattle.std.specs.Prelude.{Vec, vec_len, Bool, true, false, ◌==◌, IfOk, OnOk}
 use Rattle.std.specs.declared.alloc.Global.{Global}
 use Rattle.std.proofs.lemmas.Bool.{eqb-true, eqb-false}
@@ -45,6 +45,7 @@ module _ (u v : View) (narrow : Narrows u v) where
   have_before g bodies (inl made) = inl (record {
     root = subst (λ x. Reads (generations g) x) (narrow.same 0) made.root;
     log = subst (λ x. Reads bodies x) (narrow.same (generation_file g)) made.log;
+    few = made.few;
   })
   have_before g bodies (inr unmade) = inr (record {
     root = subst (λ x. IsUnfinished x) (narrow.same 0) unmade.root;
@@ -103,6 +104,7 @@ named_keeps v journal g bodies is none names = record {
   root = names.root;
   log = λ x now. subst (λ (l : List (List ℕ)). Reads l x) (sym none)
       (names.stands.outcomes x (subst (λ f. Now v f x) (sym (journal.is_file ∙ ap generation_file is)) now));
+  few = subst (λ n. n < 2 ^ 62) is journal.in_range;
 }
 
 -- what follows from a result that is Ok

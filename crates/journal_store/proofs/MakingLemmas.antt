@@ -1,8 +1,8 @@
 -- What a crash leaves while the journal is made.
-use Rattle.std.proofs.Common.{◌≡◌, ◌≢◌, inl, inr, ℕ, ◌+◌, ◌≤◌, List, [], ◌∷◌, length, drop, Result, Ok, Err, refl, sym, ap, ◌∙◌, subst, arith}
-use Rattle.std.specs.Prelude.{Bool, ◌==◌, ◌||◌, OnOk}
+use Rattle.std.proofs.Common.{◌≡◌, ◌≢◌, inl, inr, ℕ, ◌+◌, ◌^◌, ◌<◌, ◌≤◌, List, [], ◌∷◌, length, drop, Result, Ok, Err, refl, sym, ap, ◌∙◌, subst, arith}
+use Rattle.std.specs.Prelude.{Bool, true, ◌==◌, ◌||◌, ◌&&◌, nat_le, nat_lt, OnOk}
 use Rattle.std.proofs.lemmas.List.{drop_all}
-use Rattle.std.proofs.lemmas.Bool.{le-leb}
+use Rattle.std.proofs.lemmas.Bool.{le-leb, lt-ltb}
 use Rattle.std.proofs.Math.Bool.{or-true}
 use Rattle.outside_traits.specs.View.{View, Now, Only}
 use Rattle.outside_traits.specs.Runs.{Touches, ChangesOnly, Spans}
@@ -11,13 +11,17 @@ use Rattle.gated_log.specs.Logs.{sealed}
 use Rattle.gated_log.proofs.Crash.{sealed_empty}
 use Rattle.gated_log.specs.Stands.{file_of, Stands}
 use Rattle.gated_log.specs.declared.log.Log.{Log}
-use Rattle.journal_store.specs.Readings.{generation_file, IsJournalFile, IsUnfinished, HaveBodies}
+use Rattle.journal_store.specs.Readings.{generation_file, users_file, IsJournalFile, IsUnfinished, HaveBodies}
 
 pub root_is_journal : IsJournalFile 0
 root_is_journal = refl
 
-pub log_is_journal : (g : ℕ) → IsJournalFile (generation_file g)
-log_is_journal g = ap (λ (b : Bool). (4294967296 + g == 0) || b) (le-leb 4294967296 (4294967296 + g) (omega arith)) ∙ or-true (4294967296 + g == 0)
+pub log_is_journal : (g : ℕ) → g < 2 ^ 62 → IsJournalFile (generation_file g)
+log_is_journal g few =
+    let low : nat_le 4294967296 (4294967296 + g) ≡ true = le-leb 4294967296 (4294967296 + g) (omega arith) in
+    let high : nat_lt (4294967296 + g) users_file ≡ true = lt-ltb (4294967296 + g) users_file (omega (arith, few)) in
+    ap (λ (b : Bool). (4294967296 + g == 0) || (b && nat_lt (4294967296 + g) users_file)) low
+    ∙ ap (λ (b : Bool). (4294967296 + g == 0) || b) high ∙ or-true (4294967296 + g == 0)
 
 -- what a crash leaves of a file is as it reads, also after a run on another
 pub only_beside : (file g : ℕ) (P : List ℕ → Type 0) (u v : View) → g ≢ file → Touches file P u v → Only (u.files g) (Now u g) → Only (v.files g) (Now v g)
@@ -37,7 +41,7 @@ short_beside file P u v other run short x now = short x (run.others v.moment 0 x
 -- generation 0 is made while the root is unfinished
 pub making_log : (u v : View) → ((x : List ℕ) → Now u 0 x → IsUnfinished x) → Touches (generation_file 0) (λ x. Unit {0}) u v → Spans IsJournalFile (λ image. HaveBodies image 0 []) u v
 making_log u v unfinished run =
-    spans_of (generation_file 0) (λ x. Unit {0}) IsJournalFile (λ image. HaveBodies image 0 []) u v run (log_is_journal 0)
+    spans_of (generation_file 0) (λ x. Unit {0}) IsJournalFile (λ image. HaveBodies image 0 []) u v run (log_is_journal 0 (omega arith))
     (λ image any others. inr (record { root = unfinished (image 0) (others 0 (λ is. cc)); first = refl; none = refl }))
 
 -- the root is made

@@ -1,5 +1,5 @@
 -- How a journal stands to its files, and what a crash may leave of them.
-use Rattle.std.specs.Prelude.{◌≡◌, ◌⊎◌, ℕ, ◌+◌, Bool, List, [], ◌∷◌, ◌++◌, length}
+use Rattle.std.specs.Prelude.{◌≡◌, ◌⊎◌, ℕ, ◌+◌, ◌^◌, ◌<◌, Bool, List, [], ◌∷◌, ◌++◌, length}
 use Rattle.outside_traits.specs.View.{View, Now}
 use Rattle.gated_log.specs.Logs.{front, Reads}
 use Rattle.gated_log.specs.Stands.{end_of as end_of_log}
@@ -24,6 +24,7 @@ pub record Keeps (v : View) (journal : Journal) (generation : ℕ) (bodies : Lis
   pub end : end_of journal ≡ length (front bodies) + 1
   pub root : (x : List ℕ) → Now v 0 x → Reads (generations generation) x
   pub log : (x : List ℕ) → Now v (generation_file generation) x → Reads bodies x
+  pub few : generation < 2 ^ 62
 
 -- an image has the bodies without the new one, or with it
 abbrev pub HaveBeforeOrAfter : (ℕ → List ℕ) → ℕ → List (List ℕ) → List ℕ → Type 0

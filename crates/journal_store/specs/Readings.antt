@@ -1,5 +1,5 @@
 -- What the journal's files read as: the root in file 0, and the log of the generation that it names.
-use Rattle.std.specs.Prelude.{◌≡◌, ◌≢◌, ◌⊎◌, ℕ, zero, suc, ◌+◌, ◌<◌, ◌≤◌, ◌==◌, ◌||◌, nat_le, Bool, IsTrue, List, [], ◌∷◌, ◌++◌, length, take}
+use Rattle.std.specs.Prelude.{◌≡◌, ◌≢◌, ◌⊎◌, ℕ, zero, suc, ◌+◌, ◌<◌, ◌≤◌, ◌==◌, ◌||◌, ◌&&◌, ◌^◌, nat_le, nat_lt, Bool, IsTrue, List, [], ◌∷◌, ◌++◌, length, take}
 use Rattle.std.specs.Int.{w64, to_be_bytes}
 use Rattle.gated_log.specs.Logs.{front, Reads, StopsAt}
 
@@ -7,9 +7,13 @@ use Rattle.gated_log.specs.Logs.{front, Reads, StopsAt}
 abbrev pub generation_file : ℕ → ℕ
 generation_file generation = 4294967296 + generation
 
+-- the file that is kept for the users; the logs of generations end before it
+abbrev pub users_file : ℕ
+users_file = 9223372036854775808
+
 -- the root, or the log of a generation
 abbrev pub is_journal_file : ℕ → Bool
-is_journal_file file = (file == 0) || nat_le 4294967296 file
+is_journal_file file = (file == 0) || (nat_le 4294967296 file && nat_lt file users_file)
 
 abbrev pub IsJournalFile : ℕ → Type 0
 IsJournalFile file = IsTrue (is_journal_file file)
@@ -39,6 +43,7 @@ IsUnfinished root = (length root ≤ 9) ⊎ Reads [] root
 pub record IsMade (files : ℕ → List ℕ) (generation : ℕ) (bodies : List (List ℕ)) : Type 0 where
   pub root : Reads (generations generation) (files 0)
   pub log : Reads bodies (files (generation_file generation))
+  pub few : generation < 2 ^ 62
 
 -- The root names none yet: then generation 0 is in use, and has no body.
 pub record IsUnmade (files : ℕ → List ℕ) (generation : ℕ) (bodies : List (List ℕ)) : Type 0 where

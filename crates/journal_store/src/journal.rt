@@ -28,6 +28,9 @@ use gated_log::Log;
 use outside_traits::{Failed, Store};
 use std::alloc::Global;
 
+/// The file that is kept for the users. The logs of generations end before it, and a journal never touches it.
+pub const USERS_FILE: u64 = 9_223_372_036_854_775_808;
+
 /// The generation in use, the root that names it, and its log.
 #[derive(Drop)]
 pub struct Journal {
@@ -36,7 +39,7 @@ pub struct Journal {
     had_root: bool,
     root: Log,
     log: Log,
-    ghost in_range: { generation < 2 ^ 63 },
+    ghost in_range: { generation < 2 ^ 62 },
     ghost is_root: { file_of root ≡ 0 },
     ghost root_end: { end_of_log root ≡ 13 * (generation + 1) + 9 },
     ghost is_file: { file_of log ≡ generation_file generation },

@@ -7,6 +7,6 @@ pub mod making;
 pub mod refusal;
 pub mod root;
 
-pub use journal::Journal;
+pub use journal::{Journal, USERS_FILE};
 pub use refusal::JournalRefusal;
 pub use root::one_journal;

@@ -170,7 +170,7 @@ module _ (folder : Folder) (s : State) (valid : IsValid s) (same : table_in fold
 
   not_written : of_folder.IsWritten folder file → ⊥
   not_written (inl log) = not_the_log log
-  not_written (inr above) = omega (arith, free_here.given.1, above)
+  not_written (inr above) = omega (arith, free_here.given.1, above.0)
 
   not_changed : (c : Command) → of_folder.MayChange folder c file → ⊥
   not_changed (command.Stream name columns) may = not_the_log may

@@ -8,11 +8,11 @@ ghost use Rattle.outside_traits.specs.Runs.{Narrows};
 ghost use Rattle.folder.specs.Folders.{table_in, FolderStands};
 ghost use Rattle.folder.specs.InUse.{IsInUse, IsLoadedAsItIs};
 ghost use Rattle.folder.specs.Unnamed.{HasRoot, HasOnlyNamed, ChangesUnnamed, ChangesLogsOrUnnamed};
-ghost use Rattle.folder.specs.Left.{IsLeft, IsLeftWith, Since};
+ghost use Rattle.folder.specs.Left.{IsLeft, IsLeftWith, LeavesAlone, Since};
 ghost use Rattle.folder.specs.Replay.{ReadsAs, StopsReading};
 ghost use Rattle.folder.specs.Sound.{Care};
 ghost use Rattle.folder.specs.State.{State};
-ghost use Rattle.journal_store.specs.Readings.{generation_file, HaveBodies, LogHasAtMost};
+ghost use Rattle.journal_store.specs.Readings.{generation_file, users_file, HaveBodies, LogHasAtMost};
 ghost use Rattle.script_text.specs.Answer.{IsNarrow};
 ghost use Rattle.script_text.specs.Script.{IsWhole};
 ghost use Rattle.script_text.specs.declared.answer.Refusal.{Refusal};
@@ -72,6 +72,7 @@ impl Session {
             → IfOk result (λ session. IsInUse (D.view store.new) (folder_of session) g bodies) }
         // Only logs are changed, and files that the folder doesn't name; where the log stays these alone.
         ensures alone { IsTrue D.tells → ChangesLogsOrUnnamed (D.view store.old) (D.view store.new) }
+        ensures users { IsTrue D.tells → LeavesAlone users_file (D.view store.old) (D.view store.new) }
         ensures finished { IsTrue D.tells → IsLoadedAsItIs (D.view store.old).files
             → ChangesUnnamed (D.view store.old) (D.view store.new) }
         // After `Ok` a folder that had a root has only named files, unless a removal failed.

@@ -5,6 +5,7 @@ use Rattle.folder.proofs.NextStates.{valid-empty}
 use Rattle.folder.proofs.Frames.{sound_same}
 use Rattle.folder.proofs.Crash.{left_of_means, since_then_stays}
 use Rattle.folder.proofs.Loading.{empty_names_none}
+use Rattle.folder.proofs.Writing.{users_mean, users_keep}
 use Rattle.folder.proofs.Narrowing.{left_narrowed, since_narrowed, means_narrowed, stands_narrowed}
 use Rattle.folder.proofs.laws.left_stores.Goals as goal
 
@@ -17,14 +18,14 @@ empty_sound care image none = record {
 
 pub returns-clause-new : goal.returns-clause-new
 returns-clause-new g c = λ care store none. record {
-  near = inl refl;
+  apart = inl refl;
   read = empty_sound care _ (none 0 _ (g.met.D.Store.reads_outcome store 0));
   images = λ image is. inl (empty_sound care image (none 0 (image 0) (is 0)));
 }
 
 pub returns-clause-begun : goal.returns-clause-begun
 returns-clause-begun g c = λ care store s only sound. record {
-  near = inl refl;
+  apart = inl refl;
   read = sound;
   images = λ image is. inl (sound_same care _ image s sound (λ file speaks. only file (image file) (is file)));
 }
@@ -46,3 +47,7 @@ returns-clause-means g c = λ care before then t journal s narrow means. means_n
 
 pub returns-clause-stands : goal.returns-clause-stands
 returns-clause-stands g c = λ before then t journal narrow stands. stands_narrowed _ _ narrow t journal stands
+
+pub returns-clause-beside : goal.returns-clause-beside
+returns-clause-beside g c = λ care before then t journal s means run.
+    (users_mean care _ _ t journal s (g.met.D.Store.reads_outcome before) means run, users_keep care _ _ t journal s (g.met.D.Store.reads_outcome before) means run)

@@ -8,17 +8,20 @@ use Rattle.folder.proofs.Freed.{gone_before, freed_alone, freed_finished, freed_
 use Rattle.folder.proofs.Going.{err_same}
 use Rattle.folder.proofs.Loading.{reads_or_stops, stop_once}
 use Rattle.folder.proofs.LoadLemmas.{taken_of}
-use Rattle.folder.proofs.UnnamedFiles.{logs_or_unnamed, strays_mean, strays_stand, strays_use, unnamed_narrowed}
+use Rattle.folder.proofs.UnnamedFiles.{logs_or_unnamed, users_alone, strays_mean, strays_stand, strays_use, unnamed_narrowed}
 use Rattle.folder.proofs.folder.Folder.load.Goals as goal
 
 -- ---- the logs weren't loaded
 
 pub returns-in-Err-clause-left : goal.returns-in-Err-clause-left
 returns-in-Err-clause-left g c = λ told care a b left.
-    left_of_since care (g.D.Store.view c.args.store.now) (g.D.Store.view c.load_logs.new.store) a b left.near (g.met.D.Store.reads_outcome c.load_logs.new.store) (c.load_logs.ensures.crash told care a b left)
+    left_of_since care (g.D.Store.view c.args.store.now) (g.D.Store.view c.load_logs.new.store) a b left.apart (g.met.D.Store.reads_outcome c.load_logs.new.store) (c.load_logs.ensures.crash told care a b left)
 
 pub returns-in-Err-clause-alone : goal.returns-in-Err-clause-alone
 returns-in-Err-clause-alone g c = λ told. logs_or_unnamed _ _ (c.load_logs.ensures.alone told)
+
+pub returns-in-Err-clause-users : goal.returns-in-Err-clause-users
+returns-in-Err-clause-users g c = λ told. users_alone _ _ (returns-in-Err-clause-alone g c told)
 
 pub returns-in-Err-clause-finished : goal.returns-in-Err-clause-finished
 returns-in-Err-clause-finished g c = λ told as_it_is. unnamed_narrowed _ _ (c.load_logs.ensures.finished told as_it_is)
@@ -63,6 +66,9 @@ returns-in-Err-free_unnamed-clause-alone g c = λ told.
     freed_alone (g.D.Store.view c.args.store.now) (g.D.Store.view c.load_logs.new.store) (g.D.Store.view c.free_unnamed.new.store) c.in-Ok.folder c.free_unnamed.ensures.alone
     (c.in-Ok.ensures.had_root told) (c.in-Ok.ensures.reading told) (c.load_logs.ensures.alone told) (λ none. (c.free_unnamed.ensures.had_none none).0)
 
+pub returns-in-Err-free_unnamed-clause-users : goal.returns-in-Err-free_unnamed-clause-users
+returns-in-Err-free_unnamed-clause-users g c = λ told. users_alone _ _ (returns-in-Err-free_unnamed-clause-alone g c told)
+
 pub returns-in-Err-free_unnamed-clause-finished : goal.returns-in-Err-free_unnamed-clause-finished
 returns-in-Err-free_unnamed-clause-finished g c = λ told as_it_is.
     let reading = c.in-Ok.ensures.reading told in
@@ -98,6 +104,9 @@ pub returns-in-Ok-free_unnamed-clause-alone : goal.returns-in-Ok-free_unnamed-cl
 returns-in-Ok-free_unnamed-clause-alone g c = λ told.
     freed_alone (g.D.Store.view c.args.store.now) (g.D.Store.view c.load_logs.new.store) (g.D.Store.view c.free_unnamed.new.store) c.in-Ok.folder c.free_unnamed.ensures.alone
     (c.in-Ok.ensures.had_root told) (c.in-Ok.ensures.reading told) (c.load_logs.ensures.alone told) (λ none. (c.free_unnamed.ensures.had_none none).0)
+
+pub returns-in-Ok-free_unnamed-clause-users : goal.returns-in-Ok-free_unnamed-clause-users
+returns-in-Ok-free_unnamed-clause-users g c = λ told. users_alone _ _ (returns-in-Ok-free_unnamed-clause-alone g c told)
 
 pub returns-in-Ok-free_unnamed-clause-finished : goal.returns-in-Ok-free_unnamed-clause-finished
 returns-in-Ok-free_unnamed-clause-finished g c = λ told as_it_is.

@@ -1,5 +1,5 @@
 use Rattle.catalog_core.specs.Catalogs.{table_of}
-use Rattle.folder.proofs.Recording.{body_of, near_next, record_since, record_means, record_stands}
+use Rattle.folder.proofs.Recording.{body_of, apart_next, record_since, record_means, record_stands}
 use Rattle.folder.proofs.Crash.{left_of_since}
 use Rattle.folder.proofs.folder.Folder.record.Goals as goal
 
@@ -26,6 +26,6 @@ returns-in-Ok-clause-stands g c = λ told stands.
 
 pub returns-in-Err-clause-left : goal.returns-in-Err-clause-left
 returns-in-Err-clause-left g c = λ told care s s' means next.
-    left_of_since care (g.D.Store.view c.args.store.now) (g.D.Store.view c.commit.new.store) s s' (near_next care (g.D.Store.view c.args.store.now) s s' c.args.change next) (g.met.D.Store.reads_outcome c.commit.new.store)
+    left_of_since care (g.D.Store.view c.args.store.now) (g.D.Store.view c.commit.new.store) s s' (apart_next care (g.D.Store.view c.args.store.now) s s' c.args.change next) (g.met.D.Store.reads_outcome c.commit.new.store)
     (record_since care (g.D.Store.view c.args.store.now) (g.D.Store.view c.commit.new.store) _ _ s s' c.args.change c.args.body.now (g.met.D.Store.reads_outcome c.args.store.now) means next
     (body_of c.args.change c.args.body.now c.requires.no_checkpoint c.requires.spelled c.requires.body) (c.commit.ensures.crash told))

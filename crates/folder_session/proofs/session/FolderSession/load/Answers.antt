@@ -47,3 +47,9 @@ returns-in-Ok-clause-no_fault g c = c.in-Ok.ensures.no_fault
 
 pub returns-in-Ok-clause-generation : goal.returns-in-Ok-clause-generation
 returns-in-Ok-clause-generation g c = c.in-Ok.ensures.generation
+
+pub returns-in-Ok-clause-users : goal.returns-in-Ok-clause-users
+returns-in-Ok-clause-users g c = c.load.ensures.users
+
+pub returns-in-Err-clause-users : goal.returns-in-Err-clause-users
+returns-in-Err-clause-users g c = c.load.ensures.users

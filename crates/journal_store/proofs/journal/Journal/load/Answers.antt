@@ -69,6 +69,7 @@ returns-clause-taken g c = λ told.
     let of_log = taken (record {
       root = subst (λ x. Reads (generations (generation_of r.0)) x) (sym (same 0)) made.root;
       log = subst (λ x. Reads (contents r.1.items) x) (sym (same (generation_file (generation_of r.0)))) made.log;
+      few = made.few;
     }) in
     of_log ∙ ap (λ (n : ℕ). min n (2 ^ 64 - 1)) (omega (arith, c.root_is_short.ensures.taken, ap length (same 0), ap length (same (generation_file (generation_of r.0))))))
     (c.load_long.ensures.taken told)

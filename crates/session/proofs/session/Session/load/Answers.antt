@@ -17,3 +17,9 @@ returns-in-Err-clause-not_a_store g c = λ told file at is. c.in-Err.ensures.not
 
 pub returns-in-Err-clause-only : goal.returns-in-Err-clause-only
 returns-in-Err-clause-only g c = λ told file at stops. same_only {T = FolderSession} {U = Session} c.in-Err.refusal file at (c.in-Err.ensures.only told file at stops)
+
+pub returns-in-Ok-clause-users : goal.returns-in-Ok-clause-users
+returns-in-Ok-clause-users g c = c.load.ensures.users
+
+pub returns-in-Err-clause-users : goal.returns-in-Err-clause-users
+returns-in-Err-clause-users g c = c.load.ensures.users
