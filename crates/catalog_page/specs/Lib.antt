@@ -1,0 +1,11 @@
+pub mod Escape
+pub mod Fragments
+pub mod Keys
+pub mod Markup
+pub mod Order
+pub mod Page
+pub mod Plain
+pub mod ProgramKeys
+pub mod Tells
+pub mod Told
+pub mod WholePage
