@@ -5,7 +5,7 @@ ghost use Rattle.cases_executor.specs.Filed.{extents_at, kept_at, file_of, HasFi
 use crate::given::Case;
 use anyhow::{Context, Result, bail};
 use executor::KeptPlace;
-use extent_files::write_file;
+use extent_files::{digest_of, write_file};
 use mem_outside::MemStore;
 use plan_core::Schemas;
 use postfix_plans::{ExtentLens, ListedResult, ResultList};
@@ -91,11 +91,11 @@ impl Disk {
         let bytes = encode(alloc, kept)?;
         let file = self.next;
         self.next = file.checked_add(1).context("too many files")?;
-        let digest = write_file(&mut self.store, file, &bytes)?;
+        write_file(&mut self.store, file, &bytes)?;
         Ok(FileRef {
             file,
             len: bytes.len() as u64,
-            digest,
+            digest: digest_of(&bytes),
         })
     }
 }

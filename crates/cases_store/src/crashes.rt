@@ -10,7 +10,7 @@ ghost use Rattle.gated_log.specs.Logs.{IsBody, Reads, contents};
 ghost use Rattle.mem_outside.specs.Outcomes.{left_of, state_in};
 ghost use Rattle.cases_store.specs.Counting.{none};
 
-use extent_files::{FileRefusal, read_file, write_file};
+use extent_files::{FileRefusal, digest_of, read_file, write_file};
 use gated_log::{Log, LogRefusal, one_reading};
 use mem_outside::MemStore;
 use mem_outside::store::InMemory;
@@ -75,7 +75,8 @@ pub fn file_after_a_crash(
     ensures alone { ChangesOnly file (⟦<MemStore as Store>⟧.view store.old)
         (⟦<MemStore as Store>⟧.view store.new) }
 {
-    let digest = write_file(store, file, bytes)?;
+    write_file(store, file, bytes)?;
+    let digest = digest_of(bytes);
     let at = FileRef {
         file,
         len: bytes.len() as u64,

@@ -2,28 +2,27 @@
 
 use crate::words;
 use anyhow::{Context, Result};
-use extent_files::{FileRefusal, drop_file, read_file, write_file};
+use extent_files::{FileRefusal, digest_of, drop_file, read_file, write_file};
 use mem_outside::MemStore;
 use outside_traits::Store;
 use rows_core::{Digest, FileRef};
 use std::alloc::Global;
 
-/// The digest of the bytes that are written as a file.
-pub fn digest(alloc: Global, store: &mut MemStore, arguments: &str) -> Result<String> {
+/// The digest of the bytes.
+pub fn digest(alloc: Global, arguments: &str) -> Result<String> {
     let bytes = words::bytes(alloc, arguments)?;
-    let digest = write_file(store, 3, &bytes)?;
-    words::shown(alloc, &digest.bytes)
+    words::shown(alloc, &digest_of(&bytes).bytes)
 }
 
 /// The first `LEN` bytes of a file, read against the digest of all.
 pub fn front(alloc: Global, store: &mut MemStore, arguments: &str) -> Result<String> {
     let (len, bytes) = words::first(arguments);
     let bytes = words::bytes(alloc, bytes)?;
-    let digest = write_file(store, 3, &bytes)?;
+    write_file(store, 3, &bytes)?;
     let at = FileRef {
         file: 3,
         len: words::number(len)?,
-        digest,
+        digest: digest_of(&bytes),
     };
     read_shown(alloc, store, &at)
 }

@@ -39,7 +39,7 @@ fn answer_over(alloc: Global, store: &mut MemStore, case: &str) -> Result<String
         "journal_stop" => journals::stop(alloc, store, arguments),
         "checkpoint" => journals::checkpoint(alloc, store, arguments),
         "checkpoint_stop" => journals::checkpoint_stop(alloc, store, arguments),
-        "digest" => files::digest(alloc, store, arguments),
+        "digest" => files::digest(alloc, arguments),
         "front" => files::front(alloc, store, arguments),
         "dropped" => files::dropped(alloc, store, arguments),
         "write" => files::write(alloc, store, arguments),

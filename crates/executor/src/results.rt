@@ -68,6 +68,7 @@ pub fn evaluate_recording(
         → HoldAll extents results (pieces_of (rewriting_of rewriting.now)) pieces.items
         → OnOk result (AreRecorded extents results (recorded_below (rewriting_of rewriting.now))
         found.old.items found.new.items) }
+    ensures behind { OnOk result ((below : List MadePlace) × (found.new.items ≡ found.old.items ++ below)) }
     ensures refused { OnErr result (found.new.items ≡ found.old.items) }
 {
     let mut recording = Recording::On(Vec::new(alloc));

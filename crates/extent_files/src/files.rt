@@ -11,14 +11,13 @@ ghost use Rattle.extent_files.specs.Files.{digest_of, HasCause, FoundIn};
 use crate::digest::digest_of;
 use crate::refusal::FileRefusal;
 use outside_traits::{Failed, Store, read_front};
-use rows_core::{Digest, FileRef};
+use rows_core::FileRef;
 use std::alloc::Global;
 
 /// Writes these bytes as the whole file and makes it stable: after `Ok` each crash leaves it so. `Failed`
 /// comes only where the store failed in a write, cut or sync, and says nothing of the file. It takes no
 /// memory.
-pub fn write_file<D: Store>(store: &mut D, file: u64, bytes: &[u8]) -> Result<Digest, Failed>
-    ensures digest { IfOk result (λ digest. digest ≡ digest_of bytes.now) }
+pub fn write_file<D: Store>(store: &mut D, file: u64, bytes: &[u8]) -> Result<(), Failed>
     ensures written { IsTrue D.tells → OnOk result ((D.view store.new).files file ≡ bytes.now) }
     ensures there { IsTrue D.tells → OnOk result ((D.view store.new).there file ≡ true) }
     ensures stable { IsTrue D.tells → OnOk result (Only bytes.now (Now (D.view store.new) file)) }
@@ -32,7 +31,7 @@ pub fn write_file<D: Store>(store: &mut D, file: u64, bytes: &[u8]) -> Result<Di
     store.cut(file, 0)?;
     store.write(file, 0, bytes)?;
     store.sync(file)?;
-    Ok(digest_of(bytes))
+    Ok(())
 }
 
 /// Removes the file. `Failed` comes only where the store failed in a remove, and the file is then there or

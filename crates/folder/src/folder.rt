@@ -196,10 +196,7 @@ impl Folder {
         ensures counts { MayRaiseWrites (D.counts store.old) (D.counts store.new) }
     {
         let file = self.catalog.next_file() + ahead;
-        match write_file(store, file, bytes) {
-            Ok(_) => Ok(()),
-            Err(Failed) => Err(Failed),
-        }
+        write_file(store, file, bytes)
     }
 
     /// Records a change for which the folder was prepared. Each crash since leaves the state as it was or the

@@ -17,6 +17,7 @@ ghost use Rattle.folder_session.specs.WorkRefusals.{collection_refusal};
 
 use crate::refusals::collection_refusal;
 use crate::session::FolderSession;
+use catalog_core::know_table;
 use folder::{files_that_went, next_states};
 use outside_traits::{Failed, Store};
 use planning::{CollectionPlan, Recording, plan_collection};
@@ -109,8 +110,7 @@ impl FolderSession {
             files,
             bytes,
         } = plan;
-        // The readers of a table say that it is one.
-        let _ = self.folder.catalog().streams();
+        know_table(self.folder.catalog());
         let answer = Answer::Evicted {
             ids: Seq::new(ids),
             bytes,

@@ -20,7 +20,7 @@ ghost use Rattle.folder_session.specs.Working.{EndsInTurns, IsFoundFor};
 
 use crate::choosing::{NormalChoice, chosen};
 use crate::refusals::refusal_of;
-use catalog_core::Catalog;
+use catalog_core::{Catalog, know_table};
 use outside_traits::Store;
 use plan_choice::{results_are_left_out, serving_rewritings, taken_rewritings};
 use plan_core::Typed;
@@ -63,8 +63,7 @@ pub(crate) fn read_in_turns<D: Store>(
     taken_rewritings();
     serving_rewritings();
     results_are_left_out();
-    // The readers of a table say that it is one.
-    let _ = catalog.streams();
+    know_table(catalog);
     let Ok(taken) = chosen(alloc, catalog, typed, cuts) else {
         return Err(Refusal::Memory);
     };

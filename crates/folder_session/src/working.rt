@@ -31,7 +31,7 @@ ghost use Rattle.folder_session.specs.Working.{IsPlannedOver, IsWorkedOff, answe
 use crate::session::FolderSession;
 use crate::turning::read_in_turns;
 use crate::wanting::Wanted;
-use catalog_core::files_of_tables;
+use catalog_core::{files_of_tables, know_table};
 use folder::{left_stores, next_states};
 use outside_traits::{Failed, Store};
 use planning::Recording;
@@ -138,8 +138,7 @@ impl FolderSession {
         next_states::<D>();
         left_stores::<D>();
         files_of_tables();
-        // The readers of a table say that it is one.
-        let _ = self.folder.catalog().streams();
+        know_table(self.folder.catalog());
         let Work {
             rows,
             used,

@@ -16,7 +16,7 @@ ghost use Rattle.planning.specs.Recorded.{IsRecordOf};
 
 use crate::accepting::{Accepted, accept_append};
 use crate::recording::{Recording, recording_of};
-use catalog_core::Catalog;
+use catalog_core::{Catalog, know_table};
 use catalog_types::{Change, Extent};
 use extent_files::digest_of;
 use row_blob::{Kept, encode};
@@ -55,8 +55,7 @@ pub fn plan_append(
         IsAppending (table_of catalog.now) name lines (Err why) ⊎ (why ≡ Refusal.Memory)) }
     ensures no_fault { IsErrOf result Refusal.Fault → ⊥ }
 {
-    // The columns and counts of the streams are within their limits, which their type says.
-    let _ = catalog.streams();
+    know_table(catalog);
     let accepted = accept_append(alloc, catalog, name, lines.items())?;
     record_append(alloc, catalog, accepted)
 }
@@ -126,8 +125,7 @@ fn append_change(catalog: &Catalog, place: usize, extent: Extent) -> Change
     ensures change { result ≡ change.Append place extent }
     ensures spelled { HasChangeSpelling result }
 {
-    // There are 1,024 streams at most.
-    let _ = catalog.streams();
+    know_table(catalog);
     Change::Append {
         stream: place as u32,
         extent,

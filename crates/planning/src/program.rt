@@ -10,7 +10,7 @@ ghost use Rattle.script_text.specs.declared.answer.Refusal.TheVariants.{Limit};
 ghost use Rattle.planning.specs.Running.{Run, storing, whole_cut};
 
 use crate::extents::extents_at;
-use catalog_core::{Catalog, CatalogStream, is_below};
+use catalog_core::{Catalog, CatalogStream, is_below, know_table};
 use catalog_types::Program;
 use plan_text::{NamedPlan, print_plan};
 use rows_core::limits::MAX_TICKS;
@@ -92,8 +92,7 @@ pub(crate) fn limit_of_program(catalog: &Catalog, program: &Program) -> Option<L
     if is_long(program) {
         return Some(LimitKind::PlanText);
     }
-    // The readers of a table say that it has few programs.
-    let _ = catalog.streams();
+    know_table(catalog);
     let programs = catalog.programs();
     if count_below(programs, &program.name) + count_above(programs, &program.name) >= MAX_PROGRAMS {
         return Some(LimitKind::Programs);

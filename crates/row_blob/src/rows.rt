@@ -33,7 +33,7 @@ pub fn value_at(alloc: Global, kind: Kind, bytes: &[u8]) -> Result<(Value, &[u8]
 pub fn row_at<'a>(alloc: Global, kinds: &[Kind], bytes: &'a [u8]) -> Result<(Row, &'a [u8]), Unread>
     ensures { Gives (λ x. (x.0, x.1.now)) result (row_at kinds.now bytes.now) }
 {
-    let mut values = Vec::new(alloc);
+    let mut values = Vec::with_capacity(alloc, kinds.len())?;
     let mut rest = bytes;
     for kind in kinds {
         let (value, after) = value_at(alloc, *kind, rest)?;

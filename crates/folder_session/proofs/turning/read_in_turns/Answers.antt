@@ -47,7 +47,7 @@ returns-clause-err g c = λ told care s left means program.
     let first = c.in-Ok.ensures.of_form (target_at c.args.typed c.args.cuts.now) c.requires in
     let is = c.in-Err.ensures.err told care s plan left means first in
     let cause = c.in-Err.ensures.cause plan first in
-    let extent = of_extent_of c.serving_rewritings.ensures.there c.taken_rewritings.ensures.serves c.results_are_left_out.ensures.table t c.streams.ensures.table plan c.in-Ok.taken.normal.plan c.args.cuts.now c.requires.are_cuts cause.rewriting cause.after why cause.of_extent in
+    let extent = of_extent_of c.serving_rewritings.ensures.there c.taken_rewritings.ensures.serves c.results_are_left_out.ensures.table t c.know_table.ensures plan c.in-Ok.taken.normal.plan c.args.cuts.now c.requires.are_cuts cause.rewriting cause.after why cause.of_extent in
     subst (λ (w : Refusal). WorkStep care s program plan c.args.cuts.now (answer.Refused w) s) (sym c.refusal_of.ensures)
     (refused_work care s program plan c.args.cuts.now why is (subst (λ (x : Table). IsOfExtent x (refusal_of why)) means extent))
 

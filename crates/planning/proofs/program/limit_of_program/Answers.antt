@@ -7,5 +7,5 @@ pub overflow_add-count_below : goal.overflow_add-count_below
 overflow_add-count_below c =
     let few = few_on_each_side c.programs-programs.result.now c.args.program.now.name in
     let all = ap length c.programs-programs.ensures in
-    let most = c.streams.ensures.table.few_programs in
+    let most = c.know_table.ensures.few_programs in
     grind (arith, common_steps, few, all, most, c.count_below.ensures, c.count_above.ensures)

@@ -21,7 +21,7 @@ record_and_remove-requires-clause-no_checkpoint g c = collection_no_checkpoint (
 pub record_and_remove-requires-clause-free : goal.record_and_remove-requires-clause-free
 record_and_remove-requires-clause-free g c =
     let planned = c.requires.planned in
-    let is_table = subst IsTable (ap table_of c.catalog.ensures) c.streams.ensures.table in
+    let is_table = subst IsTable (ap table_of c.catalog.ensures) c.know_table.ensures in
     subst (All (IsFree (after c.args.plan.change (table_in (folder_of c.args.self))))) (sym c.deref.ensures.value)
     (files_free c.files_that_went.ensures (table_in (folder_of c.args.self)) is_table planned.0 planned.1 c.args.plan planned.2)
 
@@ -37,14 +37,14 @@ returns-clause-err g c = λ told care s stands.
 
 pub returns-clause-alone : goal.returns-clause-alone
 returns-clause-alone g c = λ wanted.
-    changes_collected (table_in (folder_of c.args.self)) c.requires.planned.0 c.requires.planned.1 c.args.plan (subst IsTable (ap table_of c.catalog.ensures) c.streams.ensures.table) c.requires.planned.2 (folder_of c.args.self) refl
+    changes_collected (table_in (folder_of c.args.self)) c.requires.planned.0 c.requires.planned.1 c.args.plan (subst IsTable (ap table_of c.catalog.ensures) c.know_table.ensures) c.requires.planned.2 (folder_of c.args.self) refl
     (g.D.Store.view c.args.store.now) (g.D.Store.view c.record_and_remove.new.store) wanted
     (subst (λ (files : List ℕ). RecordsAndRemoves (folder_of c.args.self) files (g.D.Store.view c.args.store.now) (g.D.Store.view c.record_and_remove.new.store)) c.deref.ensures.value c.record_and_remove.ensures.alone)
 
 pub returns-clause-gone : goal.returns-clause-gone
 returns-clause-gone g c = λ told.
     let t = table_in (folder_of c.args.self) in
-    gone_told t (after c.args.plan.change t) c.args.plan.files.items (have_files t (subst IsTable (ap table_of c.catalog.ensures) c.streams.ensures.table) c.requires.planned.0 c.requires.planned.1 c.args.plan c.requires.planned.2)
+    gone_told t (after c.args.plan.change t) c.args.plan.files.items (have_files t (subst IsTable (ap table_of c.catalog.ensures) c.know_table.ensures) c.requires.planned.0 c.requires.planned.1 c.args.plan c.requires.planned.2)
     (g.D.Store.view c.record_and_remove.new.store) (g.D.Store.counts c.args.store.now) (g.D.Store.counts c.record_and_remove.new.store) c.record_and_remove.result c.record_and_remove.ensures.table
     (subst (λ (files : List ℕ). OnOk c.record_and_remove.result (Rose (g.D.Store.counts c.args.store.now).removes (g.D.Store.counts c.record_and_remove.new.store).removes ⊎ AreGone (g.D.Store.view c.record_and_remove.new.store) files)) c.deref.ensures.value
     (c.record_and_remove.ensures.gone told))

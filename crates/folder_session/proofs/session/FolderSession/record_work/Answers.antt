@@ -26,7 +26,7 @@ pub write_files-requires : goal.write_files-requires
 write_files-requires g c =
     let planned = c.requires.planned in
     subst (λ (files : List (List ℕ)). (table_in (folder_of c.args.self)).next_file + 0 + length files ≤ 2 ^ 32) (sym c.deref.ensures.value)
-    (numbered (table_in (folder_of c.args.self)) planned.0 c.args.work.used.items planned.1 planned.2 c.args.work.plan planned.3 (subst (λ (t : Table). t.next_file ≤ file_end) (ap table_of c.catalog.ensures) c.streams.ensures.table.last_file))
+    (numbered (table_in (folder_of c.args.self)) planned.0 c.args.work.used.items planned.1 planned.2 c.args.work.plan planned.3 (subst (λ (t : Table). t.next_file ≤ file_end) (ap table_of c.catalog.ensures) c.know_table.ensures.last_file))
 
 pub record_and_remove-requires-clause-record : goal.record_and_remove-requires-clause-record
 record_and_remove-requires-clause-record g c = let planned = c.requires.planned in recorded (table_in (folder_of c.args.self)) planned.0 c.args.work.used.items planned.1 planned.2 c.args.work.plan planned.3
@@ -40,7 +40,7 @@ record_and_remove-requires-clause-free g c =
     let planned = c.requires.planned in
     let used = c.args.work.used.items in
     let laws : FilesOfTables = record { given = c.files_of_tables.ensures.given; own = c.files_of_tables.ensures.own; apart = c.files_of_tables.ensures.apart } in
-    let is_table = subst IsTable (ap table_of c.catalog.ensures) c.streams.ensures.table in
+    let is_table = subst IsTable (ap table_of c.catalog.ensures) c.know_table.ensures in
     let next = (work_fits t planned.0 used planned.1 planned.2 c.args.work.plan planned.3).results.results.kept.files in
     subst (λ (files : List ℕ). All (IsFree (after c.args.work.plan.change t)) files) (sym planned.4)
     (subst (λ (x : Change). All (IsFree (after x t)) (files_among planned.1 t.entries)) (sym planned.3.change)
