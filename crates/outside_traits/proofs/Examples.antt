@@ -1,6 +1,10 @@
 -- The definitions at work, on small files.
-use Rattle.std.proofs.Common.{◌≡◌, [], ◌∷◌, refl, lit≤}
+use Rattle.std.proofs.Common.{◌≡◌, ℕ, [], ◌∷◌, refl, lit≤, arith}
+use Rattle.std.specs.List.{IsDistinct}
+use Rattle.std.proofs.lemmas.List.Elements.{All-from_recursion}
 use Rattle.outside_traits.specs.Calls.{overlaid, Torn, Shortened}
+use Rattle.outside_traits.specs.Removals.{IsStillThere, AreRemoved}
+use Rattle.outside_traits.specs.View.{Counts, untold}
 
 -- a gap is filled with zero bytes
 behind_a_gap : overlaid (1 ∷ 2 ∷ []) 4 (9 ∷ []) ≡ 1 ∷ 2 ∷ 0 ∷ 0 ∷ 9 ∷ []
@@ -29,3 +33,14 @@ cut_to_nothing = record { front = refl; no_shorter = lit≤ tt; no_longer = lit�
 
 cut_keeps_the_front : Shortened 1 (1 ∷ 2 ∷ 3 ∷ []) (9 ∷ 2 ∷ []) → ⊥
 cut_keeps_the_front cut = let front = cut.front in cc
+
+-- two files don't stay after one removal that failed
+abbrev failed_removals : ℕ → Counts
+failed_removals n = record { reads = 0; writes = 0; removes = n; taken = 0 }
+
+two_after_one_failure : AreRemoved (λ file. Unit {0}) untold (failed_removals 0) (failed_removals 1) → ⊥
+unfolding IsDistinct
+two_after_one_failure removed =
+    let all = removed (3 ∷ 5 ∷ []) ((refl, tt), (tt, tt))
+    (All-from_recursion (IsStillThere (λ file. Unit {0}) untold) (3 ∷ 5 ∷ []) ((tt, refl), ((tt, refl), tt))) in
+    omega (arith, all)

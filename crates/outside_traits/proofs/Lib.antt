@@ -1,3 +1,4 @@
 mod Examples
 pub mod ByteLemmas
+pub mod RemovalLemmas
 pub mod RunLemmas
