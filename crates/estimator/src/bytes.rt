@@ -1,5 +1,5 @@
 //! The bytes under a plan.
-ghost use Rattle.std.specs.Prelude.{◌≡◌, ◌≤◌, length, take, drop, slice_get, [], ◌∷◌, ◌++◌, ◌+◌};
+ghost use Rattle.std.specs.Prelude.{◌≡◌, ◌≤◌, length, take, drop, slice_get, [], ◌∷◌, ◌++◌, ◌+◌, min};
 ghost use Rattle.plan_core.specs.PlainPlan.{plan_of, leaves, leaf_count};
 ghost use Rattle.estimator.specs.Cuts.{EndAtOrBefore, added_cuts};
 ghost use Rattle.estimator.specs.Bytes.{AreInStreams, leaf_bytes, whole_bytes, new_bytes, IsCutOf, capped};
@@ -77,7 +77,7 @@ impl<'a> Intervals<'a> {
     }
 
     // Those of the leaves of a left input, and those of the right one.
-    #[tactic(auto, using(crate::proofs::Sums::of_sides))]
+    #[tactic(auto, using(crate::proofs::Sums::of_sides, crate::proofs::Leaves::of_sides))]
     fn sides<Z: Sizes>(
         self,
         left: &Plan,
@@ -93,7 +93,7 @@ impl<'a> Intervals<'a> {
             ≡ whole_bytes (Z.lengths _sizes.now) (plan_of left.now) (cuts_of result.0)
             + whole_bytes (Z.lengths _sizes.now) (plan_of _right.now) (cuts_of result.1) }
     {
-        self.split_at(leaf_count(left, self.len()))
+        self.split_at(leaves_within(left, self.len()))
     }
 
     // The first one.
@@ -163,22 +163,22 @@ fn leaf_bytes<Z: Sizes>(stream: u32, intervals: Intervals, sizes: &Z) -> u64
     }
 }
 
-/// The intervals of a left input's leaves, and those behind them.
+/// The intervals of a left input's leaves, and those behind them, as far as there are any.
+#[tactic(auto, using(crate::proofs::Leaves::of_sides))]
 pub fn sides<'a>(left: &Plan, cuts: &'a [Cut]) -> (&'a [Cut], &'a [Cut])
-    requires { leaf_count (plan_of left.now) ≤ length cuts.now }
     ensures lefts { result.0.now ≡ take (leaf_count (plan_of left.now)) cuts.now }
     ensures rights { result.1.now ≡ drop (leaf_count (plan_of left.now)) cuts.now }
 {
-    cuts.split_at(leaf_count(left, cuts.len()))
+    cuts.split_at(leaves_within(left, cuts.len()))
 }
 
-// The number of the plan's leaves, which is at most this.
-fn leaf_count(plan: &Plan, most: usize) -> usize
-    requires { leaf_count (plan_of plan.now) ≤ most }
-    ensures { result ≡ leaf_count (plan_of plan.now) }
+// The number of the plan's leaves, or this if there are more.
+#[tactic(auto, using(crate::proofs::Leaves::of_two_inputs))]
+fn leaves_within(plan: &Plan, most: usize) -> usize
+    ensures { result ≡ min (leaf_count (plan_of plan.now)) most }
 {
     match plan {
-        Plan::Scan { stream: _ } => 1,
+        Plan::Scan { stream: _ } => most.min(1),
         Plan::Filter { child, test: _ }
         | Plan::Project { child, columns: _ }
         | Plan::Distinct { child }
@@ -187,10 +187,10 @@ fn leaf_count(plan: &Plan, most: usize) -> usize
             keys: _,
             aggs: _,
         }
-        | Plan::Order { child, keys: _ } => leaf_count(child, most),
+        | Plan::Order { child, keys: _ } => leaves_within(child, most),
         Plan::Join { left, right, on: _ } | Plan::Concat { left, right } => {
-            let lefts = leaf_count(left, most);
-            lefts + leaf_count(right, most - lefts)
+            let lefts = leaves_within(left, most);
+            lefts + leaves_within(right, most - lefts)
         }
     }
 }

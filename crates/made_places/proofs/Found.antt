@@ -18,7 +18,7 @@ use Rattle.made_places.proofs.MarkedWays.{tree_marks, delta_marks}
 
 -- ---- the tree at the root
 
-cut_decides : (a b : Cut) → Decides ((a.from == b.from) && (a.to == b.to)) (a ≡ b)
+pub cut_decides : (a b : Cut) → Decides ((a.from == b.from) && (a.to == b.to)) (a ≡ b)
 cut_decides a b =
     let both = Decides-and (a.from == b.from) (a.to == b.to) (Decides-eqb a.from b.from) (Decides-eqb a.to b.to) in (
       (λ is. let ends = both.0 is in λ i. record { from = ends.0 i; to = ends.1 i }),

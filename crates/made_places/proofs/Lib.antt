@@ -1,5 +1,4 @@
 mod Joined
-mod Leaves
 mod Shapes
 pub mod Formed
 mod Covered
@@ -8,3 +7,5 @@ pub mod MarkedWays
 pub mod PickLemmas
 pub mod Found
 pub mod Sizes
+mod OwnTrees
+mod Examples

@@ -40,7 +40,7 @@ picked_both (p ∷ ps) qs (m ∷ ms) =
 
 -- ---- the root behind the places below it
 
-places_are : (plan : PlainPlan) (at : Cuts) → places plan at ≡ places_below plan at ++ place plan at ∷ []
+pub places_are : (plan : PlainPlan) (at : Cuts) → places plan at ≡ places_below plan at ++ place plan at ∷ []
 places_are (Scan stream) at = refl
 places_are (Filter child test) at = refl
 places_are (Project child columns) at = refl

@@ -15,9 +15,6 @@ use Rattle.made_places.specs.Marks.{marks}
 abbrev up_to : ℕ → Cut
 up_to n = record { from = 0; to = n }
 
-abbrev old : Cuts
-old = up_to 1 ∷ up_to 1 ∷ []
-
 abbrev new : Cuts
 new = up_to 2 ∷ up_to 3 ∷ []
 
@@ -52,18 +49,41 @@ group_over_read = refl
 abbrev joined : PlainPlan
 joined = Join (once 0) (once 1) ((0, 0) ∷ [])
 
--- what a distinct adds to what is kept of it at the first extent
-abbrev added : ℕ → Cuts → PlainDelta
-added stream cuts =
-    Change (once stream) (up_to 1 ∷ []) cuts (OfDistinct (Node (once stream) (up_to 1 ∷ []) (Read (hit (up_to 1 ∷ [])))) (Change (Scan stream) (up_to 1 ∷ []) cuts NewRows))
+-- what a distinct adds to what is kept of it at an earlier cut
+abbrev added : ℕ → Cuts → Cuts → PlainDelta
+added stream old new =
+    Change (once stream) old new (OfDistinct (Node (once stream) old (Read (hit old))) (Change (Scan stream) old new NewRows))
+
+-- from one earlier cut of both inputs
+abbrev grown_from : Cut → Cut → Cut → PlainRewriting
+grown_from old left right =
+    Node joined (left ∷ right ∷ [])
+    (BothGrew (hit (old ∷ old ∷ [])) (computed (once 0) (old ∷ [])) (added 1 (old ∷ []) (right ∷ [])) (added 0 (old ∷ []) (left ∷ [])) (computed (once 1) (right ∷ [])))
 
 abbrev both_grew : PlainRewriting
-both_grew =
-    Node joined new
-    (BothGrew (hit old) (computed (once 0) (up_to 1 ∷ [])) (added 1 (up_to 3 ∷ [])) (added 0 (up_to 2 ∷ [])) (computed (once 1) (up_to 3 ∷ [])))
+both_grew = grown_from (up_to 1) (up_to 2) (up_to 3)
 
 pub both_marked : marks (places joined new) (standing_of both_grew) ≡ false ∷ false ∷ true ∷ true ∷ true ∷ []
 both_marked = refl
 
 pub both_made : made_places joined new both_grew ≡ place (once 1) (up_to 3 ∷ []) ∷ place joined new ∷ []
 both_made = refl
+
+-- ---- windows that don't begin at the first extent
+
+abbrev window : ℕ → ℕ → Cut
+window from to = record { from = from; to = to }
+
+-- the same join, from the second extents on
+abbrev windows : Cuts
+windows = window 1 3 ∷ window 1 4 ∷ []
+
+pub windows_made : made_places joined windows (grown_from (window 1 2) (window 1 3) (window 1 4)) ≡ place (once 1) (window 1 4 ∷ []) ∷ place joined windows ∷ []
+windows_made = refl
+
+-- what is computed at a window with the same end, and another beginning, isn't made at the place
+pub moved_marked : marks (places (once 0) (window 1 3 ∷ [])) (standing_of (computed (once 0) (window 0 3 ∷ []))) ≡ false ∷ false ∷ []
+moved_marked = refl
+
+pub own_marked : marks (places (once 0) (window 1 3 ∷ [])) (standing_of (computed (once 0) (window 1 3 ∷ []))) ≡ true ∷ true ∷ []
+own_marked = refl

@@ -1,4 +1,5 @@
 pub mod Formed
 pub mod Marks
 pub mod Picking
+pub mod Standing
 pub mod Examples

@@ -4,7 +4,7 @@ ghost use Rattle.plan_core.specs.PlainPlan.{plan_of};
 ghost use Rattle.growth_laws.specs.MadePlaces.{nowhere, before_tail};
 ghost use Rattle.made_places.specs.Marks.{unmarked, tail_cuts};
 
-use crate::sides::sides;
+use estimator::sides;
 use plan_core::Plan;
 use rows_core::{Cut, Memory};
 use std::alloc::Global;

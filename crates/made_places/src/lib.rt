@@ -3,12 +3,13 @@
 
 mod before;
 mod counting;
+pub mod laws;
 mod made;
 mod marks;
 mod picking;
 pub mod place;
-mod sides;
 
 pub use counting::counts_below;
+pub use laws::places_with_trees_are_made;
 pub use made::made_places;
 pub use place::Place;

@@ -11,8 +11,7 @@ ghost use Rattle.made_places.specs.Formed.{IsFormed, IsFormedWay, AreFormed, IsF
 ghost use Rattle.made_places.specs.Marks.{marks, either};
 
 use crate::before::{before_tail, tail_cuts, unmarked};
-use crate::sides::sides;
-use estimator::are_same_cuts;
+use estimator::{are_same_cuts, sides};
 use plan_core::Plan;
 use rewrite_core::{Delta, DeltaWay, Parts, Rewriting, Way};
 use rows_core::{Cut, Memory};

@@ -6,7 +6,7 @@ ghost use Rattle.made_places.specs.Picking.{place_of, places_said, places_below,
 
 use crate::counting::{counts_at_root, counts_below};
 use crate::place::Place;
-use crate::sides::sides;
+use estimator::sides;
 use plan_core::Plan;
 use rows_core::{Cut, Memory, Seq};
 use std::alloc::Global;

@@ -9,3 +9,4 @@ pub mod WellFormed
 pub mod Growths
 pub mod Tables
 pub mod LeastCosts
+mod Examples

@@ -1,5 +1,5 @@
 -- The cuts of a plan's parts, and of an earlier entry.
-use Rattle.std.proofs.Common.{◌≡◌, ℕ, zero, suc, ◌≤◌, List, [], ◌∷◌, ◌++◌, length, arith, sym, subst, ap, ◌∙◌, length-append, take, drop}
+use Rattle.std.proofs.Common.{◌≡◌, ℕ, zero, suc, List, [], ◌∷◌, ◌++◌, length, arith, sym, subst, take, drop}
 use Rattle.plan_core.specs.PlainPlan.{PlainPlan, leaves, leaf_count}
 use Rattle.plan_core.specs.PlainPlan as plan
 use Rattle.rewrite_core.specs.declared.rewriting.Hit.{Hit}
@@ -40,10 +40,6 @@ left_cut l q x y c h k = streams_left l (leaves x) (leaves y) c (both_streams l 
 
 pub right_cut : (l : Lengths) (q x y : PlainPlan) (c : Cuts) → HasTwo q x y → IsCutOf l q c → IsCutOf l y (rights x c)
 right_cut l q x y c h k = streams_right l (leaves x) (leaves y) c (both_streams l q x y c h k)
-
-pub left_fits : (q x y : PlainPlan) (c : Cuts) → HasTwo q x y → length c ≡ leaf_count q → leaf_count x ≤ length c
-left_fits q x y c h k =
-    let e : length c ≡ length (leaves x ++ leaves y) = k ∙ ap length (both_leaves q x y h) in omega (arith, length-append (leaves x) (leaves y))
 
 pub cut_length : (l : Lengths) (q : PlainPlan) (c : Cuts) → IsCutOf l q c → length c ≡ leaf_count q
 cut_length l q c k = streams_length l (leaves q) c k

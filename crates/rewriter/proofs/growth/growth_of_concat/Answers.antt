@@ -3,12 +3,8 @@ use Rattle.plan_core.specs.PlainPlan.{plan_of}
 use Rattle.rewrite_core.specs.IsRewriting.{lefts, rights}
 use Rattle.rewrite_core.proofs.Looking.{never}
 use Rattle.rewriter.proofs.Growths.{tail_of_concat, no_concat}
-use Rattle.rewriter.proofs.Ranges.{left_fits, two_of_concat}
 use Rattle.rewriter.proofs.Shapes.{holds}
 use Rattle.rewriter.proofs.growth.growth_of_concat.Goals as goal
-
-pub sides-requires-2 : goal.sides-requires-2
-sides-requires-2 c = left_fits (plan_of c.args.part.plan.now) (plan_of c.args.left.now) (plan_of c.args.right.now) c.args.part.cuts.now (two_of_concat (plan_of c.args.part.plan.now) (plan_of c.args.left.now) (plan_of c.args.right.now) c.requires.parts) c.requires.new
 
 pub returns-then-are_same_cuts : goal.returns-then-are_same_cuts
 returns-then-are_same_cuts c = λ entries lengths sound cut here.

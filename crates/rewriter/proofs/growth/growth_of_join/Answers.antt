@@ -1,11 +1,7 @@
 use Rattle.std.proofs.Common.{ap, ◌∙◌}
 use Rattle.plan_core.specs.PlainPlan.{plan_of}
 use Rattle.rewrite_core.specs.IsRewriting.{lefts, rights}
-use Rattle.rewriter.proofs.Ranges.{left_fits, two_of_join}
 use Rattle.rewriter.proofs.growth.growth_of_join.Goals as goal
-
-pub sides-requires-2 : goal.sides-requires-2
-sides-requires-2 c = left_fits (plan_of c.args.part.plan.now) (plan_of c.args.left.now) (plan_of c.args.right.now) c.args.part.cuts.now (two_of_join (plan_of c.args.part.plan.now) (plan_of c.args.left.now) (plan_of c.args.right.now) c.requires.sides) c.requires.new
 
 pub growth_of_inputs-requires : goal.growth_of_inputs-requires
 growth_of_inputs-requires c =

@@ -3,15 +3,8 @@ use Rattle.plan_core.specs.PlainPlan.{plan_of}
 use Rattle.rewrite_core.proofs.Looking.{never}
 use Rattle.rewriter.proofs.Growths.{children_of_join}
 use Rattle.rewriter.proofs.LeastParts as law
-use Rattle.rewriter.proofs.Ranges.{left_fits, two_of_join}
 use Rattle.rewriter.proofs.Shapes.{holds}
 use Rattle.rewriter.proofs.increase.increase_of_join.Goals as goal
-
-pub sides-requires : goal.sides-requires
-sides-requires c = left_fits (plan_of c.args.stretch.plan.now) (plan_of c.args.left.now) (plan_of c.args.right.now) c.args.stretch.old.now (two_of_join (plan_of c.args.stretch.plan.now) (plan_of c.args.left.now) (plan_of c.args.right.now) c.requires.sides) c.requires.old
-
-pub sides-requires-2 : goal.sides-requires-2
-sides-requires-2 c = left_fits (plan_of c.args.stretch.plan.now) (plan_of c.args.left.now) (plan_of c.args.right.now) c.args.stretch.new.now (two_of_join (plan_of c.args.stretch.plan.now) (plan_of c.args.left.now) (plan_of c.args.right.now) c.requires.sides) c.requires.new
 
 pub returns-then-are_same_cuts : goal.returns-then-are_same_cuts
 returns-then-are_same_cuts c = λ entries lengths cuts.
