@@ -46,6 +46,25 @@ code { min-width: 0; }\n\
 <main>\n\
 ";
 
+/// The table of streams, up to its rows.
+pub const STREAMS: &str =
+    "</h1>\n<section><h2>Streams</h2>\n<div class=\"scroll\" role=\"region\" aria-labelledby=\"streams\" tabindex=\"0\"><table role=\"table\">\n<caption id=\"streams\">The streams in the order of making. A stream has the bytes of each kept result that reads it.</caption>\n<thead role=\"rowgroup\"><tr role=\"row\"><th role=\"columnheader\" scope=\"col\">Stream</th><th role=\"columnheader\" scope=\"col\">Columns</th><th role=\"columnheader\" scope=\"col\">Extents</th><th role=\"columnheader\" scope=\"col\">Rows</th><th role=\"columnheader\" scope=\"col\">Bytes kept</th></tr></thead>\n<tbody role=\"rowgroup\">\n";
+
+/// The end of a table, and the table of programs up to its rows.
+pub const PROGRAMS: &str =
+    "</tbody></table></div></section>\n<section><h2>Programs</h2>\n<div class=\"scroll\" role=\"region\" aria-labelledby=\"programs\" tabindex=\"0\"><table role=\"table\">\n<caption id=\"programs\">The stored programs by name. A program has the bytes of each kept result of its plan.</caption>\n<thead role=\"rowgroup\"><tr role=\"row\"><th role=\"columnheader\" scope=\"col\">Program</th><th role=\"columnheader\" scope=\"col\">Plan</th><th role=\"columnheader\" scope=\"col\">Bytes kept</th></tr></thead>\n<tbody role=\"rowgroup\">\n";
+
+/// The end of a table, and the table of kept results up to its rows.
+pub const RESULTS: &str =
+    "</tbody></table></div></section>\n<section><h2>Kept results</h2>\n<div class=\"scroll\" role=\"region\" aria-labelledby=\"results\" tabindex=\"0\"><table role=\"table\">\n<caption id=\"results\">The kept results in the order in which a collection at the next tick takes them, leases and jobs aside. Extents are those from the first number on and below the second; ages are in ticks.</caption>\n<thead role=\"rowgroup\"><tr role=\"row\"><th role=\"columnheader\" scope=\"col\">Place</th><th role=\"columnheader\" scope=\"col\">Id</th><th role=\"columnheader\" scope=\"col\">Plan</th><th role=\"columnheader\" scope=\"col\">Extents</th><th role=\"columnheader\" scope=\"col\">Bytes</th><th role=\"columnheader\" scope=\"col\">Machine time</th><th role=\"columnheader\" scope=\"col\">Uses</th><th role=\"columnheader\" scope=\"col\">Since use</th><th role=\"columnheader\" scope=\"col\">Since making</th></tr></thead>\n<tbody role=\"rowgroup\">\n";
+
+/// What stands before a key.
+pub const NO_PROGRAM: &str = "<span class=\"by\">no program has this plan, whose key is</span> ";
+
+/// A bar, up to its width.
+pub const BAR: &str =
+    "</span><svg aria-hidden=\"true\" preserveAspectRatio=\"none\" viewBox=\"0 0 ";
+
 /// A piece of markup of the page.
 #[derive(Clone, Copy)]
 pub enum Fragment {
@@ -130,12 +149,9 @@ impl Fragment {
         match self {
             Fragment::Head => HEAD,
             Fragment::Tick => "<h1>The catalogue at tick ",
-            Fragment::Streams =>
-                "</h1>\n<section><h2>Streams</h2>\n<div class=\"scroll\" role=\"region\" aria-labelledby=\"streams\" tabindex=\"0\"><table role=\"table\">\n<caption id=\"streams\">The streams in the order of making. A stream has the bytes of each kept result that reads it.</caption>\n<thead role=\"rowgroup\"><tr role=\"row\"><th role=\"columnheader\" scope=\"col\">Stream</th><th role=\"columnheader\" scope=\"col\">Columns</th><th role=\"columnheader\" scope=\"col\">Extents</th><th role=\"columnheader\" scope=\"col\">Rows</th><th role=\"columnheader\" scope=\"col\">Bytes kept</th></tr></thead>\n<tbody role=\"rowgroup\">\n",
-            Fragment::Programs =>
-                "</tbody></table></div></section>\n<section><h2>Programs</h2>\n<div class=\"scroll\" role=\"region\" aria-labelledby=\"programs\" tabindex=\"0\"><table role=\"table\">\n<caption id=\"programs\">The stored programs by name. A program has the bytes of each kept result of its plan.</caption>\n<thead role=\"rowgroup\"><tr role=\"row\"><th role=\"columnheader\" scope=\"col\">Program</th><th role=\"columnheader\" scope=\"col\">Plan</th><th role=\"columnheader\" scope=\"col\">Bytes kept</th></tr></thead>\n<tbody role=\"rowgroup\">\n",
-            Fragment::Results =>
-                "</tbody></table></div></section>\n<section><h2>Kept results</h2>\n<div class=\"scroll\" role=\"region\" aria-labelledby=\"results\" tabindex=\"0\"><table role=\"table\">\n<caption id=\"results\">The kept results in the order in which a collection at the next tick takes them, leases and jobs aside. Extents are those from the first number on and below the second; ages are in ticks.</caption>\n<thead role=\"rowgroup\"><tr role=\"row\"><th role=\"columnheader\" scope=\"col\">Place</th><th role=\"columnheader\" scope=\"col\">Id</th><th role=\"columnheader\" scope=\"col\">Plan</th><th role=\"columnheader\" scope=\"col\">Extents</th><th role=\"columnheader\" scope=\"col\">Bytes</th><th role=\"columnheader\" scope=\"col\">Machine time</th><th role=\"columnheader\" scope=\"col\">Uses</th><th role=\"columnheader\" scope=\"col\">Since use</th><th role=\"columnheader\" scope=\"col\">Since making</th></tr></thead>\n<tbody role=\"rowgroup\">\n",
+            Fragment::Streams => STREAMS,
+            Fragment::Programs => PROGRAMS,
+            Fragment::Results => RESULTS,
             Fragment::Foot => "</tbody></table></div></section>\n</main>\n</body>\n</html>\n",
             Fragment::Row => "<tr role=\"row\"><th role=\"rowheader\" scope=\"row\">",
             Fragment::RowEnd => "</td></tr>\n",
@@ -157,13 +173,11 @@ impl Fragment {
             Fragment::Code => "<code>",
             Fragment::CodeEnd => "</code>",
             Fragment::By => " <span class=\"by\">program ",
-            Fragment::NoProgram =>
-                "<span class=\"by\">no program has this plan, whose key is</span> ",
+            Fragment::NoProgram => NO_PROGRAM,
             Fragment::Cut => "<div class=\"cut\"><span>",
             Fragment::To => " to ",
             Fragment::Of => " of ",
-            Fragment::Bar =>
-                "</span><svg aria-hidden=\"true\" preserveAspectRatio=\"none\" viewBox=\"0 0 ",
+            Fragment::Bar => BAR,
             Fragment::BarWhole => " 1\"><rect class=\"whole\" height=\"1\" width=\"",
             Fragment::BarPart => "\"/><rect class=\"part\" height=\"1\" x=\"",
             Fragment::BarWidth => "\" width=\"",

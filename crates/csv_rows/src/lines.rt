@@ -1,7 +1,8 @@
 //! The lines of answers.
 ghost use Rattle.std.specs.Prelude.{◌≡◌, ◌≢◌, ◌↔◌, ◌^◌, ◌-◌, ◌<◌, ◌++◌, ◌∷◌, [], List, ℕ, Some, IfOk};
-ghost use Rattle.std.specs.Prelude.{IfSome, IfNone, IsTrue, MatchOption, true, decimal};
-ghost use Rattle.csv_rows.specs.Lines.{head_of, IsHead, IsNext};
+ghost use Rattle.std.specs.Prelude.{IfErr, IfSome, IfNone, IsTrue, MatchOption, false, true, decimal};
+ghost use Rattle.csv_rows.specs.Lines.{head_of, IsHead, IsLine, IsNext};
+ghost use Rattle.csv_rows.specs.Refusals.{HasFailed, HasNoResult};
 ghost use Rattle.csv_rows.specs.Results.{IsFound};
 
 use itoa::Buffer;
@@ -29,12 +30,16 @@ pub enum RowsRefusal {
 }
 
 impl From<Memory> for RowsRefusal {
+    ghost from_gives = { λ _ e. HasFailed e };
+
     fn from(_error: Memory) -> RowsRefusal {
         RowsRefusal::Memory
     }
 }
 
 impl From<AllocError> for RowsRefusal {
+    ghost from_gives = { λ _ e. HasFailed e };
+
     fn from(_error: AllocError) -> RowsRefusal {
         RowsRefusal::Memory
     }
@@ -47,8 +52,11 @@ pub fn find<R: BufRead>(
     answers: &mut R,
     line: &mut Vec<u8>,
 ) -> Result<Option<u64>, RowsRefusal>
-    ensures { IfOk result (λ found. IfSome found (λ count. (bytes : List ℕ) → R.remaining answers.old ≡ Some bytes
+    ensures found { IfOk result (λ found. IfSome found (λ count. (bytes : List ℕ) → R.remaining answers.old ≡ Some bytes
         → IsFound bytes number count (R.remaining answers.new))) }
+    ensures none { IfOk result (λ found. IfNone found ((bytes : List ℕ) → R.remaining answers.old ≡ Some bytes
+        → HasNoResult bytes number)) }
+    ensures failed { IfErr result HasFailed }
 {
     let mut left = number;
     for _turn in 0..u64::MAX {
@@ -61,7 +69,8 @@ pub fn find<R: BufRead>(
         }
         left = left_behind(left, head);
     }
-    Ok(None)
+    // No answers have so many lines.
+    Err(RowsRefusal::Memory)
 }
 
 // The results that are left behind a line.
@@ -77,8 +86,11 @@ fn left_behind(left: u64, head: Option<u64>) -> u64
 /// Puts the next line, without its LF, in place of what stood in `line`; `false` where there is none that is
 /// ended.
 pub fn read_line<R: BufRead>(answers: &mut R, line: &mut Vec<u8>) -> Result<bool, RowsRefusal>
-    ensures { IfOk result (λ is. is ≡ true → (bytes : List ℕ) → R.remaining answers.old ≡ Some bytes
+    ensures next { IfOk result (λ is. is ≡ true → (bytes : List ℕ) → R.remaining answers.old ≡ Some bytes
         → IsNext bytes line.new.items (R.remaining answers.new)) }
+    ensures none { IfOk result (λ is. is ≡ false → (bytes : List ℕ) → R.remaining answers.old ≡ Some bytes
+        → IsLine bytes) }
+    ensures failed { IfErr result HasFailed }
 {
     line.clear();
     match answers.read_until(b'\n', line) {
@@ -89,7 +101,8 @@ pub fn read_line<R: BufRead>(answers: &mut R, line: &mut Vec<u8>) -> Result<bool
 
 // Takes the LF off the line's end; `false` where there is none.
 fn cut_end(line: &mut Vec<u8>) -> bool
-    ensures { result ≡ true → line.old.items ≡ line.new.items ++ 10 ∷ [] }
+    ensures cut { result ≡ true → line.old.items ≡ line.new.items ++ 10 ∷ [] }
+    ensures none { result ≡ false → (front : List ℕ) → line.old.items ≢ front ++ 10 ∷ [] }
 {
     match line.pop() {
         Some(b'\n') => true,
@@ -97,7 +110,9 @@ fn cut_end(line: &mut Vec<u8>) -> bool
     }
 }
 
-fn unread(error: &Error) -> RowsRefusal {
+fn unread(error: &Error) -> RowsRefusal
+    ensures { HasFailed result }
+{
     match error.kind() {
         ErrorKind::OutOfMemory => RowsRefusal::Memory,
         _ => RowsRefusal::Input,

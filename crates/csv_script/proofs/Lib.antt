@@ -1,3 +1,4 @@
 pub mod Written
 pub mod RowLemmas
 pub mod PlaceLemmas
+pub mod Stops

@@ -43,10 +43,11 @@ pub record AreTaken (skips : Bool) (picks : List Pick) (width : ℕ) (records : 
   pub rows_are : AreRowsOf skips picks width records rows skipped
   pub blocked : IsBlocked kinds name before now lines rows
 
--- the records behind the header so far, and the rows that they are
+-- so many records behind the header so far, and the rows that they are
 pub record IsUnderWay {R : Type 0} (left : R → Option (List ℕ)) (text : List ℕ) (header : List (List ℕ)) (task : Task)
-    (reader : Reader R) (now : Option (List ℕ)) (lines : List ℕ) (skipped : ℕ) : Type 0 where
+    (reader : Reader R) (now : Option (List ℕ)) (lines : List ℕ) (count skipped : ℕ) : Type 0 where
   pub records : List (List (List ℕ))
+  pub count_is : length records ≡ count
   pub reading : IsReading left text (header ∷ records) reader
   pub taken : AreTaken task.skips task.picks task.width records skipped task.kinds task.name task.before now lines
 

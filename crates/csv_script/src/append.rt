@@ -1,5 +1,5 @@
 //! A file of CSV as a script that appends its rows to a stream.
-ghost use Rattle.std.specs.Prelude.{◌≡◌, ◌≢◌, ◌≤◌, ◌+◌, ◌∷◌, ◌++◌, [], ℕ, List, length, Option, Some, IfOk, OnOk};
+ghost use Rattle.std.specs.Prelude.{◌≡◌, ◌≢◌, ◌≤◌, ◌+◌, ◌∷◌, ◌++◌, [], ℕ, List, length, Option, Some, IfErr, IfOk, OnOk};
 ghost use Rattle.std.specs.Prelude.{IsTrue};
 ghost use Rattle.std.specs.Io.KnownBytes.{Appends};
 ghost use Rattle.csv.specs.Records.{fields_of};
@@ -8,7 +8,10 @@ ghost use Rattle.rows_core.specs.declared.schema.Column.{Column};
 ghost use Rattle.rows_core.specs.declared.value.Value.{Value};
 ghost use Rattle.csv_script.specs.Blocks.{beginning, IsBlocked};
 ghost use Rattle.csv_script.specs.Reading.{task_of, AreTaken, IsConverted, IsDone, IsReading};
-ghost use Rattle.csv_script.specs.Records.{ArePicks, AreRowsOf};
+ghost use Rattle.csv_script.specs.Records.{ArePicks, AreRowsOf, IsFor};
+ghost use Rattle.csv_script.specs.Refusals.{HasFailed, IsRefusedFor, IsUntaken, IsUnwritten};
+ghost use Rattle.csv_script.specs.declared.append.AppendRefusal.TheVariants as append;
+ghost use Rattle.csv_script.specs.declared.pick.Pick.{Pick};
 ghost use Rattle.csv_script.specs.declared.record.RecordRefusal.TheVariants as refusal;
 
 use crate::blocks::{NotTaken, finish, take_line};
@@ -43,8 +46,12 @@ pub enum AppendRefusal {
     NoHeader,
     /// The header doesn't tell where the columns stand.
     Header(HeaderRefusal),
-    /// The record that begins in this line, counted from 1, is no row.
-    Record { line: u64, why: RecordRefusal },
+    /// The record of this number, counted from 1 behind the header, which begins in this line, is no row.
+    Record {
+        number: u64,
+        line: u64,
+        why: RecordRefusal,
+    },
     /// A read failed.
     Input,
     /// A write failed.
@@ -54,6 +61,8 @@ pub enum AppendRefusal {
 }
 
 impl From<NotRead> for AppendRefusal {
+    ghost from_gives = { λ _ e. HasFailed e };
+
     fn from(why: NotRead) -> AppendRefusal {
         match why {
             NotRead::Input => AppendRefusal::Input,
@@ -63,6 +72,8 @@ impl From<NotRead> for AppendRefusal {
 }
 
 impl From<NotTaken> for AppendRefusal {
+    ghost from_gives = { λ _ e. HasFailed e };
+
     fn from(why: NotTaken) -> AppendRefusal {
         match why {
             NotTaken::Output => AppendRefusal::Output,
@@ -72,12 +83,16 @@ impl From<NotTaken> for AppendRefusal {
 }
 
 impl From<HeaderRefusal> for AppendRefusal {
+    ghost from_gives = { λ why e. e ≡ append.Header why };
+
     fn from(why: HeaderRefusal) -> AppendRefusal {
         AppendRefusal::Header(why)
     }
 }
 
 impl From<io::Error> for AppendRefusal {
+    ghost from_gives = { λ _ e. HasFailed e };
+
     fn from(_error: io::Error) -> AppendRefusal {
         AppendRefusal::Output
     }
@@ -85,16 +100,21 @@ impl From<io::Error> for AppendRefusal {
 
 /// Writes the script that appends the file's rows to the stream, and gives the number of records that were
 /// left out. The first record is the header; its fields name the columns, in any order and among others. Each
-/// other record is a row, or is refused before a line of its block is written.
+/// other record is a row, or is refused before a line of its block is written. `NoHeader`, `Header` and `Record`
+/// come exactly where the text has their cause, since one that is converted has none; the line in `Record` is
+/// the reader's own count.
 pub fn write_script<R: Read, W: Write>(
     alloc: Global,
     request: &Request<'_>,
     file: &mut Reader<R>,
     script: &mut W,
 ) -> Result<u64, AppendRefusal>
-    ensures { IfOk result (λ skipped. (text : List ℕ) → IsReading R.remaining text [] file.old
+    ensures script { IfOk result (λ skipped. (text : List ℕ) → IsReading R.remaining text [] file.old
         → IsConverted request.now.declares request.now.skips request.now.name.now request.now.schema.now text
         (W.contents script.old) (W.contents script.new) skipped) }
+    ensures refused { IfErr result (λ why. (text : List ℕ) → IsReading R.remaining text [] file.old
+        → IsRefusedFor request.now.declares request.now.skips request.now.name.now request.now.schema.now text
+        (W.contents script.old) (W.contents script.new) why) }
 {
     let mut fields = ByteRecord::new(alloc);
     if !read(file, &mut fields)? {
@@ -111,10 +131,14 @@ fn write_behind<R: Read, W: Write>(
     fields: &mut ByteRecord,
     script: &mut W,
 ) -> Result<u64, AppendRefusal>
-    ensures { IfOk result (λ skipped. (text : List ℕ)
+    ensures script { IfOk result (λ skipped. (text : List ℕ)
         → IsReading R.remaining text (fields_of fields.old ∷ []) file.old
         → IsConverted request.now.declares request.now.skips request.now.name.now request.now.schema.now text
         (W.contents script.old) (W.contents script.new) skipped) }
+    ensures refused { IfErr result (λ why. (text : List ℕ)
+        → IsReading R.remaining text (fields_of fields.old ∷ []) file.old
+        → IsRefusedFor request.now.declares request.now.skips request.now.name.now request.now.schema.now text
+        (W.contents script.old) (W.contents script.new) why) }
 {
     let picks = picks_of(alloc, fields, request.schema.columns())?;
     begin(request, script)?;
@@ -151,10 +175,14 @@ fn write_rows<R: Read, W: Write>(
     fields: &mut ByteRecord,
     script: &mut W,
 ) -> Result<u64, AppendRefusal>
-    ensures { IfOk result (λ skipped. (header : List (List ℕ)) (text : List ℕ) → length request.now.schema.now ≤ 32
+    ensures done { IfOk result (λ skipped. (header : List (List ℕ)) (text : List ℕ) → length request.now.schema.now ≤ 32
         → ArePicks header request.now.schema.now picks.now → IsReading R.remaining text (header ∷ []) file.old
         → IsDone text header (task_of request.now.skips request.now.name.now request.now.schema.now picks.now width
         (W.contents script.old)) (W.contents script.new) skipped) }
+    ensures refused { IfErr result (λ why. (header : List (List ℕ)) (text : List ℕ) → length request.now.schema.now ≤ 32
+        → ArePicks header request.now.schema.now picks.now → IsReading R.remaining text (header ∷ []) file.old
+        → IsUnwritten text header (task_of request.now.skips request.now.name.now request.now.schema.now picks.now width
+        (W.contents script.old)) (W.contents script.new) why) }
 {
     let mut line = Vec::new(alloc);
     let mut lines = Vec::new(alloc);
@@ -164,22 +192,29 @@ fn write_rows<R: Read, W: Write>(
             finish(request.name, lines.as_slice(), script)?;
             return Ok(skipped);
         }
-        skipped += take_record(request, picks, width, fields, &mut line, &mut lines, script)?;
+        let number = turn + 1;
+        skipped += take_record(
+            request, picks, width, number, fields, &mut line, &mut lines, script,
+        )?;
     }
     // No file has so many records.
     Err(AppendRefusal::Memory)
 }
 
-// Takes the row that a record is into the open block, and says whether it was left out: 0 or 1.
+// Takes the row that the record of this number is into the open block, and says whether it was left out: 0 or
+// 1.
 fn take_record<W: Write>(
     request: &Request<'_>,
     picks: &[Pick],
     width: usize,
+    number: u64,
     fields: &ByteRecord,
     line: &mut Vec<u8>,
     lines: &mut Vec<u8>,
     script: &mut W,
 ) -> Result<u64, AppendRefusal>
+    ensures refused { IfErr result (λ why. IsUntaken request.now.skips picks.now width (fields_of fields.now) number
+        (W.contents script.old) (W.contents script.new) why) }
     ensures count { IfOk result (λ count. count ≤ 1) }
     ensures taken { IfOk result (λ count. (header : List (List ℕ)) (columns : List Column) (before : Option (List ℕ))
         → length columns ≤ 32 → ArePicks header columns picks.now
@@ -194,12 +229,20 @@ fn take_record<W: Write>(
             take_line(request.name, line.as_slice(), lines, script)?;
             Ok(0)
         }
-        Err(why) => left_out(request.skips, fields, why),
+        Err(why) => left_out(request.skips, number, fields, why),
     }
 }
 
 // One, where a record that is no row is left out.
-fn left_out(skips: bool, fields: &ByteRecord, why: RecordRefusal) -> Result<u64, AppendRefusal>
+fn left_out(
+    skips: bool,
+    number: u64,
+    fields: &ByteRecord,
+    why: RecordRefusal,
+) -> Result<u64, AppendRefusal>
+    ensures refused { IfErr result (λ refusal. (picks : List Pick) (width : ℕ) (now : Option (List ℕ))
+        → IsFor picks width (fields_of fields.now) why
+        → IsUntaken skips picks width (fields_of fields.now) number now now refusal) }
     ensures one { IfOk result (λ count. count ≡ 1) }
     ensures skips { OnOk result (IsTrue skips) }
     ensures why { OnOk result (why ≢ refusal.Memory) }
@@ -214,5 +257,5 @@ fn left_out(skips: bool, fields: &ByteRecord, why: RecordRefusal) -> Result<u64,
         Some(position) => position.line(),
         None => 0,
     };
-    Err(AppendRefusal::Record { line, why })
+    Err(AppendRefusal::Record { number, line, why })
 }

@@ -1,7 +1,8 @@
 //! Where the columns stand in a file's header.
-ghost use Rattle.std.specs.Prelude.{◌≡◌, ◌≢◌, ◌<◌, ◌↔◌, ℕ, Some, IfOk, IsErrOf, IsTrue};
+ghost use Rattle.std.specs.Prelude.{◌≡◌, ◌↔◌, Some, IfErr, IfOk, IsTrue};
 ghost use Rattle.csv.specs.Records.{field_at, fields_of};
 ghost use Rattle.csv_script.specs.Records.{ArePicks, IsAt};
+ghost use Rattle.csv_script.specs.Refusals.{IsForHeader, IsForName};
 ghost use Rattle.csv_script.specs.declared.header.HeaderRefusal.TheVariants.{Memory};
 
 use crate::pick::Pick;
@@ -43,13 +44,15 @@ enum NameRefusal {
     Repeated,
 }
 
-/// The places of the columns in the header, and their kinds.
+/// The places of the columns in the header, and their kinds. A refusal names a column that hasn't one field of
+/// its name.
 pub fn picks_of(
     alloc: Global,
     header: &ByteRecord,
     columns: &[Column],
 ) -> Result<Vec<Pick>, HeaderRefusal>
-    ensures { IfOk result (λ picks. ArePicks (fields_of header.now) columns.now picks.items) }
+    ensures ok { IfOk result (λ picks. ArePicks (fields_of header.now) columns.now picks.items) }
+    ensures refused { IfErr result (λ why. IsForHeader columns.now (fields_of header.now) why) }
 {
     let mut picks = Vec::with_capacity(alloc, columns.len())?;
     for (at, column) in columns.iter().enumerate() {
@@ -68,9 +71,7 @@ pub fn picks_of(
 // The place of the one field that is this name.
 fn place_of(header: &ByteRecord, name: &[u8]) -> Result<usize, NameRefusal>
     ensures ok { IfOk result (λ place. IsAt name.now (fields_of header.now) place) }
-    ensures missing { IsErrOf result NameRefusal.Missing → (k : ℕ) → field_at (fields_of header.now) k ≢ Some name.now }
-    ensures repeated { IsErrOf result NameRefusal.Repeated → (j : ℕ) × (k : ℕ) × (j < k)
-        × (field_at (fields_of header.now) j ≡ Some name.now) × (field_at (fields_of header.now) k ≡ Some name.now) }
+    ensures refused { IfErr result (λ why. IsForName name.now (fields_of header.now) why) }
 {
     let mut found = None;
     for place in 0..header.len() {

@@ -49,7 +49,7 @@ fn tell_append(rt: &HostRuntime, why: &AppendRefusal) -> io::Result<()> {
     match why {
         AppendRefusal::NoHeader => rt.eprintln("nectar_csv: no header"),
         AppendRefusal::Header(why) => tell_header(rt, why),
-        AppendRefusal::Record { line, why } => tell_record(rt, *line, why),
+        AppendRefusal::Record { number, line, why } => tell_record(rt, *number, *line, why),
         AppendRefusal::Input => rt.eprintln("nectar_csv: input failed"),
         AppendRefusal::Output => rt.eprintln("nectar_csv: output failed"),
         AppendRefusal::Memory => rt.eprintln("nectar_csv: out of memory"),
@@ -74,20 +74,22 @@ fn tell_header(rt: &HostRuntime, why: &HeaderRefusal) -> io::Result<()> {
     }
 }
 
-fn tell_record(rt: &HostRuntime, line: u64, why: &RecordRefusal) -> io::Result<()> {
+fn tell_record(rt: &HostRuntime, number: u64, line: u64, why: &RecordRefusal) -> io::Result<()> {
     match why {
         RecordRefusal::Width => {
-            eprintln!(rt; "nectar_csv: line {line}: another number of fields than the header")
+            eprintln!(rt;
+                "nectar_csv: record {number}, line {line}: another number of fields than the header"
+            )
         }
         RecordRefusal::NotOfKind { column } => {
             eprintln!(rt;
-                "nectar_csv: line {line}, column {}: no value of its kind",
+                "nectar_csv: record {number}, line {line}, column {}: no value of its kind",
                 column.saturating_add(1)
             )
         }
         RecordRefusal::TooLong { column } => {
             eprintln!(rt;
-                "nectar_csv: line {line}, column {}: a text of more than 1000 bytes",
+                "nectar_csv: record {number}, line {line}, column {}: a text of more than 1000 bytes",
                 column.saturating_add(1)
             )
         }

@@ -10,5 +10,5 @@ invariant-loop-turn g l = record {
   under_way : (header : List (List ℕ)) (text : List ℕ) → length l.fn.request.schema.now ≤ 32 → ArePicks header l.fn.request.schema.now l.fn.picks
       → IsReading g.R.Read.remaining text (header ∷ []) l.fn.file
       → IsUnderWay g.R.Read.remaining text header (task_of l.fn.request.skips l.fn.request.name.now l.fn.request.schema.now l.fn.picks l.fn.width (g.W.Write.contents l.fn.script))
-      l.file (g.W.Write.contents l.script) l.lines.items l.skipped;
+      l.file (g.W.Write.contents l.script) l.lines.items l.turn l.skipped;
 }

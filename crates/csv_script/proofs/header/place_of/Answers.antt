@@ -9,7 +9,7 @@ returns-in-Some-clause-ok c =
     let all : length (fields_of c.args.header.now) ≤ c.loop-place.place = omega arith in
     IsAt-found c.args.name.now (fields_of c.args.header.now) c.loop-place.place c.loop-place.found c.in-Some.place c.loop-place.invariant c.in-Some.is all
 
-pub returns-in-None-clause-missing : goal.returns-in-None-clause-missing
-returns-in-None-clause-missing c is k =
+pub returns-in-None-clause-refused : goal.returns-in-None-clause-refused
+returns-in-None-clause-refused c k =
     let all : length (fields_of c.args.header.now) ≤ c.loop-place.place = omega arith in
     none_found c.args.name.now (fields_of c.args.header.now) c.loop-place.place c.loop-place.found c.loop-place.invariant c.in-None.is all k
